@@ -6,6 +6,7 @@ use crate::numbers::Numbers;
 use crate::sample::Sample;
 use ropey::iter::Lines;
 use ropey::{Rope, RopeSlice};
+use std::marker::PhantomData;
 use std::time::CpuClock;
 
 /// How many screens are drawn in full.
@@ -14,7 +15,7 @@ const SCREENS: usize = 10_000;
 /// How many lines a screen has.
 const LINES: usize = 50;
 
-/// What is read of each line.
+/// What is drawn, and which way.
 #[derive(Clone, Copy)]
 pub enum Screen {
     /// The bytes of its chunks.
@@ -41,30 +42,14 @@ impl Screen {
         }
     }
 
-    /// The lines of a screen, in one number.
-    fn sum(self, lines: &mut Lines<'_>) -> u64 {
+    // Each kind has a loop of its own.
+    fn sum(self, rope: &Rope, count: usize) -> u64 {
         match self {
-            Screen::BytesBack => lines_back(lines),
-            _ => self.lines(lines),
-        }
-    }
-
-    fn lines(self, lines: &mut Lines<'_>) -> u64 {
-        let mut sum: u64 = 0;
-        for _ in 0..LINES {
-            if let Some(line) = lines.next() {
-                sum = sum.wrapping_add(self.line(line));
-            }
-        }
-        sum
-    }
-
-    fn line(self, line: RopeSlice<'_>) -> u64 {
-        match self {
-            Screen::Bytes | Screen::BytesBack => bytes_of_line(line),
-            Screen::Lengths => len_of_chunks(line.chunks()),
-            Screen::Chars => sum_of_chars(line.chars()),
-            Screen::AsStr => text_of_line(line),
+            Screen::Bytes => screens::<Forward<OfBytes>>(rope, count),
+            Screen::BytesBack => screens::<Backward>(rope, count),
+            Screen::Lengths => screens::<Forward<OfLengths>>(rope, count),
+            Screen::Chars => screens::<Forward<OfChars>>(rope, count),
+            Screen::AsStr => screens::<Forward<OfText>>(rope, count),
         }
     }
 }
@@ -73,7 +58,7 @@ impl Screen {
 pub fn draw<C: CpuClock>(clock: &C, sample: &Sample, what: Screen) -> Result<Outcome, Fault> {
     let count = sample.operations(SCREENS);
     let start = now(clock)?;
-    let checksum = screens(&sample.rope, what, count);
+    let checksum = what.sum(&sample.rope, count);
     let nanos = since(clock, start)?;
     Ok(Outcome {
         operations: count,
@@ -82,25 +67,90 @@ pub fn draw<C: CpuClock>(clock: &C, sample: &Sample, what: Screen) -> Result<Out
     })
 }
 
-fn screens(rope: &Rope, what: Screen, count: usize) -> u64 {
+fn screens<D: Drawing>(rope: &Rope, count: usize) -> u64 {
     let mut numbers = Numbers::new();
     let last = rope.len_lines().saturating_sub(1);
     let mut sum: u64 = 0;
     for _ in 0..count {
         let mut lines = rope.lines_at(numbers.up_to(last));
-        sum = sum.wrapping_add(what.sum(&mut lines));
+        sum = sum.wrapping_add(D::lines(&mut lines));
     }
     sum
 }
 
-fn lines_back(lines: &mut Lines<'_>) -> u64 {
-    let mut sum: u64 = 0;
-    for _ in 0..LINES {
-        if let Some(line) = lines.prev() {
-            sum = sum.wrapping_add(bytes_of_line(line));
+/// The lines of a screen, in one number.
+trait Drawing {
+    fn lines(lines: &mut Lines<'_>) -> u64;
+}
+
+/// What is read of a line, in one number.
+trait Reading {
+    fn line(line: RopeSlice<'_>) -> u64;
+}
+
+struct Forward<R> {
+    reading: PhantomData<R>,
+}
+
+impl<R: Reading> Drawing for Forward<R> {
+    fn lines(lines: &mut Lines<'_>) -> u64 {
+        let mut sum: u64 = 0;
+        for _ in 0..LINES {
+            if let Some(line) = lines.next() {
+                sum = sum.wrapping_add(R::line(line));
+            }
+        }
+        sum
+    }
+}
+
+struct Backward {}
+
+impl Drawing for Backward {
+    fn lines(lines: &mut Lines<'_>) -> u64 {
+        let mut sum: u64 = 0;
+        for _ in 0..LINES {
+            if let Some(line) = lines.prev() {
+                sum = sum.wrapping_add(bytes_of_line(line));
+            }
+        }
+        sum
+    }
+}
+
+struct OfBytes {}
+
+impl Reading for OfBytes {
+    fn line(line: RopeSlice<'_>) -> u64 {
+        bytes_of_line(line)
+    }
+}
+
+struct OfLengths {}
+
+impl Reading for OfLengths {
+    fn line(line: RopeSlice<'_>) -> u64 {
+        len_of_chunks(line.chunks())
+    }
+}
+
+struct OfChars {}
+
+impl Reading for OfChars {
+    fn line(line: RopeSlice<'_>) -> u64 {
+        sum_of_chars(line.chars())
+    }
+}
+
+struct OfText {}
+
+impl Reading for OfText {
+    fn line(line: RopeSlice<'_>) -> u64 {
+        match line.as_str() {
+            Some(text) => bytes_of_text(text),
+            None => bytes_of_line(line),
         }
     }
-    sum
 }
 
 /// The sum of the bytes of a text.
@@ -119,12 +169,4 @@ fn bytes_of_line(line: RopeSlice<'_>) -> u64 {
         sum = sum.wrapping_add(bytes_of_text(chunk));
     }
     sum
-}
-
-/// The sum of the bytes of a line, at once where it lies in one piece.
-fn text_of_line(line: RopeSlice<'_>) -> u64 {
-    match line.as_str() {
-        Some(text) => bytes_of_text(text),
-        None => bytes_of_line(line),
-    }
 }

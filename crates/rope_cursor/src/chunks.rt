@@ -41,6 +41,7 @@ impl<'a> Model for Chunks<'a> {
 }
 
 /// A cursor before the first chunk, facing forward.
+#[inline(always)]
 pub fn all_chunks<'a>(part: &Part<'a>) -> Chunks<'a>
     ensures start { result ≡ at_start (chunks_of part.now) }
     ensures cut { IsCutting (text_of part.now) (chunks_of part.now) }
@@ -50,6 +51,8 @@ pub fn all_chunks<'a>(part: &Part<'a>) -> Chunks<'a>
 
 /// A cursor before the chunk that holds a byte or a character, facing forward; at the end of the text past the last chunk.
 /// With it the bytes, the characters and the line breaks of the text before its place.
+// Inlined: the unit is a constant at each call, and of a plain text the cursor is its text and two flags.
+#[inline(always)]
 pub fn chunks_at<'a>(part: &Part<'a>, unit: Unit, idx: usize) -> (Chunks<'a>, Before)
     requires unit { IsItem unit }
     requires within { idx ≤ size_in unit (text_of part.now) }

@@ -107,7 +107,19 @@ impl<'a> Span<'a> {
     }
 
     /// Goes to the next chunk, or backward to the one before. Answers whether there is one; else it stays.
+    // Inlined: a plain text has none, which costs no call.
+    #[inline(always)]
     pub(crate) fn step(&mut self, is_backward: bool) -> bool
+        ensures moved { OnTrue result (IsBeside is_backward self.old self.new) }
+        ensures stays { OnFalse result (self.new ≡ self.old) }
+        ensures ended { OnFalse result (IsLast is_backward self.old) }
+    {
+        self.way.is_some() && self.step_in_tree(is_backward)
+    }
+
+    // The same, for a text that may be plain.
+    #[inline(never)]
+    fn step_in_tree(&mut self, is_backward: bool) -> bool
         ensures moved { OnTrue result (IsBeside is_backward self.old self.new) }
         ensures stays { OnFalse result (self.new ≡ self.old) }
         ensures ended { OnFalse result (IsLast is_backward self.old) }

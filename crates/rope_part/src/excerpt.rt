@@ -10,7 +10,7 @@ ghost use Rattle.rope_part.specs.Edge.{start_info, end_info, line_info, IsLeafFr
 ghost use Rattle.rope_part.specs.InChunk.{IsInChunk};
 
 use crate::plain::LinePlace;
-use rope_text::str_utils::{char_to_byte_idx, count_surrogates};
+use rope_text::str_utils::{byte_to_line_of, byte_to_surrogates_of, char_to_byte_idx};
 use rope_text::{Steps, TextInfo};
 use rope_tree::{Found, Node, Unit, convert_in, count, leaf_at};
 
@@ -29,7 +29,7 @@ fn line_start_at(node: &Node, line_idx: usize) -> (TextInfo, &str)
     let found = leaf_at(node, Unit::LineBreak, line_idx - 1, &mut Steps::new());
     let leaf = found.leaf.as_str();
     let line = line_idx - found.before.break_count;
-    let front = TextInfo::before_line(leaf, line, node.line_breaks());
+    let front = TextInfo::before_line(leaf, found.inside, line, node.line_breaks());
     (found.before.plus(front), &leaf[front.bytes..])
 }
 
@@ -115,8 +115,9 @@ impl<'a> Excerpt<'a> {
     // The place of a character: the leaf that holds it, and how many of the leaf's bytes and characters stand before it.
     fn place_of_char(&self, char_idx: usize) -> LeafPlace<'a>
         requires { char_idx < length (text_of self.now) }
-        ensures { IsLeafPlace self.now.node.now (self.now.start.chars + char_idx)
+        ensures place { IsLeafPlace self.now.node.now (self.now.start.chars + char_idx)
             result.found.leaf result.found.before result.bytes result.chars }
+        ensures inside { result.found.inside ≡ info_of (breaks_of self.now) result.found.leaf }
     {
         let place = self.place(Unit::Char, char_idx);
         let found = leaf_at(self.node, Unit::Char, place, &mut Steps::new());
@@ -135,6 +136,8 @@ impl<'a> Excerpt<'a> {
         ensures some { IfSome result (λ place. IsLeafPlace self.now.node.now
             (self.now.start.chars + byte_to_char (text_of self.now) byte_idx)
             place.found.leaf place.found.before place.bytes place.chars) }
+        ensures inside { IfSome result (λ place.
+            place.found.inside ≡ info_of (breaks_of self.now) place.found.leaf) }
         ensures whole { IsSome result ↔ (is_char_boundary (text_of self.now) byte_idx ≡ true) }
     {
         let place = self.place(Unit::Byte, byte_idx);
@@ -155,8 +158,9 @@ impl<'a> Excerpt<'a> {
 
     // The `start` of its part from a place on.
     fn start_at(&self, place: LeafPlace<'a>) -> TextInfo
-        requires { IsLeafPlace self.now.node.now (place.found.before.chars + place.chars)
+        requires place { IsLeafPlace self.now.node.now (place.found.before.chars + place.chars)
             place.found.leaf place.found.before place.bytes place.chars }
+        requires inside { place.found.inside ≡ info_of (breaks_of self.now) place.found.leaf }
         ensures { result ≡ start_info self.now.node.now.breaks (text self.now.node.now)
             (place.entry.found.before.chars + place.entry.chars) }
     {
@@ -166,27 +170,34 @@ impl<'a> Excerpt<'a> {
             chars,
         } = place;
         let leaf = found.leaf.as_str();
-        let lines = found.leaf.char_to_line_with(chars, self.node.line_breaks());
-        // ASCII has no pairs.
-        let counted = if chars == bytes { "" } else { &leaf[..bytes] };
+        let pairs = byte_to_surrogates_of(leaf, found.inside.utf16_surrogates, bytes);
+        let breaks = self.node.line_breaks();
+        let lines = byte_to_line_of(leaf, found.inside.break_count, bytes, breaks);
         TextInfo {
             bytes: found.before.bytes + bytes,
             chars: found.before.chars + chars,
-            utf16_surrogates: found.before.utf16_surrogates + count_surrogates(counted),
+            utf16_surrogates: found.before.utf16_surrogates + pairs,
             break_count: found.before.break_count + lines,
         }
     }
 
     // The `end` of its part up to a place.
     fn end_at(&self, place: LeafPlace<'a>) -> TextInfo
-        requires { IsLeafPlace self.now.node.now (place.found.before.chars + place.chars)
+        requires place { IsLeafPlace self.now.node.now (place.found.before.chars + place.chars)
             place.found.leaf place.found.before place.bytes place.chars }
+        requires inside { place.found.inside ≡ info_of (breaks_of self.now) place.found.leaf }
         ensures { result ≡ end_info self.now.node.now.breaks (text self.now.node.now)
             (place.entry.found.before.chars + place.entry.chars) }
     {
-        let leaf = place.found.leaf.as_str();
-        let front = TextInfo::from_str(&leaf[..place.bytes], self.node.line_breaks());
-        place.found.before.plus(front)
+        let LeafPlace {
+            found,
+            bytes,
+            chars,
+        } = place;
+        let leaf = found.leaf.as_str();
+        let breaks = self.node.line_breaks();
+        let front = TextInfo::of_front(leaf, found.inside, chars, bytes, breaks);
+        found.before.plus(front)
     }
 
     /// The `start` of its part from a character on.

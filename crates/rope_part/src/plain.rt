@@ -46,7 +46,7 @@ impl<'a> Plain<'a> {
         if line_idx > self.info.break_count {
             return self.info;
         }
-        TextInfo::before_line(self.as_str(), line_idx, self.breaks)
+        TextInfo::before_line(self.as_str(), self.info, line_idx, self.breaks)
     }
 
     /// The counts of the text before a line, and before the next one; past the last line those of all of it. And the text from

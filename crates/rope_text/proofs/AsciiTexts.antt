@@ -1,13 +1,14 @@
 -- Texts with as many bytes as characters: all indices of a place are the same number.
-use Rattle.std.proofs.Common.{◌≡◌, ℕ, suc, ◌<◌, ◌≤◌, min, List, [], ◌∷◌, length, take, drop, refl, ap, sym, ◌∙◌, arith, inl, inr}
+use Rattle.std.proofs.Common.{◌≡◌, ℕ, suc, ◌<◌, ◌≤◌, min, List, [], ◌∷◌, length, take, drop, nat_le, refl, ap, sym, ◌∙◌, arith, inl, inr}
 use Rattle.std.proofs.lemmas.Bool.{le-leb, lt-leb, cases_lt}
 use Rattle.std.proofs.lemmas.Bool.Decides.{nat_tests}
 use Rattle.std.proofs.lemmas.List.{append-nil, take-append-drop, length-take, length-drop}
 use Rattle.std.proofs.lemmas.Str.{length-encode, length-le-encodes}
 use Rattle.std.specs.Char.{len_utf8}
 use Rattle.rope_text.specs.declared.line_breaks.LineBreaks.{LineBreaks}
-use Rattle.rope_text.specs.Text.{byte_len, utf16_len}
+use Rattle.rope_text.specs.Text.{byte_len, utf16_len, surrogate_count}
 use Rattle.rope_text.specs.Conversions.{byte_to_char, utf16_to_char, char_to_line, byte_to_line}
+use Rattle.rope_text.proofs.Blocks.{count_by-front}
 use Rattle.rope_text.proofs.Measures.{IsMeasure-byte_len, IsMeasure-utf16_len}
 use Rattle.rope_text.proofs.ConversionLaws.{byte_to_char_is, utf16_to_char_is, char_to_line_past, byte_to_line-byte_to_char}
 
@@ -34,6 +35,15 @@ utf16_len-le-bytes [] = omega arith
 utf16_len-le-bytes (c ∷ cs) =
     omega (arith, utf16_len-le-bytes cs, units_in_bytes c, IsMeasure-byte_len.joined (c ∷ []) cs, IsMeasure-utf16_len.joined (c ∷ []) cs)
 
+module _ (text : List ℕ) (single : surrogate_count text ≡ 0) where
+  single_units : (i : ℕ) → utf16_len (take i text) ≡ min i (length text)
+  single_units i = omega (arith, single, length-take i text, count_by-front (λ c. nat_le 0x1_0000 c) text i)
+
+  -- where each character takes one code unit, the index of a character is that of its code unit
+  pub single_utf16_to_char : (u : ℕ) → utf16_to_char text u ≡ min u (length text)
+  single_utf16_to_char u =
+      utf16_to_char_is text u (min u (length text)) (omega arith) (omega (arith, single_units (min u (length text)))) (λ less. omega (arith, single_units (suc (min u (length text)))))
+
 module _ (text : List ℕ) (ascii : byte_len text ≡ length text) where
   pub ascii_front : (i : ℕ) → byte_len (take i text) ≡ min i (length text)
   ascii_front i =
@@ -47,8 +57,7 @@ module _ (text : List ℕ) (ascii : byte_len text ≡ length text) where
       byte_to_char_is text b (min b (length text)) (omega arith) (omega (arith, ascii_front (min b (length text)))) (λ less. omega (arith, ascii_front (suc (min b (length text)))))
 
   pub ascii_utf16_to_char : (u : ℕ) → utf16_to_char text u ≡ min u (length text)
-  ascii_utf16_to_char u =
-      utf16_to_char_is text u (min u (length text)) (omega arith) (omega (arith, ascii_units (min u (length text)))) (λ less. omega (arith, ascii_units (suc (min u (length text)))))
+  ascii_utf16_to_char = single_utf16_to_char text (omega (arith, ascii, utf16_len-le-bytes text))
 
   pub ascii_char_to_line : (breaks : LineBreaks) (i : ℕ) → byte_to_line breaks text i ≡ char_to_line breaks text i
   ascii_char_to_line breaks i =

@@ -5,6 +5,7 @@ use Rattle.std.proofs.lemmas.Bool.{both_ways}
 use Rattle.std.proofs.lemmas.List.{at_drop_more, get_or-drop}
 use Rattle.std.proofs.lemmas.List.Sums.{sum_by-cons, sum_by-append, count_by-le-length}
 use Rattle.std.proofs.lemmas.Simd.{chunk-drop}
+use Rattle.std.proofs.Math.ListN.{drop_of_length-le}
 use Rattle.rope_text.specs.declared.line_breaks.LineBreaks.{LineBreaks}
 use Rattle.rope_text.specs.declared.line_breaks.LineBreaks.TheVariants.{Lf, CrLf, Unicode}
 use Rattle.rope_text.specs.declared.text_info.TextInfo.{TextInfo}
@@ -52,6 +53,12 @@ count_by-block p xs i n = ap (count_by p) (chunk-drop i n xs) ∙ sum_by-append 
 
 pub count_by-front : (p : ℕ → Bool) (xs : List ℕ) (n : ℕ) → count_by p xs ≡ count_by p (take n xs) + count_by p (drop n xs)
 count_by-front p xs n = ap (count_by p) (sym (take-append-drop n xs)) ∙ sum_by-append (λ x. cond (p x) 1 0) (take n xs) (drop n xs)
+
+-- what is counted from the place p on and before the end n
+pub count_by-behind : (f : ℕ → Bool) (bs text : List ℕ) (p counted n : ℕ) → bs ≡ text → n ≡ length bs → count_by f (drop p bs) ≡ counted + count_by f (drop n bs) → counted ≡ count_by f (drop p text)
+count_by-behind f bs text p counted n same size more =
+    let none : count_by f (drop n bs) ≡ 0 = ap (count_by f) (drop_of_length-le bs (omega (arith, size))) in
+    omega (arith, more, none, ap (λ xs. count_by f (drop p xs)) same)
 
 pub count_by-drop : (p : ℕ → Bool) (xs : List ℕ) (i : ℕ) → i < length xs → count_by p (drop i xs) ≡ cond (p (get_or xs i 0)) 1 0 + count_by p (drop (i + 1) xs)
 count_by-drop p xs i h = at_drop_more (count_by p) xs i 0 h ∙ sum_by-cons (λ x. cond (p x) 1 0) (get_or xs i 0) (drop (i + 1) xs)

@@ -1,17 +1,22 @@
 //! The counts of a text: bytes, characters, surrogate pairs and line breaks.
 //!
 //! Of `"é\r\n"`, with a set that has CR, they are 4 bytes, 3 characters, no surrogate pair and 1 line break.
-ghost use Rattle.std.specs.Prelude.{◌≡◌, ◌+◌, ◌<◌, ◌≤◌, ◌^◌, [], ◌++◌, false, take, List, ℕ};
+ghost use Rattle.std.specs.Prelude.{◌≡◌, ◌+◌, ◌<◌, ◌≤◌, ◌^◌, [], ◌++◌, false, length, take, List, ℕ};
 ghost use Rattle.std.specs.Str.{chars};
 ghost use Rattle.rope_text.specs.Breaks.{break_count};
+ghost use Rattle.rope_text.specs.Conversions.{char_to_byte};
 ghost use Rattle.rope_text.specs.LineParts.{before_byte, after_byte, first_line, last_line_byte, last_line_info, IsBetween};
 ghost use Rattle.rope_text.specs.Cutting.{parts_crlf};
 ghost use Rattle.rope_text.specs.Lines.{line_start};
 ghost use Rattle.rope_text.specs.TextInfo.{info_of, info_sum, HasSum, HasPart};
 
 use crate::back::back_to_break;
+use crate::crlf::is_break;
 use crate::lanes::count_all;
-use crate::seek::{front_of_line, to_first_break, width_of};
+use crate::seek::{to_first_break, width_of};
+use crate::str_utils::{
+    byte_to_char_idx_of, byte_to_line_of, byte_to_surrogates_of, line_to_byte_of,
+};
 use crate::{LineBreaks, known_set};
 
 /// How many bytes, characters, surrogate pairs in UTF-16 and line breaks a text has. Copying it takes no memory.
@@ -111,15 +116,59 @@ impl TextInfo {
         (start, line)
     }
 
-    /// The counts of the text before the line `line_idx`, which is not the first, by the line breaks of the set. Reads the
-    /// text once, up to there; takes no memory.
-    pub fn before_line(text: &str, line_idx: usize, breaks: LineBreaks) -> TextInfo
+    /// The counts of the text before the line `line_idx`, which is not the first, by the line breaks of the set, of a text whose
+    /// counts are known. Reads the side of that line that has fewer line breaks, and counts no characters where there are as many of
+    /// them as bytes; takes no memory.
+    pub fn before_line(
+        text: &str,
+        info: TextInfo,
+        line_idx: usize,
+        breaks: LineBreaks,
+    ) -> TextInfo
         requires later { 0 < line_idx }
         requires within { line_idx ≤ break_count breaks (chars text.now) }
+        requires info { info ≡ info_of breaks (chars text.now) }
         ensures { result
             ≡ info_of breaks (take (line_start breaks (chars text.now) line_idx) (chars text.now)) }
     {
-        front_of_line(text, line_idx, breaks)
+        let bytes = line_to_byte_of(text, info.break_count, line_idx, breaks);
+        let mut front = TextInfo {
+            bytes,
+            chars: bytes,
+            utf16_surrogates: 0,
+            break_count: line_idx,
+        };
+        if info.chars < info.bytes {
+            front.chars = byte_to_char_idx_of(text, info.chars, bytes);
+            front.utf16_surrogates = byte_to_surrogates_of(text, info.utf16_surrogates, bytes);
+        }
+        front
+    }
+
+    /// The counts of the text before a character, by itself: of a text whose counts are known, and the byte at which that character
+    /// begins. Reads the shorter of the two sides; takes no memory.
+    pub fn of_front(
+        text: &str,
+        info: TextInfo,
+        char_idx: usize,
+        byte_idx: usize,
+        breaks: LineBreaks,
+    ) -> TextInfo
+        requires info { info ≡ info_of breaks (chars text.now) }
+        requires within { char_idx ≤ length (chars text.now) }
+        requires place { byte_idx ≡ char_to_byte (chars text.now) char_idx }
+        ensures { result ≡ info_of breaks (take char_idx (chars text.now)) }
+    {
+        if !is_break(byte_idx, text.as_bytes()) {
+            // Between CR and LF: the CR is a break of the front, and none of the text.
+            return TextInfo::from_str(&text[..byte_idx], breaks);
+        }
+        TextInfo {
+            bytes: byte_idx,
+            chars: char_idx,
+            utf16_surrogates: byte_to_surrogates_of(text, info.utf16_surrogates, byte_idx),
+            break_count: byte_to_line_of(text, info.break_count, byte_idx, breaks),
+        }
     }
 
     /// The sums: the counts of two texts joined, unless CR meets LF there, which makes one line break less. Each

@@ -18,8 +18,9 @@ pub fn first_sought(unit: Unit) -> usize
 }
 
 /// The index in the unit `to` of the place of a text that an index in the unit `from` names, by the
-/// counts of the text. Of bytes, characters and lines it reads the shorter side of the place, and of
-/// bytes and characters nothing where there are as many of them.
+/// counts of the text. It reads the shorter side of the place, but up to one that is given in code
+/// units, and nothing where both units count the same: bytes and characters in ASCII, characters and
+/// code units where no character takes two.
 #[inline(always)]
 pub fn convert_in(
     text: &str,
@@ -42,8 +43,8 @@ pub fn convert_in(
         _ if is_ascii => idx.min(info.bytes),
         (Byte, Char) => str_utils::byte_to_char_idx_of(text, info.chars, idx),
         (Char, Byte) => str_utils::char_to_byte_idx_of(text, info.chars, idx),
-        (Char, CodeUnit) => str_utils::char_to_utf16_idx(text, idx),
-        (CodeUnit, Char) => str_utils::utf16_to_char_idx(text, idx),
+        (Char, CodeUnit) => str_utils::char_to_utf16_idx_of(text, info, idx),
+        (CodeUnit, Char) => str_utils::utf16_to_char_idx_of(text, info, idx),
         _ => unreachable!(),
     }
 }

@@ -3,9 +3,9 @@ ghost use Rattle.std.specs.Prelude.{◌≡◌, ◌≤◌, true, length};
 ghost use Rattle.std.specs.Str.{chars, all_scalars, encode_utf8_all, IsCharBoundary};
 ghost use Rattle.rope_text.specs.declared.TheConstants.{MAX_BYTES};
 ghost use Rattle.rope_text.specs.Text.{byte_len};
-ghost use Rattle.rope_text.specs.Conversions.{char_to_byte, char_to_line};
+ghost use Rattle.rope_text.specs.Conversions.{char_to_byte};
 
-use rope_text::{LineBreaks, str_utils};
+use rope_text::str_utils;
 use std::marker::Model;
 
 /// A text of at most `MAX_BYTES` bytes that lies elsewhere, seen as the list of its characters.
@@ -74,17 +74,6 @@ impl<'a> ShortText<'a> {
             str_utils::char_to_byte_idx_of(self.text, self.count, char_idx)
         } else {
             str_utils::char_to_byte_idx(self.text, char_idx)
-        }
-    }
-
-    /// How many line breaks end at or before a character.
-    pub fn char_to_line_with(&self, char_idx: usize, breaks: LineBreaks) -> usize
-        ensures { result ≡ char_to_line breaks self.now char_idx }
-    {
-        if self.count == self.text.len() {
-            str_utils::byte_to_line_with(self.text, char_idx, breaks)
-        } else {
-            str_utils::char_to_line_with(self.text, char_idx, breaks)
         }
     }
 }

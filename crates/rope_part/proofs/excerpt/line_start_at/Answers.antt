@@ -81,3 +81,7 @@ returns-clause-chunk c =
     (found_line_start (c.args.line_idx - 1) c.args.line_idx c.args.node.now leaf c.leaf_at-found.result.before c.requires.tree c.leaf_at-found.ensures.found (omega arith))
     (chars_back c.as_str-leaf.result.now c.range_from.result.now leaf k c.before_line-front.result.bytes c.as_str-leaf.utf8 c.as_str-leaf.ensures.chars
     (ap (λ x. x.bytes) (front_is (goal.at.returns-clause-chunk c).After-before_line-front) ∙ ap (λ s. byte_len (take k s)) (sym c.as_str-leaf.ensures.chars)) c.range_from.ensures.value)
+
+pub before_line-front-requires-clause-info : goal.before_line-front-requires-clause-info
+before_line-front-requires-clause-info c =
+    c.leaf_at-found.ensures.inside ∙ ap (λ b. info_of b c.leaf_at-found.result.leaf) (sym c.line_breaks.ensures) ∙ ap (info_of c.line_breaks.result) (sym c.as_str-leaf.ensures.chars)

@@ -28,3 +28,6 @@ pub returns : goal.returns
 returns c =
     let breaks = c.args.self.now.breaks in
     c.before_line.ensures ∙ ap (λ s. info_of breaks (take (line_start breaks s c.args.line_idx) s)) c.as_str.ensures
+
+pub before_line-requires-clause-info : goal.before_line-requires-clause-info
+before_line-requires-clause-info c = c.args.self.now.counted ∙ ap (info_of c.args.self.now.breaks) (sym c.as_str.ensures)
