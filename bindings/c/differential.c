@@ -682,6 +682,10 @@ static void plain(void) {
     CHECK(ropey_text_valid_len(bytes, len) == valid);
     CHECK(ropey_text_counts(bytes, len, set, &counts) == by_set);
     CHECK(by_set != ROPEY_OK ? counts.bytes == 77 : memcmp(&counts, &all, sizeof all) == 0);
+    if (bad == len) {
+        ropey_counts again = {77, 77, 77, 77};
+        CHECK(ropey_text_counts_unchecked(bytes, len, set, &again) == by_set && memcmp(&again, &counts, sizeof again) == 0);
+    }
     ASKS(ropey_text_byte_to_char(bytes, len, b, &x), fault, x, char_at_byte(&m, b));
     ASKS(ropey_text_byte_to_line(bytes, len, set, b, &x), by_set, x, counts_before(&m, char_at_byte(&m, b)).line_breaks);
     ASKS(ropey_text_char_to_byte(bytes, len, i, &x), fault, x, counts_before(&m, at).bytes);

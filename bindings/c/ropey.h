@@ -379,6 +379,10 @@ size_t ropey_text_valid_len(const uint8_t *text, size_t len);
 /* How much text there is. Refused: UNKNOWN_BREAK_SET, INVALID_UTF8. */
 ropey_status ropey_text_counts(const uint8_t *text, size_t len, uint32_t break_set, ropey_counts *counts);
 
+/* The same of a text that is known to be UTF-8, which is its condition, and not read to find out: of other bytes the call may
+ * do anything. Refused: UNKNOWN_BREAK_SET. */
+ropey_status ropey_text_counts_unchecked(const uint8_t *text, size_t len, uint32_t break_set, ropey_counts *counts);
+
 /* Conversions in a text. An index past the end stands for the end. A byte or a code unit inside a character stands for that
  * character. Refused: UNKNOWN_BREAK_SET where a set is given, INVALID_UTF8. */
 ropey_status ropey_text_byte_to_char(const uint8_t *text, size_t len, size_t byte_idx, size_t *char_idx);
