@@ -98,7 +98,7 @@ impl Rope {
     ///
     /// The writer's first error. A beginning of the text is written then.
     pub fn write_to<T: io::Write>(&self, mut writer: T) -> io::Result<()> {
-        self.chunks().try_for_each(|chunk| writer.write_all(chunk.as_bytes()))
+        self.chunks().read().try_for_each(|chunk| writer.write_all(chunk.as_bytes()))
     }
 }
 

@@ -64,7 +64,7 @@ impl Default for Rope {
 impl<'a> From<RopeSlice<'a>> for String {
     fn from(slice: RopeSlice<'a>) -> String {
         let mut text = String::with_capacity(slice.len_bytes());
-        slice.chunks().for_each(|chunk| text.push_str(chunk));
+        slice.chunks().read().for_each(|chunk| text.push_str(chunk));
         text
     }
 }
@@ -81,7 +81,7 @@ impl<'a> From<RopeSlice<'a>> for Cow<'a, str> {
 
 impl<'a> From<&'a Rope> for String {
     fn from(rope: &'a Rope) -> String {
-        rope.root.copied(0, rope.len_bytes())
+        rope.slice(..).into()
     }
 }
 
@@ -107,7 +107,7 @@ impl<'a> From<Rope> for Cow<'a, str> {
 // Comparisons, of texts by their bytes.
 
 fn order(left: RopeSlice<'_>, right: RopeSlice<'_>) -> Ordering {
-    let (mut left_chunks, mut right_chunks) = (left.chunks(), right.chunks());
+    let (mut left_chunks, mut right_chunks) = (left.chunks().read(), right.chunks().read());
     let (mut left, mut right): (&[u8], &[u8]) = (b"", b"");
     loop {
         if left.is_empty() {
@@ -261,7 +261,7 @@ macro_rules! shown {
         $(
             impl fmt::Display for $text {
                 fn fmt(&self, f: &mut fmt::Formatter<'_>) -> fmt::Result {
-                    self.chunks().try_for_each(|chunk| f.write_str(chunk))
+                    self.chunks().read().try_for_each(|chunk| f.write_str(chunk))
                 }
             }
 
