@@ -568,13 +568,21 @@ static void slices(pair *p) {
     }
     CHECK(ropey_lines_from(&p->rope, l, room == 0 ? NULL : found, room, &count) == wanted);
     if (wanted != ROPEY_OK) {
+        ropey_counts none = {77, 77, 77, 77};
         CHECK(count == 77 && ropey_lines_before(&p->rope, l, found, room, &count) == wanted && count == 77);
+        CHECK(ropey_lines_from_at(&p->rope, l, found, room, &count, &none) == wanted && count == 77 && none.bytes == 77);
         return;
     }
     CHECK(count == (room < lines - l ? room : lines - l));
     for (size_t k = 0; k < count; k++) {
         see_slice(p, &found[k], start_of_line(m, l + k), start_of_line(m, l + k + 1));
     }
+    ropey_slice again[SLICES];
+    ropey_counts before = {77, 77, 77, 77}, front = counts_before(m, start_of_line(m, l));
+    memcpy(again, found, sizeof found);
+    CHECK(ropey_lines_from_at(&p->rope, l, room == 0 ? NULL : again, room, &count, &before) == ROPEY_OK);
+    CHECK(count == (room < lines - l ? room : lines - l) && memcmp(again, found, count * sizeof *found) == 0);
+    CHECK(memcmp(&before, &front, sizeof before) == 0);
     CHECK(ropey_lines_before(&p->rope, l, found, room, &count) == ROPEY_OK && count == (room < l ? room : l));
     for (size_t k = 0; k < count; k++) {
         see_slice(p, &found[k], start_of_line(m, l - k - 1), start_of_line(m, l - k));

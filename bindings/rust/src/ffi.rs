@@ -393,6 +393,7 @@ lists! {
     ropey_chunks_at_line_break: Piece, usize, usize, usize;
     ropey_chunks_before_byte: Piece, usize;
     ropey_lines_at: RawSlice, Counts;
+    ropey_lines_from_at: RawSlice, Counts;
     ropey_lines_before: RawSlice;
 }
 
@@ -630,15 +631,15 @@ impl<'a> Window<'a> {
             self.list = ROOM.try_with(Cell::take).unwrap_or_default();
         }
         fill(&mut self.list, room, |lines, room, count| unsafe {
-            match (room, is_back, self.before) {
-                (1, _, None) | (1, true, _) => {
+            match self.before {
+                None if room > 1 && !is_back => {
+                    ropey_lines_from_at(&root.0, line_idx, lines, room, count, self.before.insert(Counts::NONE))
+                }
+                Some(at) if !is_back => ropey_lines_at(&root.0, at.chars, lines, room, count, self.before.insert(at)),
+                _ if room > 1 => ropey_lines_before(&root.0, line_idx + 1, lines, room, count),
+                _ => {
                     *count = 1;
                     ropey_line_slice(&root.0, line_idx, lines)
-                }
-                (_, true, _) => ropey_lines_before(&root.0, line_idx + 1, lines, room, count),
-                (_, _, before) => {
-                    let start = before.map(|before| before.chars).or_else(|| root.line_to_char(line_idx));
-                    ropey_lines_at(&root.0, known(start), lines, room, count, self.before.insert(Counts::NONE))
                 }
             }
         });

@@ -279,10 +279,12 @@ impl Rope {
     }
 
     fn slice_chars(&self, bounds: Bounds) -> Result<RopeSlice<'_>> {
-        self.part().slice_chars(bounds)
+        let (from, to) = bounds.of_chars(self.len_chars())?;
+        Ok(RopeSlice::of_chars(&self.root, from, to))
     }
 
     fn slice_bytes(&self, bounds: Bounds) -> Result<RopeSlice<'_>> {
-        self.part().slice_bytes(bounds)
+        let (from, to) = bounds.of_bytes(self.len_bytes())?;
+        RopeSlice::of_bytes(&self.root, from, to).ok_or(bounds.inside_character())
     }
 }
