@@ -568,13 +568,21 @@ static void slices(pair *p) {
     }
     CHECK(ropey_lines_from(&p->rope, l, room == 0 ? NULL : found, room, &count) == wanted);
     if (wanted != ROPEY_OK) {
+        ropey_counts none = {77, 77, 77, 77};
         CHECK(count == 77 && ropey_lines_before(&p->rope, l, found, room, &count) == wanted && count == 77);
+        CHECK(ropey_lines_from_at(&p->rope, l, found, room, &count, &none) == wanted && count == 77 && none.bytes == 77);
         return;
     }
     CHECK(count == (room < lines - l ? room : lines - l));
     for (size_t k = 0; k < count; k++) {
         see_slice(p, &found[k], start_of_line(m, l + k), start_of_line(m, l + k + 1));
     }
+    ropey_slice again[SLICES];
+    ropey_counts before = {77, 77, 77, 77}, front = counts_before(m, start_of_line(m, l));
+    memcpy(again, found, sizeof found);
+    CHECK(ropey_lines_from_at(&p->rope, l, room == 0 ? NULL : again, room, &count, &before) == ROPEY_OK);
+    CHECK(count == (room < lines - l ? room : lines - l) && memcmp(again, found, count * sizeof *found) == 0);
+    CHECK(memcmp(&before, &front, sizeof before) == 0);
     CHECK(ropey_lines_before(&p->rope, l, found, room, &count) == ROPEY_OK && count == (room < l ? room : l));
     for (size_t k = 0; k < count; k++) {
         see_slice(p, &found[k], start_of_line(m, l - k - 1), start_of_line(m, l - k));
@@ -682,6 +690,10 @@ static void plain(void) {
     CHECK(ropey_text_valid_len(bytes, len) == valid);
     CHECK(ropey_text_counts(bytes, len, set, &counts) == by_set);
     CHECK(by_set != ROPEY_OK ? counts.bytes == 77 : memcmp(&counts, &all, sizeof all) == 0);
+    if (bad == len) {
+        ropey_counts again = {77, 77, 77, 77};
+        CHECK(ropey_text_counts_unchecked(bytes, len, set, &again) == by_set && memcmp(&again, &counts, sizeof again) == 0);
+    }
     ASKS(ropey_text_byte_to_char(bytes, len, b, &x), fault, x, char_at_byte(&m, b));
     ASKS(ropey_text_byte_to_line(bytes, len, set, b, &x), by_set, x, counts_before(&m, char_at_byte(&m, b)).line_breaks);
     ASKS(ropey_text_char_to_byte(bytes, len, i, &x), fault, x, counts_before(&m, at).bytes);

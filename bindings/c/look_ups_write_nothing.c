@@ -115,6 +115,7 @@ static void look(const ropey_rope *rope, const ropey_rope *other) {
     expect(ropey_lines_from(rope, line, slices, PIECES, &count));
     expect(ropey_lines_before(rope, line, slices, PIECES, &count));
     expect(ropey_lines_at(rope, i, slices, PIECES, &count, &counts));
+    expect(ropey_lines_from_at(rope, line, slices, PIECES, &count, &counts));
     expect(ropey_compare(rope, other, &order));
     expect(ropey_equals_text(rope, chunk.text, chunk.len, &equal));
 }

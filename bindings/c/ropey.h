@@ -22,9 +22,9 @@
  * break of the rope's set. A text has one line more than it has line breaks, and its last line may be empty.
  *
  * Refusals. A call answers ROPEY_OK, or the first reason for which it was refused, in the order in which its comment gives
- * them. No index, text or number can make a call do anything else, but for ropey_from_text_unchecked. A refused call leaves
- * every rope as it was and writes nothing, but where its comment says so. A call on a handle that holds no rope answers
- * ROPEY_NO_ROPE_HELD.
+ * them. No index, text or number can make a call do anything else, but for the two calls whose names end in _unchecked. A
+ * refused call leaves every rope as it was and writes nothing, but where its comment says so. A call on a handle that holds no
+ * rope answers ROPEY_NO_ROPE_HELD.
  *
  * Edits are the calls that take a `ropey_rope *` which holds a rope; look-ups are those that take a `const ropey_rope *`.
  * A look-up changes nothing, and gives pointers into the rope's memory. They are good until the handle is passed to an
@@ -169,8 +169,8 @@ typedef struct {
  * Refused: UNKNOWN_BREAK_SET, INVALID_UTF8, OUT_OF_MEMORY. */
 ropey_status ropey_from_text(const uint8_t *text, size_t len, uint32_t break_set, ropey_rope *rope);
 
-/* The same of a text that is known to be UTF-8, which is not read to find out. This alone of all calls has a condition: of
- * bytes that aren't UTF-8 it makes no rope, and later calls may do anything. Refused: UNKNOWN_BREAK_SET, OUT_OF_MEMORY. */
+/* The same of a text that is known to be UTF-8, which is its condition, and is not read to find out: of other bytes it makes no
+ * rope, and later calls may do anything. Refused: UNKNOWN_BREAK_SET, OUT_OF_MEMORY. */
 ropey_status ropey_from_text_unchecked(const uint8_t *text, size_t len, uint32_t break_set, ropey_rope *rope);
 
 /* Frees the rope, if there is one. Afterwards the handle holds none. */
@@ -332,6 +332,10 @@ ropey_status ropey_counts_in_chars_at(const ropey_rope *rope, size_t start, size
 ropey_status ropey_lines_from(const ropey_rope *rope, size_t line_idx, ropey_slice *lines, size_t room, size_t *count);
 ropey_status ropey_lines_before(const ropey_rope *rope, size_t line_idx, ropey_slice *lines, size_t room, size_t *count);
 
+/* The lines from line_idx on, with how much of the text lies before the first of them. A look-up more, and the same refusals. */
+ropey_status ropey_lines_from_at(const ropey_rope *rope, size_t line_idx, ropey_slice *lines, size_t room, size_t *count,
+    ropey_counts *before);
+
 /* The lines of the text from a character on, of which the first begins there, with how much of the text lies before it. To go
  * on, ask for the character past the last line. Refused: NO_ROPE_HELD, CHAR_INDEX_OUT_OF_BOUNDS. */
 ropey_status ropey_lines_at(const ropey_rope *rope, size_t char_idx, ropey_slice *lines, size_t room, size_t *count,
@@ -378,6 +382,10 @@ size_t ropey_text_valid_len(const uint8_t *text, size_t len);
 
 /* How much text there is. Refused: UNKNOWN_BREAK_SET, INVALID_UTF8. */
 ropey_status ropey_text_counts(const uint8_t *text, size_t len, uint32_t break_set, ropey_counts *counts);
+
+/* The same of a text that is known to be UTF-8, which is its condition, and is not read to find out: of other bytes the call
+ * may do anything. Refused: UNKNOWN_BREAK_SET. */
+ropey_status ropey_text_counts_unchecked(const uint8_t *text, size_t len, uint32_t break_set, ropey_counts *counts);
 
 /* Conversions in a text. An index past the end stands for the end. A byte or a code unit inside a character stands for that
  * character. Refused: UNKNOWN_BREAK_SET where a set is given, INVALID_UTF8. */

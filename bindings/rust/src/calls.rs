@@ -8,40 +8,21 @@ pub(crate) fn refuse(error: Error) -> ! {
     panic!("{error}")
 }
 
-/// Over a `try_` twin, which answers the error.
-macro_rules! over_try {
-    ($($(#[$doc:meta])* $name:ident($index:ident) by $twin:ident;)*) => {
+/// Over a `try_` twin, which answers the error, or a `get_` twin, which answers none.
+macro_rules! over {
+    ($($(#[$doc:meta])* $name:ident($index:ident) by $twin:ident $(else $error:ident of $len:ident)? -> $answer:ty;)*) => {
         $(
             $(#[$doc])*
             ///
             /// # Panics
             ///
-            /// Where the index is past the end.
-            #[inline]
-            #[track_caller]
-            pub fn $name(&self, $index: usize) -> usize {
-                self.$twin($index).unwrap_or_else(|error| crate::calls::refuse(error))
-            }
-        )*
-    };
-}
-
-/// Over a `get_` twin, which answers none.
-macro_rules! over_get {
-    ($($(#[$doc:meta])* $name:ident($index:ident) by $twin:ident else $error:ident of $len:ident -> $answer:ty;)*) => {
-        $(
-            $(#[$doc])*
-            ///
-            /// # Panics
-            ///
-            /// Where there is none.
+            /// Where the index is out of bounds.
             #[inline]
             #[track_caller]
             pub fn $name(&self, $index: usize) -> $answer {
-                match self.$twin($index) {
-                    Some(answer) => answer,
-                    None => crate::calls::refuse(Error::$error($index, self.$len())),
-                }
+                self.$twin($index)
+                    $(.ok_or_else(|| Error::$error($index, self.$len())))?
+                    .unwrap_or_else(|error| crate::calls::refuse(error))
             }
         )*
     };
@@ -50,26 +31,23 @@ macro_rules! over_get {
 /// All of them, and the cursors that stand at the start. The lifetime is that of the text which is lent.
 macro_rules! panicking_calls {
     ($text:lifetime) => {
-        crate::calls::over_try! {
+        crate::calls::over! {
             /// The character that holds a byte; for the length in bytes, the length in characters.
-            byte_to_char(byte_idx) by try_byte_to_char;
+            byte_to_char(byte_idx) by try_byte_to_char -> usize;
             /// The line on which a byte lies; for the length in bytes, the last line.
-            byte_to_line(byte_idx) by try_byte_to_line;
+            byte_to_line(byte_idx) by try_byte_to_line -> usize;
             /// The byte at which a character starts; for the length in characters, the length in bytes.
-            char_to_byte(char_idx) by try_char_to_byte;
+            char_to_byte(char_idx) by try_char_to_byte -> usize;
             /// The line on which a character lies; for the length in characters, the last line.
-            char_to_line(char_idx) by try_char_to_line;
+            char_to_line(char_idx) by try_char_to_line -> usize;
             /// The UTF-16 code unit at which a character starts; for the length in characters, the length in code units.
-            char_to_utf16_cu(char_idx) by try_char_to_utf16_cu;
+            char_to_utf16_cu(char_idx) by try_char_to_utf16_cu -> usize;
             /// The character that holds a UTF-16 code unit; for the length in code units, the length in characters.
-            utf16_cu_to_char(utf16_cu_idx) by try_utf16_cu_to_char;
+            utf16_cu_to_char(utf16_cu_idx) by try_utf16_cu_to_char -> usize;
             /// The byte at which a line starts; for the number of lines, the length in bytes.
-            line_to_byte(line_idx) by try_line_to_byte;
+            line_to_byte(line_idx) by try_line_to_byte -> usize;
             /// The character at which a line starts; for the number of lines, the length in characters.
-            line_to_char(line_idx) by try_line_to_char;
-        }
-
-        crate::calls::over_get! {
+            line_to_char(line_idx) by try_line_to_char -> usize;
             /// A byte.
             byte(byte_idx) by get_byte else ByteIndexOutOfBounds of len_bytes -> u8;
             /// A character.
@@ -156,4 +134,4 @@ macro_rules! panicking_calls {
     };
 }
 
-pub(crate) use {over_get, over_try, panicking_calls};
+pub(crate) use {over, panicking_calls};

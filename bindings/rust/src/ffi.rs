@@ -12,10 +12,15 @@
 #![allow(unsafe_code)]
 
 use std::alloc::{handle_alloc_error, Layout};
+use std::arch::x86_64::{_mm_prefetch, _MM_HINT_T0};
+use std::cell::Cell;
 use std::ffi::c_void;
 use std::marker::PhantomData;
 use std::mem::MaybeUninit;
 use std::ptr;
+
+use crate::slice::known;
+use crate::MAX_BYTES;
 
 /// `ropey_rope`.
 #[repr(C)]
@@ -37,8 +42,6 @@ struct RawChunk {
     line_breaks_before: usize,
 }
 
-const NO_CHUNK: RawChunk = RawChunk { text: NO_PIECE, bytes_before: 0, chars_before: 0, line_breaks_before: 0 };
-
 /// A chunk, and the bytes, characters and line breaks before it.
 pub(crate) type ChunkAt<'a> = (&'a str, usize, usize, usize);
 
@@ -49,8 +52,6 @@ struct Piece {
     text: *const u8,
     len: usize,
 }
-
-const NO_PIECE: Piece = Piece { text: "".as_ptr(), len: 0 };
 
 impl Piece {
     #[inline(always)]
@@ -76,8 +77,6 @@ struct RawSlice {
     text: Piece,
     counts: Counts,
 }
-
-const NO_SLICE: RawSlice = RawSlice { text: NO_PIECE, counts: Counts::NONE };
 
 /// A part of a rope's text: itself, where it lies in one chunk, and how much it holds.
 pub(crate) type Lent<'a> = (Option<&'a str>, Counts);
@@ -115,8 +114,7 @@ extern "C" {
     fn ropey_remove(rope: *mut Handle, start: usize, end: usize) -> u32;
     fn ropey_split_off(rope: *mut Handle, char_idx: usize, tail: *mut Handle) -> u32;
     fn ropey_append(rope: *mut Handle, other: *mut Handle) -> u32;
-    fn ropey_copy_bytes(rope: Held, start: usize, end: usize, buffer: *mut u8, room: usize, len: *mut usize) -> u32;
-    fn ropey_text_counts(text: *const u8, len: usize, break_set: u32, counts: *mut Counts) -> u32;
+    fn ropey_text_counts_unchecked(text: *const u8, len: usize, break_set: u32, counts: *mut Counts) -> u32;
     fn ropey_counts_in_chars_at(rope: Held, start: usize, end: usize, counts: *mut Counts, before: *mut Counts) -> u32;
     fn ropey_char_slice_at(rope: Held, start: usize, end: usize, slice: *mut RawSlice, before: *mut Counts) -> u32;
 }
@@ -164,6 +162,14 @@ fn done(status: u32) -> bool {
 #[inline(always)]
 fn must(status: u32) {
     assert!(done(status), "the library refused good arguments: status {status}");
+}
+
+/// What a call writes, which is not refused.
+#[inline(always)]
+fn written<T>(call: impl FnOnce(*mut T) -> u32) -> Option<T> {
+    let mut answer = MaybeUninit::uninit();
+    // Safety: a call that is done has written its answer.
+    done(call(answer.as_mut_ptr())).then(|| unsafe { answer.assume_init() })
 }
 
 #[cold]
@@ -284,10 +290,10 @@ lengths! {
     len_utf16: ropey_len_utf16;
 }
 
-/// Look-ups of one kind: what is written, what it begins as, and what is made of it. They answer none where the index is out
+/// Look-ups of one kind: what is written, and what is made of it. They answer none where the index is out
 /// of bounds.
 macro_rules! look_ups {
-    (($raw:ty = $none:expr) -> $answer:ty, $answered:expr; $($name:ident($($index:ident),+): $call:ident;)*) => {
+    ($raw:ty => $answer:ty, $answered:expr; $($name:ident($($index:ident),+): $call:ident;)*) => {
         extern "C" {
             $(fn $call(rope: Held, $($index: usize,)+ answer: *mut $raw) -> u32;)*
         }
@@ -296,8 +302,7 @@ macro_rules! look_ups {
             $(
                 #[inline]
                 pub(crate) fn $name(&self, $($index: usize),+) -> Option<$answer> {
-                    let mut answer: $raw = $none;
-                    done(unsafe { $call(&self.0, $($index,)+ &mut answer) }).then(|| $answered(answer))
+                    written(|answer| unsafe { $call(&self.0, $($index,)+ answer) }).map($answered)
                 }
             )*
         }
@@ -305,7 +310,7 @@ macro_rules! look_ups {
 }
 
 look_ups! {
-    (usize = 0) -> usize, |number| number;
+    usize => usize, |number| number;
     byte_to_char(byte_idx): ropey_byte_to_char;
     byte_to_line(byte_idx): ropey_byte_to_line;
     char_to_byte(char_idx): ropey_char_to_byte;
@@ -317,17 +322,17 @@ look_ups! {
 }
 
 look_ups! {
-    (u8 = 0) -> u8, |byte| byte;
+    u8 => u8, |byte| byte;
     byte(byte_idx): ropey_byte;
 }
 
 look_ups! {
-    (u32 = 0) -> char, |c| unsafe { char::from_u32_unchecked(c) };
+    u32 => char, |c| unsafe { char::from_u32_unchecked(c) };
     char(char_idx): ropey_char;
 }
 
 look_ups! {
-    (RawChunk = NO_CHUNK) -> ChunkAt<'_>,
+    RawChunk => ChunkAt<'_>,
     |chunk: RawChunk| (unsafe { text_at(chunk.text) }, chunk.bytes_before, chunk.chars_before, chunk.line_breaks_before);
     chunk_at_byte(byte_idx): ropey_chunk_at_byte;
     chunk_at_char(char_idx): ropey_chunk_at_char;
@@ -335,12 +340,12 @@ look_ups! {
 }
 
 look_ups! {
-    (RawSlice = NO_SLICE) -> Lent<'_>, |slice: RawSlice| unsafe { slice.lent() };
+    RawSlice => Lent<'_>, |slice: RawSlice| unsafe { slice.lent() };
     line_slice(line_idx): ropey_line_slice;
 }
 
 look_ups! {
-    (Counts = Counts::NONE) -> Counts, |counts| counts;
+    Counts => Counts, |counts| counts;
     counts_in_bytes(start, end): ropey_counts_in_bytes;
 }
 
@@ -348,27 +353,17 @@ impl Root {
     /// The characters from `start` up to `end`, which are in range, and how much lies before them.
     #[inline]
     pub(crate) fn char_slice(&self, start: usize, end: usize) -> (Lent<'_>, Counts) {
-        let (mut slice, mut before) = (NO_SLICE, Counts::NONE);
-        must(unsafe { ropey_char_slice_at(&self.0, start, end, &mut slice, &mut before) });
-        (unsafe { slice.lent() }, before)
+        let mut before = Counts::NONE;
+        let slice = written(|slice| unsafe { ropey_char_slice_at(&self.0, start, end, slice, &mut before) });
+        (unsafe { known(slice).lent() }, before)
     }
 
     /// How much the characters from `start` up to `end`, which are in range, hold, and how much lies before them.
     #[inline]
     pub(crate) fn counts_in_chars(&self, start: usize, end: usize) -> (Counts, Counts) {
-        let (mut counts, mut before) = (Counts::NONE, Counts::NONE);
-        must(unsafe { ropey_counts_in_chars_at(&self.0, start, end, &mut counts, &mut before) });
-        (counts, before)
-    }
-
-    /// A copy of the bytes from `start` up to `end`.
-    pub(crate) fn copied(&self, start: usize, end: usize) -> String {
-        let (mut bytes, mut len) = (Vec::with_capacity(end - start), 0);
-        must(unsafe { ropey_copy_bytes(&self.0, start, end, bytes.as_mut_ptr(), end - start, &mut len) });
-        unsafe {
-            bytes.set_len(len);
-            String::from_utf8_unchecked(bytes)
-        }
+        let mut before = Counts::NONE;
+        let counts = written(|counts| unsafe { ropey_counts_in_chars_at(&self.0, start, end, counts, &mut before) });
+        (known(counts), before)
     }
 
     /// How much the rope holds.
@@ -398,7 +393,7 @@ lists! {
     ropey_chunks_at_line_break: Piece, usize, usize, usize;
     ropey_chunks_before_byte: Piece, usize;
     ropey_lines_at: RawSlice, Counts;
-    ropey_lines_from: RawSlice;
+    ropey_lines_from_at: RawSlice, Counts;
     ropey_lines_before: RawSlice;
 }
 
@@ -437,7 +432,7 @@ impl<'a> Pieces<'a> {
     pub(crate) fn of(text: &'a str) -> Pieces<'a> {
         let mut pieces = Pieces::new();
         pieces.few[0].write(Piece::of(text));
-        pieces.len = 1;
+        pieces.len = usize::from(!text.is_empty());
         pieces
     }
 
@@ -462,16 +457,45 @@ impl<'a> Pieces<'a> {
         }
     }
 
-    #[inline]
+    #[inline(always)]
     pub(crate) fn get(&mut self, i: usize) -> Option<&'a str> {
-        // Safety: the piece was written by `of` or `set`, or by the library as a part of a rope that is borrowed for `'a`.
+        // Safety: the piece was written by `of` or `keep`, or by the library as a part of a rope that is borrowed for `'a`.
         self.at(i).map(|piece| unsafe { text_at(*piece) })
     }
 
-    /// Puts a text in the place of the piece `i`.
-    #[inline]
-    pub(crate) fn set(&mut self, i: usize, text: &'a str) {
-        *self.at(i).expect("there is such a piece") = Piece::of(text);
+    /// Has the processor fetch the text of the piece `i`, where there is one, which is read next.
+    #[inline(always)]
+    pub(crate) fn touch(&mut self, i: usize) {
+        let text = self.get(i).unwrap_or_default();
+        for line in (0..text.len()).step_by(64) {
+            // Safety: nothing is read.
+            unsafe { _mm_prefetch::<_MM_HINT_T0>(text.as_ptr().add(line).cast()) };
+        }
+    }
+
+    /// Cuts bytes off the front, and keeps so many of the others.
+    pub(crate) fn cut(&mut self, front: usize, left: usize) {
+        if let Some(text) = self.get(0).filter(|_| front > 0) {
+            *self.at(0).expect("there is one") = Piece::of(&text[front..]);
+        }
+        self.keep(left, |text, len| &text[..len]);
+    }
+
+    /// Keeps pieces of so many bytes in all, and of the last of them what is in that.
+    fn keep(&mut self, mut left: usize, part: impl Fn(&'a str, usize) -> &'a str) {
+        if self.len() <= left / MAX_BYTES {
+            return;
+        }
+        for i in 0..self.len() {
+            let text = self.get(i).unwrap_or_default();
+            if left <= text.len() {
+                *self.at(i).expect("there is one") = Piece::of(part(text, left));
+                self.len = self.len.min(i + 1);
+                self.list.truncate(i + 1);
+                return;
+            }
+            left -= text.len();
+        }
     }
 
     #[inline(always)]
@@ -485,26 +509,31 @@ impl<'a> Pieces<'a> {
         }
     }
 
-    /// The chunks before the one that holds a byte, and where the last of them ends. The index is at most the length.
-    pub(crate) fn fetch_before(&mut self, root: &'a Root, byte_idx: usize) -> usize {
+    /// The chunks before the one that holds a byte, of so many bytes at most, and where the last of them ends. The index is at
+    /// most the length.
+    pub(crate) fn fetch_before(&mut self, root: &'a Root, byte_idx: usize, left: usize) -> usize {
         let mut end = 0;
         self.fill(|list, room, count| unsafe {
             ropey_chunks_before_byte(&root.0, byte_idx, list, room, count, &mut end)
         });
         // The nearest comes first.
+        self.keep(left, |text, len| &text[text.len() - len..]);
         self.few[..self.len].reverse();
         self.list.reverse();
         end
     }
 }
 
-/// Look-ups of the chunks from a place on, with the bytes, characters and line breaks before them. The index is in bounds.
+/// The bytes, characters and line breaks before a place.
+pub(crate) type Before = (usize, usize, usize);
+
+/// Look-ups of the chunks from a place on, with what lies before them. The index is in bounds.
 macro_rules! chunks_at {
     ($($name:ident: $call:ident;)*) => {
         impl<'a> Pieces<'a> {
             $(
                 #[inline]
-                pub(crate) fn $name(&mut self, root: &'a Root, index: usize) -> (usize, usize, usize) {
+                pub(crate) fn $name(&mut self, root: &'a Root, index: usize) -> Before {
                     let (mut bytes, mut chars, mut breaks) = (0, 0, 0);
                     self.fill(|list, room, count| unsafe {
                         $call(&root.0, index, list, room, count, &mut bytes, &mut chars, &mut breaks)
@@ -527,29 +556,60 @@ pub(crate) struct Window<'a> {
     list: Vec<RawSlice>,
     first: usize,
     is_back: bool,
+    // How many are fetched the next time.
     room: usize,
     // How much of the rope lies before the cursor, where that is known.
     pub before: Option<Counts>,
     text: PhantomData<&'a str>,
 }
 
+thread_local! {
+    // Room for lines that a cursor has let go, so that the next one takes none.
+    static ROOM: Cell<Vec<RawSlice>> = const { Cell::new(Vec::new()) };
+}
+
+impl Drop for Window<'_> {
+    #[inline]
+    fn drop(&mut self) {
+        if self.list.capacity() >= LINES {
+            let list = std::mem::take(&mut self.list);
+            // A thread that ends may have let its room go before.
+            let _ = ROOM.try_with(|room| room.set(list));
+        }
+    }
+}
+
 impl<'a> Window<'a> {
     #[inline]
-    pub(crate) fn new(before: Option<Counts>) -> Window<'a> {
-        Window { list: Vec::new(), first: 0, is_back: false, room: FEW_LINES, before, text: PhantomData }
+    pub(crate) fn new(before: Option<Counts>, is_whole: bool) -> Window<'a> {
+        let room = if is_whole { LINES } else { 1 };
+        Window { list: Vec::new(), first: 0, is_back: false, room, before, text: PhantomData }
     }
 
-    /// A line of the rope, which has one of this number; it is fetched with those that a cursor will pass next, at most
-    /// `left`. With many lines ahead of the cursor it is looked up how much lies before them.
+    /// Where among the lines one of the rope is, which has one of this number; it is fetched with those that a cursor will pass
+    /// next, at most `left`. With many lines ahead of the cursor it is looked up how much lies before them.
     #[inline(always)]
-    pub(crate) fn line(&mut self, root: &'a Root, line_idx: usize, is_back: bool, left: usize) -> Lent<'a> {
-        let mut at = self.place(line_idx);
-        if at >= self.list.len() {
-            self.fetch(root, line_idx, is_back, left);
-            at = 0;
+    pub(crate) fn find(&mut self, root: &'a Root, line_idx: usize, is_back: bool, left: usize) -> usize {
+        let at = self.place(line_idx);
+        if at < self.list.len() {
+            return at;
         }
+        self.fetch(root, line_idx, is_back, left);
+        0
+    }
+
+    /// A line's text, where it lies in one chunk.
+    #[inline(always)]
+    pub(crate) fn text(&self, at: usize) -> Option<&'a str> {
+        let line = &self.list[at];
         // Safety: the library wrote it, as a part of a rope that is borrowed for `'a`.
-        unsafe { self.list[at].lent() }
+        (line.text.len == line.counts.bytes).then(|| unsafe { text_at(line.text) })
+    }
+
+    /// How much a line holds.
+    #[inline(always)]
+    pub(crate) fn counts(&self, at: usize) -> Counts {
+        self.list[at].counts
     }
 
     fn place(&self, line_idx: usize) -> usize {
@@ -559,34 +619,36 @@ impl<'a> Window<'a> {
 
     /// The same lines from one on, but not many, for a cursor that may soon be dropped.
     pub(crate) fn few(&self, line_idx: usize) -> Window<'a> {
-        let list = self.list.iter().skip(self.place(line_idx)).take(FEW_LINES).copied().collect();
-        Window { list, first: line_idx, room: FEW_LINES, ..*self }
+        let list = self.list.iter().skip(self.place(line_idx)).take(2).copied().collect();
+        Window { list, first: line_idx, ..*self }
     }
 
     #[inline(never)]
     fn fetch(&mut self, root: &'a Root, line_idx: usize, is_back: bool, left: usize) {
-        // Few for a cursor that has turned, as it may turn again; and no few are left for another time.
-        let room = if is_back == self.is_back { self.room } else { FEW_LINES };
-        let room = if left <= 2 * room { left } else { room };
+        // One for a cursor that has turned, as it may turn again.
+        let room = if is_back == self.is_back || self.list.is_empty() { self.room.min(left) } else { 1 };
+        if self.list.capacity() == 0 {
+            self.list = ROOM.try_with(Cell::take).unwrap_or_default();
+        }
         fill(&mut self.list, room, |lines, room, count| unsafe {
-            match (is_back, self.before) {
-                (true, _) => ropey_lines_before(&root.0, line_idx + 1, lines, room, count),
-                (false, None) if room <= FEW_LINES => ropey_lines_from(&root.0, line_idx, lines, room, count),
-                (false, before) => {
-                    let start = before.map(|before| before.chars).or_else(|| root.line_to_char(line_idx));
-                    ropey_lines_at(&root.0, start.unwrap_or(0), lines, room, count, self.before.insert(Counts::NONE))
+            match self.before {
+                None if room > 1 && !is_back => {
+                    ropey_lines_from_at(&root.0, line_idx, lines, room, count, self.before.insert(Counts::NONE))
+                }
+                Some(at) if !is_back => ropey_lines_at(&root.0, at.chars, lines, room, count, self.before.insert(at)),
+                _ if room > 1 => ropey_lines_before(&root.0, line_idx + 1, lines, room, count),
+                _ => {
+                    *count = 1;
+                    ropey_line_slice(&root.0, line_idx, lines)
                 }
             }
         });
-        (self.first, self.is_back) = (line_idx, is_back);
-        self.room = if room <= FEW_LINES { SCREEN_LINES } else { MOST_LINES };
+        (self.first, self.is_back, self.room) = (line_idx, is_back, LINES);
     }
 }
 
-/// How many lines are fetched at once: at first, then as many as a screen has, and at most.
-const FEW_LINES: usize = 2;
-const SCREEN_LINES: usize = 48;
-const MOST_LINES: usize = 64;
+/// How many lines are fetched at once: as many as a screen has. In a slice it is one at first.
+const LINES: usize = 50;
 
 /// Conversions in a text, by the set of line breaks where it is given. An index past the end stands for the end.
 macro_rules! text_conversions {
@@ -599,9 +661,7 @@ macro_rules! text_conversions {
             $(#[$doc])*
             #[inline]
             pub fn $name(text: &str, index: usize) -> usize {
-                let mut answer = 0;
-                must(unsafe { $call(text.as_ptr(), text.len(), $($break_set,)? index, &mut answer) });
-                answer
+                known(written(|answer| unsafe { $call(text.as_ptr(), text.len(), $($break_set,)? index, answer) }))
             }
         )*
     };
@@ -631,9 +691,8 @@ impl Counts {
 
     /// How much a text holds.
     pub(crate) fn of(text: &str) -> Counts {
-        let mut counts = Counts::NONE;
-        must(unsafe { ropey_text_counts(text.as_ptr(), text.len(), BREAK_SET, &mut counts) });
-        counts
+        // Safety: a `&str` is UTF-8.
+        known(written(|counts| unsafe { ropey_text_counts_unchecked(text.as_ptr(), text.len(), BREAK_SET, counts) }))
     }
 
     #[inline(always)]

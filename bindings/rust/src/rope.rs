@@ -98,7 +98,7 @@ impl Rope {
     ///
     /// The writer's first error. A beginning of the text is written then.
     pub fn write_to<T: io::Write>(&self, mut writer: T) -> io::Result<()> {
-        self.chunks().try_for_each(|chunk| writer.write_all(chunk.as_bytes()))
+        self.chunks().read().try_for_each(|chunk| writer.write_all(chunk.as_bytes()))
     }
 }
 
@@ -279,10 +279,12 @@ impl Rope {
     }
 
     fn slice_chars(&self, bounds: Bounds) -> Result<RopeSlice<'_>> {
-        self.part().slice_chars(bounds)
+        let (from, to) = bounds.of_chars(self.len_chars())?;
+        Ok(RopeSlice::of_chars(&self.root, from, to))
     }
 
     fn slice_bytes(&self, bounds: Bounds) -> Result<RopeSlice<'_>> {
-        self.part().slice_bytes(bounds)
+        let (from, to) = bounds.of_bytes(self.len_bytes())?;
+        RopeSlice::of_bytes(&self.root, from, to).ok_or(bounds.inside_character())
     }
 }

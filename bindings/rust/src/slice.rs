@@ -2,7 +2,7 @@
 use std::ops::RangeBounds;
 
 use crate::calls::panicking_calls;
-use crate::ffi::{self, ChunkAt, Counts, Lent, Pieces, Root};
+use crate::ffi::{self, Before, ChunkAt, Counts, Lent, Pieces, Root};
 use crate::iter::{Bytes, Chars, Chunks, InChunk, Lines};
 use crate::range::Bounds;
 use crate::str_utils::first_line;
@@ -100,6 +100,9 @@ impl<'a> RopeSlice<'a> {
 
     /// The bytes of a rope from `start` up to `end`, which are in range; none where one of them lies inside a character.
     pub(crate) fn of_bytes(root: &'a Root, start: usize, end: usize) -> Option<RopeSlice<'a>> {
+        if root.len_chars() == root.len_bytes() {
+            return Some(RopeSlice::of_chars(root, start, end));
+        }
         if end - start <= MAX_BYTES {
             let (text, before, ..) = known(root.chunk_at_byte(start));
             if end - before <= text.len() {
@@ -146,42 +149,22 @@ impl<'a> RopeSlice<'a> {
 }
 
 macro_rules! conversions {
-    ($($name:ident($index:ident: $from:ident -> $to:ident) else $error:ident by $call:ident for $plain:literal;)*) => {
+    (
+        $($name:ident($index:ident of $len:ident: $from:ident -> $to:ident)
+            else $error:ident by $call:ident for $plain:literal;)*
+    ) => {
         $(
             #[doc = concat!("What [`", $plain, "`](Self::", $plain, ") answers, refused where the index is past the end.")]
             #[inline]
             pub fn $name(&self, $index: usize) -> Result<usize> {
-                let counts = self.counts;
-                if $index >= counts.$from {
-                    return if $index == counts.$from { Ok(counts.$to) } else { Err(Error::$error($index, counts.$from)) };
-                }
+                let (len, all) = (self.$len(), self.counts.$to);
                 Ok(match self.part {
+                    _ if $index > len => return Err(Error::$error($index, len)),
+                    _ if $index == len => all,
                     _ if $index == 0 => 0,
-                    Part::Range { root, start } => known(root.$call(start.$from + $index)) - start.$to,
-                    Part::Text(text) => ffi::$call(text, $index),
-                })
-            }
-        )*
-    };
-}
-
-macro_rules! line_starts {
-    ($($name:ident -> $to:ident by $call:ident for $plain:literal;)*) => {
-        $(
-            #[doc = concat!("What [`", $plain, "`](Self::", $plain, ") answers, refused where the index is past the last line.")]
-            #[inline]
-            pub fn $name(&self, line_idx: usize) -> Result<usize> {
-                let (lines, len) = (self.len_lines(), self.counts.$to);
-                if line_idx >= lines {
-                    return if line_idx == lines { Ok(len) } else { Err(Error::LineIndexOutOfBounds(line_idx, lines)) };
-                }
-                Ok(match self.part {
-                    _ if line_idx == 0 => 0,
                     // The line after a CR whose LF is cut off starts past the range.
-                    Part::Range { root, start } => {
-                        len.min(known(root.$call(start.line_breaks + line_idx)) - start.$to)
-                    }
-                    Part::Text(text) => ffi::$call(text, line_idx),
+                    Part::Range { root, start } => all.min(known(root.$call(start.$from + $index)) - start.$to),
+                    Part::Text(text) => ffi::$call(text, $index),
                 })
             }
         )*
@@ -229,19 +212,22 @@ impl<'a> RopeSlice<'a> {
     panicking_calls!('a);
 
     conversions! {
-        try_byte_to_char(byte_idx: bytes -> chars) else ByteIndexOutOfBounds by byte_to_char for "byte_to_char";
-        try_byte_to_line(byte_idx: bytes -> line_breaks) else ByteIndexOutOfBounds by byte_to_line for "byte_to_line";
-        try_char_to_byte(char_idx: chars -> bytes) else CharIndexOutOfBounds by char_to_byte for "char_to_byte";
-        try_char_to_line(char_idx: chars -> line_breaks) else CharIndexOutOfBounds by char_to_line for "char_to_line";
-        try_char_to_utf16_cu(char_idx: chars -> utf16)
+        try_byte_to_char(byte_idx of len_bytes: bytes -> chars)
+            else ByteIndexOutOfBounds by byte_to_char for "byte_to_char";
+        try_byte_to_line(byte_idx of len_bytes: bytes -> line_breaks)
+            else ByteIndexOutOfBounds by byte_to_line for "byte_to_line";
+        try_char_to_byte(char_idx of len_chars: chars -> bytes)
+            else CharIndexOutOfBounds by char_to_byte for "char_to_byte";
+        try_char_to_line(char_idx of len_chars: chars -> line_breaks)
+            else CharIndexOutOfBounds by char_to_line for "char_to_line";
+        try_char_to_utf16_cu(char_idx of len_chars: chars -> utf16)
             else CharIndexOutOfBounds by char_to_utf16 for "char_to_utf16_cu";
-        try_utf16_cu_to_char(utf16_cu_idx: utf16 -> chars)
+        try_utf16_cu_to_char(utf16_cu_idx of len_utf16_cu: utf16 -> chars)
             else Utf16IndexOutOfBounds by utf16_to_char for "utf16_cu_to_char";
-    }
-
-    line_starts! {
-        try_line_to_byte -> bytes by line_to_byte for "line_to_byte";
-        try_line_to_char -> chars by line_to_char for "line_to_char";
+        try_line_to_byte(line_idx of len_lines: line_breaks -> bytes)
+            else LineIndexOutOfBounds by line_to_byte for "line_to_byte";
+        try_line_to_char(line_idx of len_lines: line_breaks -> chars)
+            else LineIndexOutOfBounds by line_to_char for "line_to_char";
     }
 
     /// A byte; none where the index is past the last one.
@@ -377,8 +363,8 @@ impl<'a> RopeSlice<'a> {
     #[inline]
     fn behind(&self, byte_idx: usize) -> InChunk<'a> {
         match self.part {
-            Part::Range { root, start } => Chunks::behind(root, start, self.counts, byte_idx),
-            Part::Text(text) => (Chunks::of_text(text, true), text, byte_idx),
+            Part::Range { root, start } => self.chunks().behind(root, start, self.counts, byte_idx),
+            Part::Text(text) => (self.chunks().at_end(), text, byte_idx),
         }
     }
 
@@ -417,31 +403,27 @@ impl<'a> RopeSlice<'a> {
         &self,
         index: usize,
         len: usize,
-        find: impl FnOnce(&'a Root, Counts, &mut Pieces<'a>) -> (usize, usize, usize),
+        find: impl FnOnce(&'a Root, Counts, &mut Pieces<'a>) -> Before,
     ) -> Option<ChunksAt<'a>> {
-        let all = self.counts;
-        let chunks = match self.part {
+        let (mut chunks, all) = (self.chunks(), self.counts);
+        Some(match self.part {
             _ if index > len => return None,
-            Part::Range { root, start } if index < len => {
-                let mut chunks = Chunks::of_range(root, start, all, 0);
-                let (bytes, chars, breaks) = find(root, start, &mut chunks.pieces);
-                chunks.stand(bytes);
+            _ if index == len => (chunks.at_end(), all.bytes, all.chars, all.line_breaks),
+            Part::Range { root, start } => {
+                let (bytes, chars, breaks) = chunks.find(|pieces| find(root, start, pieces));
                 let (bytes, chars) = (bytes.saturating_sub(start.bytes), chars.saturating_sub(start.chars));
-                return Some((chunks, bytes, chars, breaks.saturating_sub(start.line_breaks)));
+                (chunks, bytes, chars, breaks.saturating_sub(start.line_breaks))
             }
-            Part::Text(text) if index < len => return Some((Chunks::of_text(text, false), 0, 0, 0)),
-            Part::Range { root, start } => Chunks::of_range(root, start, all, all.bytes),
-            Part::Text(text) => Chunks::of_text(text, true),
-        };
-        Some((chunks, all.bytes, all.chars, all.line_breaks))
+            Part::Text(_) => (chunks, 0, 0, 0),
+        })
     }
 
     /// A cursor over the chunks.
-    #[inline]
+    #[inline(always)]
     pub fn chunks(&self) -> Chunks<'a> {
         match self.part {
-            Part::Range { root, start } => Chunks::of_range(root, start, self.counts, 0),
-            Part::Text(text) => Chunks::of_text(text, false),
+            Part::Range { root, start } => Chunks::over(Some(root), start, self.counts.bytes, ""),
+            Part::Text(text) => Chunks::over(None, Counts::NONE, text.len(), text),
         }
     }
 }

@@ -64,50 +64,38 @@ impl Default for Rope {
 impl<'a> From<RopeSlice<'a>> for String {
     fn from(slice: RopeSlice<'a>) -> String {
         let mut text = String::with_capacity(slice.len_bytes());
-        slice.chunks().for_each(|chunk| text.push_str(chunk));
+        slice.chunks().read().for_each(|chunk| text.push_str(chunk));
         text
     }
 }
 
-impl<'a> From<RopeSlice<'a>> for Cow<'a, str> {
+macro_rules! texts_of {
+    ($($(#[$doc:meta])* <$($life:lifetime)?> $from:ty => $to:ty: |$text:ident| $made:expr;)*) => {
+        $(
+            impl<$($life)?> From<$from> for $to {
+                $(#[$doc])*
+                fn from($text: $from) -> $to {
+                    $made
+                }
+            }
+        )*
+    };
+}
+
+texts_of! {
+    <> Rope => String: |rope| String::from(&rope);
+    <'a> &'a Rope => String: |rope| rope.slice(..).into();
+    <'a> Rope => Cow<'a, str>: |rope| Cow::Owned(rope.into());
     /// The text itself where it lies in one piece, and else a copy of it.
-    fn from(slice: RopeSlice<'a>) -> Cow<'a, str> {
-        match slice.as_str() {
-            Some(text) => Cow::Borrowed(text),
-            None => Cow::Owned(slice.into()),
-        }
-    }
-}
-
-impl<'a> From<&'a Rope> for String {
-    fn from(rope: &'a Rope) -> String {
-        rope.root.copied(0, rope.len_bytes())
-    }
-}
-
-impl From<Rope> for String {
-    fn from(rope: Rope) -> String {
-        String::from(&rope)
-    }
-}
-
-impl<'a> From<&'a Rope> for Cow<'a, str> {
+    <'a> &'a Rope => Cow<'a, str>: |rope| rope.slice(..).into();
     /// The text itself where it lies in one piece, and else a copy of it.
-    fn from(rope: &'a Rope) -> Cow<'a, str> {
-        rope.slice(..).into()
-    }
-}
-
-impl<'a> From<Rope> for Cow<'a, str> {
-    fn from(rope: Rope) -> Cow<'a, str> {
-        Cow::Owned(rope.into())
-    }
+    <'a> RopeSlice<'a> => Cow<'a, str>: |slice| slice.as_str().map_or_else(|| Cow::Owned(slice.into()), Cow::Borrowed);
 }
 
 // Comparisons, of texts by their bytes.
 
 fn order(left: RopeSlice<'_>, right: RopeSlice<'_>) -> Ordering {
-    let (mut left_chunks, mut right_chunks) = (left.chunks(), right.chunks());
+    let (mut left_chunks, mut right_chunks) = (left.chunks().read(), right.chunks().read());
     let (mut left, mut right): (&[u8], &[u8]) = (b"", b"");
     loop {
         if left.is_empty() {
@@ -224,21 +212,19 @@ impl Hash for RopeSlice<'_> {
         let mut filled = 0;
         for chunk in self.chunks() {
             let mut bytes = chunk.as_bytes();
-            if filled > 0 {
-                let (head, rest) = bytes.split_at(bytes.len().min(BLOCK - filled));
-                block[filled..filled + head.len()].copy_from_slice(head);
-                filled += head.len();
+            while !bytes.is_empty() {
+                let (part, rest) = bytes.split_at(bytes.len().min(BLOCK - filled));
                 bytes = rest;
-                if filled < BLOCK {
+                if part.len() == BLOCK {
+                    state.write(part);
                     continue;
                 }
-                state.write(&block);
+                block[filled..filled + part.len()].copy_from_slice(part);
+                filled = (filled + part.len()) % BLOCK;
+                if filled == 0 {
+                    state.write(&block);
+                }
             }
-            let blocks = bytes.chunks_exact(BLOCK);
-            let rest = blocks.remainder();
-            blocks.for_each(|block| state.write(block));
-            block[..rest.len()].copy_from_slice(rest);
-            filled = rest.len();
         }
         if filled > 0 {
             state.write(&block[..filled]);
@@ -261,7 +247,7 @@ macro_rules! shown {
         $(
             impl fmt::Display for $text {
                 fn fmt(&self, f: &mut fmt::Formatter<'_>) -> fmt::Result {
-                    self.chunks().try_for_each(|chunk| f.write_str(chunk))
+                    self.chunks().read().try_for_each(|chunk| f.write_str(chunk))
                 }
             }
 

@@ -1,15 +1,25 @@
 -- What lies before a character, by what is left behind it, and the parts of that.
-use Rattle.std.proofs.Common.{◌≡◌, ℕ, ◌+◌, ◌-◌, ◌≤◌, List, take, drop, sym, ap, ◌∙◌, arith}
-use Rattle.std.proofs.lemmas.List.{take-append-drop}
+use Rattle.std.proofs.Common.{◌≡◌, ℕ, ◌+◌, ◌-◌, ◌≤◌, ◌<◌, ◌^◌, nat_le, List, length, take, drop, sym, ap, ◌∙◌, arith}
+use Rattle.std.proofs.lemmas.List.{take-append-drop, take_all, length-take-le}
+use Rattle.std.proofs.lemmas.List.Sums.{count_by-le-length}
+use Rattle.std.proofs.lemmas.Str.{length-le-encodes}
 use Rattle.std.specs.List.{slice_range}
 use Rattle.rope_text.specs.declared.line_breaks.LineBreaks.{LineBreaks}
-use Rattle.rope_text.specs.Text.{byte_len, utf16_len}
+use Rattle.rope_text.specs.declared.text_info.TextInfo.{TextInfo}
+use Rattle.rope_text.specs.Conversions.{line_to_char}
+use Rattle.rope_text.specs.Lines.{line_start}
+use Rattle.rope_text.specs.Text.{byte_len, utf16_len, surrogate_count}
 use Rattle.rope_text.specs.Content.{Content}
 use Rattle.rope_text.specs.Cutting.{clip}
 use Rattle.rope_text.specs.LineParts.{part_between}
 use Rattle.rope_text.proofs.Measures.{IsMeasure, IsMeasure-byte_len, IsMeasure-utf16_len}
 use Rattle.rope_text.proofs.ClipLaws.{slice_range-slice_range, clip-clip}
+use Rattle.rope_text.proofs.LineLaws.{line_start-le-length}
+use Rattle.rope_text.proofs.LineSeams.{line_start_apart}
+use Rattle.rope_text.proofs.SliceLaws.{breaks_apart}
+use Rattle.rope_text.specs.TextInfo.{info_of}
 use Rattle.rope_slice.specs.Sliced.{IsSlice}
+use Rattle.ropey_c.specs.Before.{IsBefore}
 
 size_parts : (size : List ℕ → ℕ) → IsMeasure size → (text : List ℕ) (i : ℕ) → size (take i text) + size (drop i text) ≡ size text
 size_parts size m text i = sym (m.joined (take i text) (drop i text)) ∙ ap size (take-append-drop i text)
@@ -36,3 +46,32 @@ part_of_rest whole part a b len ordered within s =
     ap (λ t. of t part.chunks part.breaks) text
     ∙ ap (λ c. of (slice_range whole.text a b) c part.breaks) chunks
     ∙ ap (of (slice_range whole.text a b) (clip whole.chunks a b)) s.breaks
+
+-- the counts of the text before a line
+abbrev pub info_before : LineBreaks → List ℕ → ℕ → TextInfo
+info_before breaks text l = info_of breaks (take (line_start breaks text l) text)
+
+pub before_line : (breaks : LineBreaks) (text : List ℕ) (l : ℕ) (info : TextInfo) → info ≡ info_before breaks text l
+    → IsBefore breaks text (line_to_char breaks text l) (record { bytes = info.bytes; chars = info.chars; utf16 = info.chars + info.utf16_surrogates; line_breaks = info.break_count })
+before_line breaks text l info same =
+    let fits = line_start-le-length breaks text l in record {
+      bytes = ap (λ x. x.bytes) same;
+      chars = ap (λ x. x.chars) same ∙ length-take-le (line_start breaks text l) text fits;
+      utf16 = ap (λ x. x.chars + x.utf16_surrogates) same;
+      line_breaks = ap (λ x. x.break_count) same ∙ sym (breaks_apart breaks text (line_start breaks text l) fits (line_start_apart breaks text l));
+    }
+
+-- what a slice of all of a text shows
+pub whole_range : (text : List ℕ) → slice_range text 0 (length text) ≡ text
+whole_range text =
+    let all : length text - 0 ≡ length text = omega arith in
+    ap (λ n. take n text) all ∙ take_all (length text) text (omega arith)
+
+-- so many characters and pairs are counted
+pub units_fit : (breaks : LineBreaks) (text : List ℕ) (l : ℕ) (info : TextInfo) → info ≡ info_before breaks text l → byte_len text < 2 ^ 63
+    → info.chars + info.utf16_surrogates < 2 ^ 64
+units_fit breaks text l info same fits =
+    let front = take (line_start breaks text l) text in
+    let bytes : length front ≤ byte_len front = length-le-encodes front in
+    let pairs : surrogate_count front ≤ length front = count_by-le-length (λ c. nat_le 65536 c) front in
+    omega (arith, ap (λ x. x.chars) same, ap (λ x. x.utf16_surrogates) same, bytes, pairs, byte_parts text (line_start breaks text l), fits)

@@ -1,17 +1,17 @@
 -- Parts of a rope's text with what lies before them, as C sees them.
-use Rattle.std.specs.Prelude.{◌≡◌, ℕ, ◌<◌, ◌≤◌, List, length, take, Option, Some, None}
+use Rattle.std.specs.Prelude.{◌≡◌, ◌≢◌, ℕ, ◌<◌, ◌≤◌, List, length, take, Option, Some, None}
 use Rattle.std.specs.List.{slice_range}
 use Rattle.rope_text.specs.declared.error.Error.{Error}
 use Rattle.rope_text.specs.declared.line_breaks.LineBreaks.{LineBreaks}
 use Rattle.rope_text.specs.Text.{byte_len, utf16_len}
 use Rattle.rope_text.specs.Content.{Content}
-use Rattle.rope_text.specs.Conversions.{char_to_line}
+use Rattle.rope_text.specs.Conversions.{char_to_line, line_to_char}
 use Rattle.rope_text.specs.LineParts.{lines_of, part_between}
 use Rattle.rope_text.specs.Edit.{char_range_error}
 use Rattle.ropey.specs.View.{RopeView, content}
 use Rattle.ropey_c.specs.Status.{status_of}
 use Rattle.ropey_c.specs.Counts.{IsCounts}
-use Rattle.ropey_c.specs.Slices.{shown, shown_as, Shows}
+use Rattle.ropey_c.specs.Slices.{shown, shown_as, Shows, ShowsLinesFrom}
 use Rattle.ropey_c.specs.declared.counts.Counts.{Counts}
 use Rattle.ropey_c.specs.declared.slices.Slice.{Slice}
 use Rattle.ropey_c.specs.declared.status.TheConstants.{OK, NO_ROPE_HELD, CHAR_INDEX_OUT_OF_BOUNDS}
@@ -54,3 +54,12 @@ ShowsLinesAt (Some rope) i status old new count_old count before_old before =
     (length rope.text < i → (status ≡ CHAR_INDEX_OUT_OF_BOUNDS) × (new ≡ old) × (count ≡ count_old) × (before ≡ before_old))
     × (i ≤ length rope.text → (status ≡ OK) × IsBefore rope.breaks rope.text i before
     × Shows (lines_of (part_between (content rope) i (length rope.text))) old new count)
+
+-- the lines from one on, and what lies before the first of them, where it is OK
+abbrev pub ShowsLinesFromAt : Option RopeView → ℕ → ℕ → List Slice → List Slice → ℕ → ℕ → Counts → Counts → Type 0
+ShowsLinesFromAt None i status old new count_old count before_old before =
+    ShowsLinesFrom None i status old new count_old count × (before ≡ before_old)
+ShowsLinesFromAt (Some rope) i status old new count_old count before_old before =
+    ShowsLinesFrom (Some rope) i status old new count_old count
+    × (status ≢ OK → before ≡ before_old)
+    × (status ≡ OK → IsBefore rope.breaks rope.text (line_to_char rope.breaks rope.text i) before)

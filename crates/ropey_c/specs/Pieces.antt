@@ -8,6 +8,7 @@ use Rattle.rope_text.specs.Lookup.{found_chunk, front_chunks, LieBefore, chunk_p
 use Rattle.rope_text.specs.Conversions.{line_to_byte}
 use Rattle.rope_text.specs.LineParts.{line_of}
 use Rattle.rope_text.specs.Lines.{line_count}
+use Rattle.rope_text.specs.Sides.{Sides, ahead}
 use Rattle.ropey.specs.View.{RopeView, content}
 use Rattle.ropey_c.specs.declared.status.TheConstants.{OK, NO_ROPE_HELD, BYTE_INDEX_OUT_OF_BOUNDS, LINE_INDEX_OUT_OF_BOUNDS}
 use Rattle.ropey_c.specs.declared.lookups.Span.{Span}
@@ -66,6 +67,14 @@ FillsAt (Some rope) len i place missing status old new count_old count bytes_old
     (len rope < i → (status ≡ missing) × (new ≡ old) × (count ≡ count_old) × (bytes ≡ bytes_old) × (chars ≡ chars_old) × (breaks ≡ breaks_old))
     × (i ≤ len rope → (status ≡ OK) × LieBefore (found_chunk rope.breaks rope.chunks (place rope)) bytes chars breaks
     × Fills (drop (place rope) rope.chunks) old new count)
+
+-- the chunks ahead of a cursor that was found, with the bytes, the characters and the line breaks before it; where none was found,
+-- what is missing
+abbrev pub FillsFound : Option (Sides (List ℕ) × ℕ × ℕ × ℕ) → ℕ → ℕ → List Piece → List Piece → ℕ → ℕ → ℕ → ℕ → ℕ → ℕ → ℕ → ℕ → Type 0
+FillsFound None missing status old new count_old count bytes_old bytes chars_old chars breaks_old breaks =
+    (status ≡ missing) × (new ≡ old) × (count ≡ count_old) × (bytes ≡ bytes_old) × (chars ≡ chars_old) × (breaks ≡ breaks_old)
+FillsFound (Some found) missing status old new count_old count bytes_old bytes chars_old chars breaks_old breaks =
+    (status ≡ OK) × Fills (ahead found.0) old new count × (bytes ≡ found.1) × (chars ≡ found.2) × (breaks ≡ found.3)
 
 -- the bytes of a line, and the pieces of its text: the chunks, clipped to it
 abbrev pub FillsLine : Option RopeView → ℕ → ℕ → List Piece → List Piece → ℕ → ℕ → Span → Span → Type 0

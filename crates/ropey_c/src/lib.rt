@@ -2,8 +2,8 @@
 //!
 //! A program holds a rope by a struct of one pointer, which is null where there is no rope. An edit gets it as a
 //! [`handle::Handle`], by `&mut`; a look-up as a [`lent::Lent`], by `&`, so that look-ups leave it alone. Each function tests
-//! every index, text and number that it is given: none has a condition, but for [`makers::ropey_from_text_unchecked`]. It
-//! answers a status: 0, or the number of the first reason for which it was refused. A refused call leaves the ropes as they
+//! every index, text and number that it is given: none has a condition, but for [`makers::ropey_from_text_unchecked`] and
+//! [`texts::ropey_text_counts_unchecked`], whose text is UTF-8. It answers a status: 0, or the number of the first reason for which it was refused. A refused call leaves the ropes as they
 //! were, and writes nothing, but where its comment says so. `Global`, the allocator of the C library, takes no bytes, so C
 //! passes nothing for it. No call walks more text than its namesake of `ropey`.
 //!

@@ -82,8 +82,7 @@ pub extern "C" fn ropey_from_text(
 }
 
 /// Makes a rope of a copy of a text that is known to be UTF-8, without reading it to find out, and frees the one that the
-/// handle held. This alone of all calls has a condition: what it makes of other bytes is no rope, and anything may come of
-/// it later.
+/// handle held. That is its condition: what it makes of other bytes is no rope, and anything may come of it later.
 ///
 /// Takes time and memory in proportion to the text, which is at most `isize::MAX` bytes.
 ///

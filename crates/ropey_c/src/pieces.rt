@@ -10,7 +10,7 @@ ghost use Rattle.rope_text.specs.Lines.{line_count};
 ghost use Rattle.rope_text.specs.Lookup.{chunk_place_at_byte, chunk_place_at_char, chunk_place_at_line_break};
 ghost use Rattle.rope_text.specs.Sides.{ahead};
 ghost use Rattle.ropey_c.specs.Handles.{HoldsRope};
-ghost use Rattle.ropey_c.specs.Pieces.{Fills, FillsBy, FillsFrom, FillsBefore, FillsAt, FillsLine};
+ghost use Rattle.ropey_c.specs.Pieces.{Fills, FillsBy, FillsFrom, FillsBefore, FillsAt, FillsFound, FillsLine};
 
 use crate::lent::Lent;
 use crate::lookups::Span;
@@ -157,32 +157,33 @@ fn write_chunks<'a>(
     *count = fill(chunks, pieces);
 }
 
-fn find_chunks_at_byte<'a>(
-    rope: &'a Rope,
-    byte_idx: usize,
+// The same of what was found; where nothing was, answers why.
+fn write_found<'a>(
+    found: Option<ChunksAt<'a>>,
+    missing: u32,
     pieces: &mut [Piece<'a>],
     count: &mut usize,
     bytes_before: &mut usize,
     chars_before: &mut usize,
     line_breaks_before: &mut usize,
 ) -> u32
-    ensures { FillsAt (Some rope.now) (λ r. byte_len r.text) byte_idx (λ r. chunk_place_at_byte r.chunks byte_idx)
-        BYTE_INDEX_OUT_OF_BOUNDS result pieces.old pieces.new count.old count.new bytes_before.old bytes_before.new
+    ensures { FillsFound found.entry missing result pieces.old pieces.new count.old count.new bytes_before.old bytes_before.new
         chars_before.old chars_before.new line_breaks_before.old line_breaks_before.new }
 {
-    if byte_idx > rope.len_bytes() {
-        return BYTE_INDEX_OUT_OF_BOUNDS;
+    match found {
+        Some(found) => {
+            write_chunks(
+                found,
+                pieces,
+                count,
+                bytes_before,
+                chars_before,
+                line_breaks_before,
+            );
+            OK
+        }
+        None => missing,
     }
-    let found = rope.chunks_at_byte(byte_idx);
-    write_chunks(
-        found,
-        pieces,
-        count,
-        bytes_before,
-        chars_before,
-        line_breaks_before,
-    );
-    OK
 }
 
 /// The chunks from the one that holds the byte `byte_idx` on, as `ropey_chunks_from_byte` gives them, with how many bytes,
@@ -210,43 +211,15 @@ pub extern "C" fn ropey_chunks_at_byte<'a>(
     let Some(held) = rope.held() else {
         return NO_ROPE_HELD;
     };
-    find_chunks_at_byte(
-        held,
-        byte_idx,
+    write_found(
+        held.get_chunks_at_byte(byte_idx),
+        BYTE_INDEX_OUT_OF_BOUNDS,
         pieces,
         count,
         bytes_before,
         chars_before,
         line_breaks_before,
     )
-}
-
-fn find_chunks_at_char<'a>(
-    rope: &'a Rope,
-    char_idx: usize,
-    pieces: &mut [Piece<'a>],
-    count: &mut usize,
-    bytes_before: &mut usize,
-    chars_before: &mut usize,
-    line_breaks_before: &mut usize,
-) -> u32
-    ensures { FillsAt (Some rope.now) (λ r. length r.text) char_idx (λ r. chunk_place_at_char r.chunks char_idx)
-        CHAR_INDEX_OUT_OF_BOUNDS result pieces.old pieces.new count.old count.new bytes_before.old bytes_before.new
-        chars_before.old chars_before.new line_breaks_before.old line_breaks_before.new }
-{
-    if char_idx > rope.len_chars() {
-        return CHAR_INDEX_OUT_OF_BOUNDS;
-    }
-    let found = rope.chunks_at_char(char_idx);
-    write_chunks(
-        found,
-        pieces,
-        count,
-        bytes_before,
-        chars_before,
-        line_breaks_before,
-    );
-    OK
 }
 
 /// The same from the chunk on that holds the character `char_idx`.
@@ -272,43 +245,15 @@ pub extern "C" fn ropey_chunks_at_char<'a>(
     let Some(held) = rope.held() else {
         return NO_ROPE_HELD;
     };
-    find_chunks_at_char(
-        held,
-        char_idx,
+    write_found(
+        held.get_chunks_at_char(char_idx),
+        CHAR_INDEX_OUT_OF_BOUNDS,
         pieces,
         count,
         bytes_before,
         chars_before,
         line_breaks_before,
     )
-}
-
-fn find_chunks_at_line_break<'a>(
-    rope: &'a Rope,
-    line_idx: usize,
-    pieces: &mut [Piece<'a>],
-    count: &mut usize,
-    bytes_before: &mut usize,
-    chars_before: &mut usize,
-    line_breaks_before: &mut usize,
-) -> u32
-    ensures { FillsAt (Some rope.now) (λ r. line_count r.breaks r.text) line_idx (λ r. chunk_place_at_line_break r.breaks r.chunks line_idx)
-        LINE_INDEX_OUT_OF_BOUNDS result pieces.old pieces.new count.old count.new bytes_before.old bytes_before.new
-        chars_before.old chars_before.new line_breaks_before.old line_breaks_before.new }
-{
-    if line_idx > rope.len_lines() {
-        return LINE_INDEX_OUT_OF_BOUNDS;
-    }
-    let found = rope.chunks_at_line_break(line_idx);
-    write_chunks(
-        found,
-        pieces,
-        count,
-        bytes_before,
-        chars_before,
-        line_breaks_before,
-    );
-    OK
 }
 
 /// The same from the chunk on that holds the line break before the line `line_idx`, and for the first line from the first
@@ -335,9 +280,9 @@ pub extern "C" fn ropey_chunks_at_line_break<'a>(
     let Some(held) = rope.held() else {
         return NO_ROPE_HELD;
     };
-    find_chunks_at_line_break(
-        held,
-        line_idx,
+    write_found(
+        held.get_chunks_at_line_break(line_idx),
+        LINE_INDEX_OUT_OF_BOUNDS,
         pieces,
         count,
         bytes_before,

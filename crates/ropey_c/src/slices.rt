@@ -7,18 +7,21 @@
 ghost use Rattle.std.specs.Prelude.{◌≡◌, ◌<◌, ◌≤◌, [], length, drop, Some};
 ghost use Rattle.std.specs.Iterator.{IsFinite};
 ghost use Rattle.std.specs.Str.{chars, encode_utf8_all};
+ghost use Rattle.rope_text.specs.Conversions.{line_to_char};
 ghost use Rattle.rope_text.specs.LineParts.{part_between, lines_of};
+ghost use Rattle.rope_text.specs.Lines.{line_count};
 ghost use Rattle.rope_slice.specs.Slice.{content_of, text_of, chunks_of, breaks_of};
 ghost use Rattle.ropey.specs.View.{content};
 ghost use Rattle.ropey_c.specs.Handles.{HoldsRope};
 ghost use Rattle.ropey_c.specs.Slices.{shown, shown_as, SliceOfChars, SliceOfLine, ShowsBy, ShowsLinesFrom, ShowsLinesBefore};
-ghost use Rattle.ropey_c.specs.Before.{IsBefore, SliceOfCharsAt, CountsInCharsAt, ShowsLinesAt};
+ghost use Rattle.ropey_c.specs.Before.{IsBefore, SliceOfCharsAt, CountsInCharsAt, ShowsLinesAt, ShowsLinesFromAt};
 
 use crate::counts::{Counts, counts_of};
 use crate::lent::Lent;
 use crate::status::{
     CHAR_INDEX_OUT_OF_BOUNDS, LINE_INDEX_OUT_OF_BOUNDS, NO_ROPE_HELD, OK, status_of,
 };
+use rope_slice::part_of;
 use rope_text::range::char_bounds;
 use ropey::{Rope, RopeSlice};
 
@@ -377,4 +380,61 @@ pub extern "C" fn ropey_lines_at<'a>(
         return NO_ROPE_HELD;
     };
     find_lines_at(held, char_idx, lines, count, before)
+}
+
+// How much lies before a line.
+fn before_line(rope: &Rope, line_idx: usize) -> Counts
+    requires { line_idx ≤ line_count rope.now.breaks rope.now.text }
+    ensures { IsBefore rope.now.breaks rope.now.text
+        (line_to_char rope.now.breaks rope.now.text line_idx) result }
+{
+    let whole = rope.slice(..);
+    // For the proof: a slice has at most `isize::MAX` bytes, so the code units before a line are counted.
+    let _ = whole.len_bytes();
+    let before = part_of(whole).before_line(line_idx);
+    Counts {
+        bytes: before.bytes,
+        chars: before.chars,
+        utf16: before.chars + before.utf16_surrogates,
+        line_breaks: before.break_count,
+    }
+}
+
+fn find_lines_from_at<'a>(
+    rope: &'a Rope,
+    line_idx: usize,
+    lines: &mut [Slice<'a>],
+    count: &mut usize,
+    before: &mut Counts,
+) -> u32
+    ensures { ShowsLinesFromAt (Some rope.now) line_idx result lines.old lines.new count.old count.new before.old before.new }
+{
+    let status = find_lines(rope, line_idx, lines, count);
+    if status == OK {
+        *before = before_line(rope, line_idx);
+    }
+    status
+}
+
+/// The lines from the line `line_idx` on, as `ropey_lines_from` gives them, and how much of the text lies before the first of
+/// them. Costs a look-up more.
+///
+/// # Errors
+///
+/// `NO_ROPE_HELD`, then `LINE_INDEX_OUT_OF_BOUNDS`. Then nothing is written.
+#[unsafe(no_mangle)]
+pub extern "C" fn ropey_lines_from_at<'a>(
+    rope: &'a Lent,
+    line_idx: usize,
+    lines: &mut [Slice<'a>],
+    count: &mut usize,
+    before: &mut Counts,
+) -> u32
+    ensures answer { ShowsLinesFromAt rope.now.rope line_idx result lines.old lines.new count.old count.new before.old before.new }
+    ensures kept { HoldsRope rope.now.rope }
+{
+    let Some(held) = rope.held() else {
+        return NO_ROPE_HELD;
+    };
+    find_lines_from_at(held, line_idx, lines, count, before)
 }

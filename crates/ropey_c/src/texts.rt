@@ -1,15 +1,18 @@
-//! Counts of plain texts, and conversions between their indices. An index past the end counts as the end. Each call reads
-//! the text once to see that it is UTF-8, and takes no memory; one that is refused writes nothing.
+//! Counts of plain texts, and conversions between their indices. An index past the end counts as the end. Each call but
+//! [`ropey_text_counts_unchecked`] reads the text once to see that it is UTF-8. None takes memory; one that is refused writes
+//! nothing.
 ghost use Rattle.std.specs.Prelude.{◌≡◌, length};
-ghost use Rattle.std.specs.Str.{chars};
+ghost use Rattle.std.specs.Str.{IsUtf8, chars};
 ghost use Rattle.std.specs.Str.Lossy.{utf8_valid_len};
 ghost use Rattle.rope_text.specs.Conversions.{byte_to_char, byte_to_line, char_to_byte, char_to_line, char_to_utf16, line_to_byte, line_to_char, utf16_to_char};
 ghost use Rattle.ropey_c.specs.Counts.{IsCounts, CountsText, AnswersText, AnswersTextWith};
 ghost use Rattle.ropey_c.specs.Status.{given_breaks};
 
-use crate::counts::Counts;
+use crate::counts::{Counts, counts_of};
 use crate::status::{INVALID_UTF8, OK, UNKNOWN_BREAK_SET, given_breaks};
-use rope_text::{LineBreaks, TextInfo, str_utils, utf8};
+use rope_text::{LineBreaks, str_utils, utf8};
+use ropey::RopeSlice;
+use std::str;
 
 /// How many bytes at the front of the text are whole characters of UTF-8.
 #[unsafe(no_mangle)]
@@ -19,16 +22,11 @@ pub extern "C" fn ropey_text_valid_len(text: &[u8]) -> usize
     utf8::valid_len(text)
 }
 
-fn counts_of(text: &str, breaks: LineBreaks) -> Counts
+// Counts in one pass over the text.
+fn counts_in(text: &str, breaks: LineBreaks) -> Counts
     ensures { IsCounts breaks (chars text.now) result }
 {
-    let info = TextInfo::from_str(text, breaks);
-    Counts {
-        bytes: info.bytes,
-        chars: info.chars,
-        utf16: str_utils::count_utf16(text),
-        line_breaks: info.break_count,
-    }
+    counts_of(&RopeSlice::from_str_with(text, breaks))
 }
 
 /// How much text there is, with a set of line breaks.
@@ -46,7 +44,29 @@ pub extern "C" fn ropey_text_counts(text: &[u8], break_set: u32, counts: &mut Co
     let Some(text) = utf8::text_of(text) else {
         return INVALID_UTF8;
     };
-    *counts = counts_of(text, breaks);
+    *counts = counts_in(text, breaks);
+    OK
+}
+
+/// How much text there is, of a text that is known to be UTF-8, which is not read to find out. It has that condition, as
+/// `ropey_from_text_unchecked` does: of other bytes it may read past the end.
+///
+/// # Errors
+///
+/// `UNKNOWN_BREAK_SET`.
+#[unsafe(no_mangle)]
+pub extern "C" fn ropey_text_counts_unchecked(
+    text: &[u8],
+    break_set: u32,
+    counts: &mut Counts,
+) -> u32
+    requires { IsUtf8 text.now }
+    ensures { CountsText (given_breaks break_set) text.now result counts.old counts.new }
+{
+    let Some(set) = given_breaks(break_set) else {
+        return UNKNOWN_BREAK_SET;
+    };
+    *counts = counts_in(unsafe { str::from_utf8_unchecked(text) }, set);
     OK
 }
 

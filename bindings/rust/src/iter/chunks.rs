@@ -1,5 +1,5 @@
 //! Chunks, fetched some at a time.
-use crate::ffi::{Counts, Pieces, Root};
+use crate::ffi::{Before, Counts, Pieces, Root};
 use crate::iter::cursor;
 use crate::slice::{cut, known};
 use crate::MAX_BYTES;
@@ -16,10 +16,11 @@ use crate::MAX_BYTES;
 pub struct Chunks<'a> {
     // The rope, and some chunks around the cursor, of which so many lie behind it. Without a rope, a text in one piece.
     root: Option<&'a Root>,
-    pub(crate) pieces: Pieces<'a>,
+    pieces: Pieces<'a>,
     passed: usize,
-    // The range, and where the cursor stands, in bytes of the rope.
+    // The range, its first character, and where the cursor stands, in bytes of the rope.
     start: usize,
+    first_char: usize,
     end: usize,
     at: usize,
     is_reversed: bool,
@@ -43,72 +44,65 @@ impl Clone for Chunks<'_> {
 }
 
 impl<'a> Chunks<'a> {
-    /// Over a range of a rope, at its byte `at`, where a chunk begins, or at an end of the range.
-    #[inline]
-    pub(crate) fn of_range(root: &'a Root, start: Counts, counts: Counts, at: usize) -> Chunks<'a> {
-        let (start, end) = (start.bytes, start.bytes + counts.bytes);
-        Chunks { root: Some(root), pieces: Pieces::new(), passed: 0, start, end, at: start + at, is_reversed: false }
+    /// Over so many bytes of a rope from a place on, or, where there is no rope, over a text in one piece.
+    #[inline(always)]
+    pub(crate) fn over(root: Option<&'a Root>, start: Counts, len: usize, text: &'a str) -> Chunks<'a> {
+        let (pieces, first_char, start) = (Pieces::of(text), start.chars, start.bytes);
+        Chunks { root, pieces, passed: 0, start, first_char, end: start + len, at: start, is_reversed: false }
     }
 
-    /// Over a text in one piece, before or behind it.
     #[inline]
-    pub(crate) fn of_text(text: &'a str, is_behind: bool) -> Chunks<'a> {
-        let (pieces, end) = (Pieces::of(text), text.len());
-        let (passed, at) = if is_behind { (1, end) } else { (0, 0) };
-        Chunks { root: None, pieces, passed, start: 0, end, at, is_reversed: false }
+    pub(crate) fn at_end(mut self) -> Chunks<'a> {
+        (self.passed, self.at) = (self.pieces.len(), self.end);
+        self
     }
 
-    /// Over a range of a rope, behind the chunk that holds its byte `at`, or behind the last one; with that chunk, as far as
-    /// it lies in the range, and how many of its bytes lie before `at`.
+    /// Behind the chunk of the range that holds its byte `at`, or behind the last one; with that chunk, as far as it lies in the
+    /// range, and how many of its bytes lie before `at`.
     #[inline]
-    pub(crate) fn behind(root: &'a Root, start: Counts, counts: Counts, at: usize) -> InChunk<'a> {
-        let mut chunks = Chunks::of_range(root, start, counts, 0);
+    pub(crate) fn behind(mut self, root: &'a Root, start: Counts, counts: Counts, at: usize) -> InChunk<'a> {
         if at == 0 {
-            let text = known(chunks.forward());
-            return (chunks, text, 0);
+            let text = known(self.forward());
+            return (self, text, 0);
         }
         let (text, before, ..) = known(root.chunk_at_byte(start.bytes + at.min(counts.bytes - 1)));
         let (text, first) = cut(text, before, start, counts);
-        chunks.at = first + text.len();
-        (chunks, text, start.bytes + at - first)
+        self.at = first + text.len();
+        (self, text, start.bytes + at - first)
     }
 
-    #[inline]
+    #[inline(always)]
     pub(crate) fn forward(&mut self) -> Option<&'a str> {
-        let left = self.end - self.at;
-        if left == 0 {
-            return None;
-        }
-        if self.passed == self.pieces.len() {
-            self.fetch_ahead();
-        }
-        let mut text = self.pieces.get(self.passed)?;
-        if text.len() > left {
-            text = &text[..left];
-            self.pieces.set(self.passed, text);
-        }
+        let text = match self.pieces.get(self.passed) {
+            Some(text) => text,
+            None if self.at == self.end => return None,
+            None => self.fetch_ahead()?,
+        };
         self.passed += 1;
         self.at += text.len();
         Some(text)
     }
 
-    #[inline]
+    #[inline(always)]
     pub(crate) fn backward(&mut self) -> Option<&'a str> {
-        let left = self.at - self.start;
-        if left == 0 {
-            return None;
-        }
-        if self.passed == 0 {
-            self.fetch_behind();
-        }
-        let mut text = self.pieces.get(self.passed.checked_sub(1)?)?;
-        if text.len() > left {
-            text = &text[text.len() - left..];
-            self.pieces.set(self.passed - 1, text);
-        }
+        let text = match self.passed {
+            0 if self.at == self.start => return None,
+            0 => self.fetch_behind()?,
+            passed => self.pieces.get(passed - 1)?,
+        };
         self.passed -= 1;
         self.at -= text.len();
         Some(text)
+    }
+
+    /// Forward, by one who reads each text: the next one is on its way to the processor by then.
+    #[inline]
+    pub(crate) fn read(mut self) -> impl Iterator<Item = &'a str> {
+        std::iter::from_fn(move || {
+            let text = self.forward();
+            self.pieces.touch(self.passed);
+            text
+        })
     }
 
     /// From behind a chunk to behind the one before it, which is answered; stays where there is none.
@@ -120,31 +114,34 @@ impl<'a> Chunks<'a> {
         before
     }
 
-    /// Fetches the chunks ahead.
+    /// Fetches the chunks ahead, and answers the first of them.
     #[inline(never)]
-    fn fetch_ahead(&mut self) {
-        if let Some(root) = self.root {
-            let next = self.set_room(self.end - self.at);
-            let (first, ..) = self.pieces.fetch_at_byte(root, self.at);
-            (self.pieces.room, self.passed) = (next, 0);
-            self.cut_first(first);
-        }
+    fn fetch_ahead(&mut self) -> Option<&'a str> {
+        let (root, at) = (self.root?, self.at);
+        // By character, as the range was found, of which the processor has the counts at hand.
+        let first_char = (at == self.start).then_some(self.first_char);
+        self.find(|pieces| match first_char {
+            Some(first_char) => pieces.fetch_at_char(root, first_char),
+            None => pieces.fetch_at_byte(root, at),
+        });
+        self.pieces.get(0)
     }
 
-    /// Fetches the chunks behind; of the one in which the range ends, the part behind the cursor.
+    /// Fetches the chunks behind, and answers the last of them; of the one in which the range ends, the part behind the cursor.
     #[inline(never)]
-    fn fetch_behind(&mut self) {
-        if let Some(root) = self.root {
-            let next = self.set_room(self.at - self.start);
-            let end = self.pieces.fetch_before(root, self.at);
-            if end < self.at {
-                self.pieces.room = 1;
-                self.pieces.fetch_at_byte(root, end);
-                let text = known(self.pieces.get(0));
-                self.pieces.set(0, &text[..self.at - end]);
-            }
-            (self.pieces.room, self.passed) = (next, self.pieces.len());
+    fn fetch_behind(&mut self) -> Option<&'a str> {
+        let (root, left) = (self.root?, self.at - self.start);
+        let next = self.set_room(left);
+        let end = self.pieces.fetch_before(root, self.at, left);
+        if end < self.at {
+            self.pieces.room = 1;
+            self.pieces.fetch_at_byte(root, end);
+            let skipped = self.start.saturating_sub(end);
+            self.pieces.cut(skipped, self.at - end - skipped);
         }
+        self.pieces.room = next;
+        self.passed = self.pieces.len();
+        self.pieces.get(self.passed - 1)
     }
 
     /// Has about as many fetched as full chunks would have the text that is left, and two at least; answers how many to fetch the
@@ -155,17 +152,16 @@ impl<'a> Chunks<'a> {
         MOST.min(2 * room)
     }
 
-    /// Stands before the first of what was fetched, which begins at the byte `first` of the rope, or at the start of the range.
-    pub(crate) fn stand(&mut self, first: usize) {
-        self.at = first.max(self.start);
-        self.cut_first(first);
-    }
-
-    /// The first of what was fetched begins at the byte `first` of the rope, perhaps before the cursor, where the range does.
+    /// Fetches chunks from the one on that a look-up finds, and stands before it; answers what lies before it in the rope. Of the
+    /// chunks it keeps what lies in the range.
     #[inline]
-    fn cut_first(&mut self, first: usize) {
-        if let Some(text) = self.pieces.get(0).filter(|_| first < self.at) {
-            self.pieces.set(0, &text[self.at - first..]);
-        }
+    pub(crate) fn find(&mut self, look_up: impl FnOnce(&mut Pieces<'a>) -> Before) -> Before {
+        let next = self.set_room(self.end - self.at);
+        let before = look_up(&mut self.pieces);
+        self.pieces.room = next;
+        self.at = before.0.max(self.start);
+        self.passed = 0;
+        self.pieces.cut(self.at - before.0, self.end - self.at);
+        before
     }
 }

@@ -39,9 +39,9 @@ impl Clone for Lines<'_> {
 impl<'a> Lines<'a> {
     pub(crate) fn of(slice: RopeSlice<'a>, line_idx: usize) -> Lines<'a> {
         let idx = slice.as_str().filter(|_| line_idx > 0).map_or(0, |text| line_to_byte(text, line_idx));
-        let before = (line_idx == 0).then(|| slice.start());
         let (is_whole, total) = (slice.is_whole(), slice.len_lines());
-        Lines { slice, is_whole, window: Window::new(before), idx, passed: line_idx, total, is_reversed: false }
+        let window = Window::new((line_idx == 0).then(|| slice.start()), is_whole);
+        Lines { slice, is_whole, window, idx, passed: line_idx, total, is_reversed: false }
     }
 
     #[inline(always)]
@@ -92,10 +92,11 @@ impl<'a> Lines<'a> {
         };
         // The first line of a slice that isn't whole may be cut, and is fetched going forward alone, from where the slice starts.
         let left = if is_back { line_idx + usize::from(self.is_whole) } else { self.total - line_idx };
-        let (text, counts) = self.window.line(root, line, is_back, left);
-        let Some(text) = text else { return self.long_line(root, line, counts, is_back) };
-        self.pass(counts, is_back);
-        RopeSlice::of_text(text, counts)
+        let at = self.window.find(root, line, is_back, left);
+        let Some(text) = self.window.text(at) else { return self.long_line(root, line, at, is_back) };
+        self.pass(self.window.counts(at), is_back);
+        // Read again, and not kept: it would be stored and loaded in other parts.
+        RopeSlice::of_text(text, self.window.counts(at))
     }
 
     #[inline(always)]
@@ -107,7 +108,8 @@ impl<'a> Lines<'a> {
 
     /// A line that lies in several chunks.
     #[inline(never)]
-    fn long_line(&mut self, root: &'a Root, line: usize, counts: Counts, is_back: bool) -> RopeSlice<'a> {
+    fn long_line(&mut self, root: &'a Root, line: usize, at: usize, is_back: bool) -> RopeSlice<'a> {
+        let counts = self.window.counts(at);
         let start = match self.window.before {
             Some(before) if is_back => before.minus(counts),
             Some(before) => before,
@@ -134,8 +136,9 @@ impl<'a> Lines<'a> {
         let Some((root, line)) = self.slice.line_of_rope(line_idx, true).filter(|_| left.bytes > 0) else {
             return RopeSlice::EMPTY;
         };
-        let (text, counts) = self.window.line(root, line, false, self.total - line_idx);
+        let at = self.window.find(root, line, false, self.total - line_idx);
+        let counts = self.window.counts(at);
         let counts = if counts.bytes > left.bytes { left } else { counts };
-        RopeSlice::of_lent(root, (text.map(|text| &text[..counts.bytes]), counts), || before)
+        RopeSlice::of_lent(root, (self.window.text(at).map(|text| &text[..counts.bytes]), counts), || before)
     }
 }
