@@ -180,7 +180,7 @@ impl Children {
         requires takes { TakesShort (tree_over self.old) at added.now }
         requires side { MayInsert (tree_over self.old) at added.now to_right }
         ensures change { IfOk result (λ did. did ≡ true → GrowBy more.new self.old self.new) }
-        ensures made { maker.new.made ≤ maker.old.made + 3 * height_of self.old + 3 }
+        ensures made { maker.new.made ≤ maker.old.made + height_of self.old + 2 }
         ensures idle { IfOk result (λ did.
             did ≡ false → maker.new.made ≤ maker.old.made + height_of self.old + 1) }
         ensures tried { IsTried result self.old self.new
@@ -193,7 +193,7 @@ impl Children {
             return unchanged();
         };
         let most = MAX_BYTES.saturating_sub(added.len());
-        if matches!(self.nodes[place].leaf(), Some(leaf) if leaf.info().bytes > most) {
+        if self.nodes[place].is_leaf_above(most) {
             return self.cut_child(maker, at, added, to_right, more);
         }
         let node = &mut self.nodes[place];
@@ -355,11 +355,21 @@ impl Children {
 impl Node {
     /// The leaf that it is, if it is one.
     #[inline(always)]
-    fn leaf(&self) -> Option<&Leaf> {
+    fn leaf(&self) -> Option<&Leaf>
+        ensures { IfSome result (λ _. self.now.height ≡ 0) }
+    {
         match &self.form {
             Form::Leaf(leaf) => Some(leaf),
             _ => None,
         }
+    }
+
+    /// Whether it is a leaf of more bytes than so many.
+    #[inline(always)]
+    fn is_leaf_above(&self, bytes: usize) -> bool
+        ensures { result ≡ true → self.now.height ≡ 0 }
+    {
+        matches!(self.leaf(), Some(leaf) if leaf.info().bytes > bytes)
     }
 
     /// Whether it has no text and no children.
@@ -385,7 +395,7 @@ impl Node {
         requires takes { TakesShort self.old at added.now }
         requires side { MayInsert self.old at added.now to_right }
         ensures change { IfOk result (λ did. did ≡ true → GrowsBy more.new self.old self.new) }
-        ensures made { maker.new.made ≤ maker.old.made + 3 * self.old.height + 2 }
+        ensures made { maker.new.made ≤ maker.old.made + self.old.height + 2 }
         ensures idle { IfOk result (λ did.
             did ≡ false → maker.new.made ≤ maker.old.made + self.old.height + 1) }
         ensures tree { IsTree self.new }
