@@ -25,9 +25,14 @@ pub fn is_lf(node: &Node, at: usize) -> bool
     at < node.info().chars && char_at(node, at, &mut Steps::new()) == '\n'
 }
 
-/// Puts a text of 1 to 981 bytes before the character `at`: where the nodes stand, if the leaf has room, or is cut into two below
-/// a node that has room for one more, which takes memory for copies of shared nodes and for the second part alone; and else in a
-/// tree that takes the old one's place last of all.
+/// Puts a text of 1 to 981 bytes before the character `at`, by the first of three ways that can:
+///
+/// 1. Where the nodes stand, if the leaf has room, or can be cut into two, since the list that it is
+///    in has room for one more. It takes memory for copies of shared nodes, and for a second leaf.
+/// 2. By a second descent (`Node::insert_parting`), if that list is full, but one above it isn't:
+///    each full list below that one becomes two new ones.
+/// 3. Else, as where all lists up to the root are full, by a new tree, which shares the nodes off the
+///    way. It takes the old one's place last of all, so that a refusal leaves the tree as it was.
 pub fn insert_at(maker: &mut Maker, root: &mut Node, at: usize, added: &str) -> Made<()>
     requires within { at ≤ length (text root.old) }
     requires some { 1 ≤ length added.now }
@@ -40,13 +45,13 @@ pub fn insert_at(maker: &mut Maker, root: &mut Node, at: usize, added: &str) -> 
     ensures made { maker.new.made ≤ maker.old.made + 3 * root.old.height + 5 }
 {
     let added = ShortText::new(added);
-    // At a seam it goes to the right where it ends in CR, so that it can't part that CR from an LF there. No CR stands before the LF
-    // across a seam.
+    // At a seam between leaves, a text that ends in CR goes to the right if an LF stands there: so
+    // the two come to lie in one leaf.
     let to_right = ends_in_cr(added.as_str()) && is_lf(root, at);
     if root.insert_in_place(maker, at, &added, to_right, true, &mut TextInfo::new())? {
         return Ok(());
     }
-    // The first try made the nodes on the way the tree's own.
+    // The first try made the nodes on the way the tree's own, so this one needn't copy any.
     if root.insert_parting(maker, at, &added, to_right)? {
         return Ok(());
     }
