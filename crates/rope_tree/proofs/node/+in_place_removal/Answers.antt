@@ -14,10 +14,11 @@ use Rattle.rope_tree.specs.Change.{IsChange, no_counts}
 use Rattle.rope_tree.specs.Removal.{IsRemoved, AreRemoved}
 use Rattle.rope_tree.proofs.ChangeLaws.{change_to, part_of_part, part_fits, whole_changed, change_by, change_own, change_of_list}
 use Rattle.rope_tree.proofs.NodeLaws.{small_totals}
-use Rattle.rope_tree.proofs.InsertDescents.{Takes, takes, last_total}
+use Rattle.rope_tree.proofs.ChildLaws.{taken_at}
+use Rattle.rope_tree.proofs.InsertDescents.{Takes, last_total}
 use Rattle.rope_tree.proofs.TotalLaws.{has_part, fits_after}
 use Rattle.rope_tree.proofs.GrownLaws.{totals_seen, tallest_above}
-use Rattle.rope_tree.proofs.ListedLaws.{seen_at, set_seen, set_listed, set_totals}
+use Rattle.rope_tree.proofs.ListedLaws.{set_seen, set_listed, set_totals}
 use Rattle.rope_tree.proofs.FormLaws.{inner_of, inner_seen, leaf_seen, node_tree, fallen_leaf, by_answer, by_outcome, not_tried, tried_in, still_children, removed_children, removed_node}
 use Rattle.rope_tree.proofs.RemovalLaws.{Holds, holds, byte_len-removed, children_removed}
 use Rattle.rope_tree.proofs.node.+in_place_removal.Goals as goal
@@ -30,9 +31,8 @@ none = record { chars = 0; utf16_surrogates = 0; break_count = 0; bytes = 0 }
 down : (t : ℕ) (c : Children::remove_in_place-After-index-self-place t)
     → Takes c.args.self.now c.in-Some.place (get_or c.self.inside.nodes c.in-Some.place c.index-self-place.result) c.args.start c.in-Some.at true
 down t c =
-    takes c.args.self.now c.in-Some.place (get_or c.self.inside.nodes c.in-Some.place c.index-self-place.result) c.args.start c.in-Some.at true
-    c.requires.children (rw c.in-Some.is at c.locate.ensures.child) (seen_at c.self.inside c.args.self.now c.in-Some.place c.index-self-place.result c.self.view_is (rw c.in-Some.is at c.locate.ensures.child))
-    (rw c.in-Some.is at c.locate.ensures.place) (rw c.in-Some.is at c.locate.ensures.goes)
+    taken_at c.self.inside c.args.self.now c.in-Some.place c.index-self-place.result c.args.start c.in-Some.at true c.self.view_is c.requires.children
+    (rw c.in-Some.is at c.locate.ensures.child) (rw c.in-Some.is at c.locate.ensures.place) (rw c.in-Some.is at c.locate.ensures.goes)
 
 held : (t : ℕ) (c : Children::remove_in_place-After-index-self-place t)
     → Holds c.args.self.now c.in-Some.place (get_or c.self.inside.nodes c.in-Some.place c.index-self-place.result) c.in-Some.at (c.args.end - (c.args.start - c.in-Some.at)) c.args.start c.args.end
