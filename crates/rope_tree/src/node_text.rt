@@ -1,11 +1,11 @@
 //! The text of a leaf.
-ghost use Rattle.std.specs.Prelude.{◌≡◌, ℕ, ◌+◌, ◌<◌, ◌≤◌, ◌++◌, [], true, false, length, take, IsTrue, IfSome};
+ghost use Rattle.std.specs.Prelude.{◌≡◌, ℕ, ◌+◌, ◌<◌, ◌≤◌, ◌++◌, [], true, length, take, IsTrue, IfSome};
 ghost use Rattle.std.specs.List.{insert_slice, remove_range};
-ghost use Rattle.std.specs.Str.{chars, all_scalars, IsUtf8, IsCharBoundary, encode_utf8_all};
-ghost use Rattle.rope_text.specs.declared.TheConstants.{MAX_BYTES, MAX_JOINED_BYTES, MIN_CUT_BYTES, MIN_HALF_BYTES};
+ghost use Rattle.std.specs.Str.{chars, all_scalars, IsCharBoundary, encode_utf8_all};
+ghost use Rattle.rope_text.specs.declared.TheConstants.{MAX_BYTES, MAX_JOINED_BYTES, MIN_CUT_BYTES};
 ghost use Rattle.rope_text.specs.Text.{byte_len};
-ghost use Rattle.rope_text.specs.Cutting.{parts_crlf};
 ghost use Rattle.rope_text.specs.Cuts.{is_cut};
+ghost use Rattle.rope_tree.specs.Halves.{AreHalves};
 
 use arrayvec::{ArrayString, ArrayVec};
 use rope_text::crlf::{next_break, prev_break};
@@ -76,13 +76,7 @@ fn put_bytes(bytes: &mut LeafBytes, place: usize, added: &[u8])
 pub(crate) fn halves_of(text: &str) -> (&str, &str)
     requires long { MAX_BYTES < length text.now }
     requires short { length text.now ≤ MAX_JOINED_BYTES }
-    ensures utf8 { IsUtf8 result.0.now × IsUtf8 result.1.now }
-    ensures joined { chars result.0.now ++ chars result.1.now ≡ chars text.now }
-    ensures some { (0 < length (chars result.0.now)) × (0 < length (chars result.1.now)) }
-    ensures apart { parts_crlf (chars result.0.now) (chars result.1.now) ≡ false }
-    ensures least { (MIN_HALF_BYTES ≤ length result.0.now)
-        × (MIN_HALF_BYTES ≤ length result.1.now) }
-    ensures most { (length result.0.now ≤ MAX_BYTES) × (length result.1.now ≤ MAX_BYTES) }
+    ensures { AreHalves 0 text.now result.0.now result.1.now }
 {
     let cut = next_break(text.len() / 2 - 2, text.as_bytes());
     (&text[..cut], &text[cut..])
@@ -91,15 +85,7 @@ pub(crate) fn halves_of(text: &str) -> (&str, &str)
 /// Cuts the text of a leaf into two, of which each has half a leaf, but for a byte, and room for so many bytes more; the cut parts
 /// no CR from an LF. None where no cut next to the middle is such.
 pub(crate) fn even_halves(text: &str, room: usize) -> Option<(&str, &str)>
-    ensures utf8 { IfSome result (λ halves. IsUtf8 halves.0.now × IsUtf8 halves.1.now) }
-    ensures joined { IfSome result (λ halves.
-        chars halves.0.now ++ chars halves.1.now ≡ chars text.now) }
-    ensures apart { IfSome result (λ halves.
-        parts_crlf (chars halves.0.now) (chars halves.1.now) ≡ false) }
-    ensures least { IfSome result (λ halves. (MIN_HALF_BYTES ≤ length halves.0.now)
-        × (MIN_HALF_BYTES ≤ length halves.1.now)) }
-    ensures room { IfSome result (λ halves. (length halves.0.now + room ≤ MAX_BYTES)
-        × (length halves.1.now + room ≤ MAX_BYTES)) }
+    ensures { IfSome result (λ halves. AreHalves room text.now halves.0.now halves.1.now) }
 {
     let cut = next_break(text.len() / 2, text.as_bytes());
     let back = &text[cut..];
