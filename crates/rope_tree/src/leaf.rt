@@ -1,5 +1,5 @@
 //! Leaves: a text with its counts and its set of line breaks.
-ghost use Rattle.std.specs.Prelude.{◌≡◌, ◌+◌, ◌/◌, ◌<◌, ◌≤◌, [], ◌∷◌, true, false, length, take, IfOk, OnErr, IfSome, IfNone};
+ghost use Rattle.std.specs.Prelude.{◌≡◌, ◌+◌, ◌<◌, ◌≤◌, [], ◌∷◌, true, false, length, take, IfOk, OnErr, IfSome, IfNone};
 ghost use Rattle.std.specs.Str.{chars};
 ghost use Rattle.rope_text.specs.Text.{byte_len};
 ghost use Rattle.rope_text.specs.TextInfo.{info_of};
@@ -7,6 +7,7 @@ ghost use Rattle.rope_text.specs.declared.TheConstants.{MAX_BYTES, MAX_SHORT_BYT
 ghost use Rattle.rope_text.specs.Edit.{inserted};
 ghost use Rattle.rope_tree.specs.Tree.{text, leaf_tree, IsTree};
 ghost use Rattle.rope_tree.specs.LeafTree.{IsLeafOf};
+ghost use Rattle.rope_tree.specs.Counted.{AreWithin};
 ghost use Rattle.rope_tree.specs.Shape.{IsLeafNode};
 ghost use Rattle.rope_tree.specs.Change.{GrowsBy, FallsBy};
 ghost use Rattle.rope_tree.specs.Insert.{IsInserted};
@@ -59,10 +60,7 @@ impl Model for Summary {
 impl Summary {
     /// These counts, by this set.
     fn new(breaks: LineBreaks, info: TextInfo) -> Summary
-        requires chars { info.chars ≤ MAX_BYTES }
-        requires surrogates { info.utf16_surrogates ≤ MAX_BYTES / 4 }
-        requires break_count { info.break_count ≤ MAX_BYTES }
-        requires bytes { info.bytes ≤ MAX_BYTES }
+        requires { AreWithin MAX_BYTES info }
         ensures breaks { result.breaks ≡ breaks }
         ensures info { result.info ≡ info }
     {
