@@ -9,7 +9,7 @@ ghost use Rattle.rope_tree.specs.Tree.{Tree, text, joined, height_of, tree_over,
 ghost use Rattle.rope_tree.specs.Shape.{form_tree, IsForm};
 ghost use Rattle.rope_tree.specs.declared.node.in_place.Cut.TheVariants.{Kept, Grown, Parted};
 ghost use Rattle.rope_tree.specs.Change.{GrowsBy, FallsBy, GrowBy, FallBy};
-ghost use Rattle.rope_tree.specs.Insert.{TakesShort, MayInsert, GoesIn, IsInserted, AreGrown};
+ghost use Rattle.rope_tree.specs.Insert.{TakesShort, MayInsert, GoesIn, IsInserted, IsCut, AreGrown};
 ghost use Rattle.rope_tree.specs.Removal.{IsRemoved, AreRemoved};
 ghost use Rattle.rope_tree.specs.Tries.{IsTried};
 
@@ -456,11 +456,8 @@ impl Node {
     ) -> Made<Cut>
         requires takes { TakesShort self.old at added.now }
         requires side { MayInsert self.old at added.now to_right }
-        ensures grown { IfOk result (λ cut. cut ≡ Grown
-            → IsInserted self.old (self.new ∷ []) (inserted (text self.old) at added.now)) }
-        ensures parted { IfOk result (λ cut. (back : Tree) → cut ≡ Parted back
-            → IsInserted self.old (self.new ∷ back ∷ []) (inserted (text self.old) at added.now)) }
-        ensures kept { IfOk result (λ cut. cut ≡ Kept → self.new ≡ self.old) }
+        ensures cut { IfOk result
+            (IsCut self.old self.new (inserted (text self.old) at added.now)) }
         ensures err { OnErr result (self.new ≡ self.old) }
         ensures made { maker.new.made ≤ maker.old.made + 2 * self.old.height + 2 }
         ensures idle { IfOk result (λ cut. cut ≡ Kept → maker.new.made ≤ maker.old.made + 1) }
@@ -492,10 +489,8 @@ impl Node {
     ) -> Made<Cut>
         requires takes { TakesShort self.old at added.now }
         requires side { MayInsert self.old at added.now to_right }
-        ensures grown { IfOk result (λ cut. cut ≡ Grown
-            → IsInserted self.old (self.new ∷ []) (inserted (text self.old) at added.now)) }
-        ensures parted { IfOk result (λ cut. (back : Tree) → cut ≡ Parted back
-            → IsInserted self.old (self.new ∷ back ∷ []) (inserted (text self.old) at added.now)) }
+        ensures cut { IfOk result
+            (IsCut self.old self.new (inserted (text self.old) at added.now)) }
         ensures done { IfOk result (λ cut. cut ≡ Kept → ⊥) }
         ensures err { OnErr result (self.new ≡ self.old) }
         ensures made { maker.new.made ≤ maker.old.made + 2 * self.old.height + 2 }

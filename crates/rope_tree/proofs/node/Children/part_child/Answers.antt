@@ -70,16 +70,16 @@ retotal-requires-clause-part c =
 pub retotal-requires-clause-new : goal.retotal-requires-clause-new
 retotal-requires-clause-new c =
     small_below c.info-new.result
-    (small _ _ _ _ _ _ _ (found (goal.at.retotal-requires-clause-new c).After-info-old) c.args.added.now c.requires.takes.some c.requires.side c.requires.takes.fits c.cut.new.self (c.in_ok-cut.ensures.grown c.in-Grown.is) c.info-new.result c.info-new.ensures.value)
+    (small _ _ _ _ _ _ _ (found (goal.at.retotal-requires-clause-new c).After-info-old) c.args.added.now c.requires.takes.some c.requires.side c.requires.takes.fits c.cut.new.self (rw c.in-Grown.is at c.in_ok-cut.ensures.cut) c.info-new.result c.info-new.ensures.value)
 
 pub retotal-requires-clause-fits : goal.retotal-requires-clause-fits
 retotal-requires-clause-fits c =
-    still_narrow _ _ _ _ _ _ _ (found (goal.at.retotal-requires-clause-fits c).After-info-old) c.args.added.now c.requires.takes.some c.requires.side c.requires.takes.fits c.cut.new.self (c.in_ok-cut.ensures.grown c.in-Grown.is)
+    still_narrow _ _ _ _ _ _ _ (found (goal.at.retotal-requires-clause-fits c).After-info-old) c.args.added.now c.requires.takes.some c.requires.side c.requires.takes.fits c.cut.new.self (rw c.in-Grown.is at c.in_ok-cut.ensures.cut)
     c.self.inside.totals refl (rw c.len.ensures.value at c.has_room_for.ensures c.if-not-has_room_for.false) c.info-old.result c.info-new.result c.info-old.ensures.value c.info-new.ensures.value
 
 pub invariant_of-self-in-Grown : goal.invariant_of-self-in-Grown
 invariant_of-self-in-Grown c =
-    fields_after _ _ _ _ _ _ _ (found (goal.at.invariant_of-self-in-Grown c).After-info-old) c.args.added.now c.requires.takes.some c.requires.side c.requires.takes.fits c.cut.new.self (c.in_ok-cut.ensures.grown c.in-Grown.is)
+    fields_after _ _ _ _ _ _ _ (found (goal.at.invariant_of-self-in-Grown c).After-info-old) c.args.added.now c.requires.takes.some c.requires.side c.requires.takes.fits c.cut.new.self (rw c.in-Grown.is at c.in_ok-cut.ensures.cut)
     _ refl refl refl c.self.inside.totals c.retotal.new.self c.info-old.result c.info-new.result refl c.info-old.ensures.value c.info-new.ensures.value c.retotal.ensures.len c.retotal.ensures.before c.retotal.ensures.after refl
 
 pub returns-in-Grown-clause-made : goal.returns-in-Grown-clause-made
@@ -88,7 +88,7 @@ returns-in-Grown-clause-made c = omega (arith, c.cut.ensures.made, (found (goal.
 pub returns-in-Grown-clause-tried : goal.returns-in-Grown-clause-tried
 returns-in-Grown-clause-tried c = record {
   done = λ yes.
-      all_grown _ _ _ _ _ _ _ (found (goal.at.returns-in-Grown-clause-tried c).After-info-old) c.args.added.now c.requires.takes.some c.requires.side c.requires.takes.fits c.cut.new.self (c.in_ok-cut.ensures.grown c.in-Grown.is)
+      all_grown _ _ _ _ _ _ _ (found (goal.at.returns-in-Grown-clause-tried c).After-info-old) c.args.added.now c.requires.takes.some c.requires.side c.requires.takes.fits c.cut.new.self (rw c.in-Grown.is at c.in_ok-cut.ensures.cut)
       (record { height = _; breaks = _; last = c.self.inside.last; totals = _; nodes = _ }) refl refl refl c.self.inside.totals c.retotal.new.self c.info-old.result c.info-new.result refl c.info-old.ensures.value c.info-new.ensures.value c.retotal.ensures.len c.retotal.ensures.before c.retotal.ensures.after refl;
   kept = λ no. cc;
   err = tt;
@@ -106,7 +106,7 @@ parted c =
     let d = (parted_at c).taken in
     let g = d.goes in
     let new = inserted (text (child c)) c.way_in-place.result.1 c.args.added.now in
-    let done : IsInserted (child c) (u ∷ c.in-Parted.back ∷ []) new = c.in_ok-cut.ensures.parted c.in-Parted.back c.in-Parted.is in
+    let done : IsInserted (child c) (u ∷ c.in-Parted.back ∷ []) new = rw c.in-Parted.is at c.in_ok-cut.ensures.cut in
     let few : length ts < 24 = omega (arith, c.if-count-ge-MAX_CHILDREN.false, c.len-count.ensures, c.self.invariant.totals_right.as_many, ap length c.self.view_is) in
     grown_by_one (breaks_of ts) (height_of ts) ts k (child c) u c.in-Parted.back d.children d.within d.child_is c.args.at c.way_in-place.result.1 c.args.added.now c.requires.takes.some
     d.place g.within c.args.to_right g.inside g.outside c.requires.side done c.requires.takes.fits refl refl few
