@@ -116,14 +116,14 @@ module _ (ts us : List Tree) (k : ℕ) (c u x : Tree) (cut : Cuts ts us k c u x)
       record {
         bytes = omega (arith, low.bytes, ap (λ t. t.bytes) e);
         chars = omega (arith, low.chars, ap (λ t. t.chars) e);
-        surrogates = omega (arith, low.surrogates, ap (λ t. t.utf16_surrogates) e);
-        count = omega (arith, low.count, ap (λ t. t.break_count) e);
+        pairs = omega (arith, low.pairs, ap (λ t. t.utf16_surrogates) e);
+        breaks = omega (arith, low.breaks, ap (λ t. t.break_count) e);
       }
 
   pub first_narrow : byte_len (joined us) < 2 ^ 32 → IsNarrow (info_sum (counted (breaks_of ts) ts k) (info_of (breaks_of ts) (text u)))
   first_narrow few =
       let low = info_within (breaks_of ts) (joined (take (k + 1) us)) 4294967295 (omega (arith, byte_len-joined us (k + 1), few)) in
-      rw (sym first_more) (record { bytes = omega (arith, low.bytes); chars = omega (arith, low.chars); surrogates = omega (arith, low.surrogates); count = omega (arith, low.count) })
+      rw (sym first_more) (record { bytes = omega (arith, low.bytes); chars = omega (arith, low.chars); pairs = omega (arith, low.pairs); breaks = omega (arith, low.breaks) })
 
   -- so the totals are right again
   pub totals_cut : (totals mid after : List TextInfo) (total : TextInfo) → HasTotals (breaks_of ts) totals ts → length mid ≡ length totals → ((j : ℕ) (d : TextInfo) → j < k → get_or mid j d ≡ get_or totals j d)

@@ -45,8 +45,8 @@ pub small_below : (info : TextInfo) → IsSmall info → IsBelow (2 ^ 63) info
 small_below info s = record {
   bytes = s.bytes;
   chars = omega (arith, s.bytes, s.chars);
-  surrogates = omega (arith, s.bytes, s.chars, s.surrogates);
-  count = omega (arith, s.bytes, s.chars, s.count);
+  pairs = omega (arith, s.bytes, s.chars, s.surrogates);
+  breaks = omega (arith, s.bytes, s.chars, s.count);
 }
 
 -- a character of two code units takes four bytes
@@ -67,5 +67,5 @@ pairs_in_bytes (c ∷ cs) =
 pub info_within : (breaks : LineBreaks) (text : List ℕ) (most : ℕ) → byte_len text ≤ most → AreWithin most (info_of breaks text)
 info_within breaks text most fits =
     let chars = length-le-encodes text in
-    let count = break_count-le-length breaks text in
-    record { chars = omega (arith, chars, fits); surrogates = omega (arith, pairs_in_bytes text, fits); count = omega (arith, chars, count, fits); bytes = fits }
+    let few = break_count-le-length breaks text in
+    record { chars = omega (arith, chars, fits); pairs = omega (arith, pairs_in_bytes text, fits); breaks = omega (arith, chars, few, fits); bytes = fits }

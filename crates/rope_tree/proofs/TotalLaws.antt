@@ -106,8 +106,8 @@ module _ (br : LineBreaks) (h : ℕ) (ts us : List Tree) (k : ℕ) (c u : Tree) 
         record {
           bytes = omega (arith, low.bytes, ap (λ t. t.bytes) e);
           chars = omega (arith, low.chars, ap (λ t. t.chars) e);
-          surrogates = omega (arith, low.surrogates, ap (λ t. t.utf16_surrogates) e);
-          count = omega (arith, low.count, ap (λ t. t.break_count) e);
+          pairs = omega (arith, low.pairs, ap (λ t. t.utf16_surrogates) e);
+          breaks = omega (arith, low.breaks, ap (λ t. t.break_count) e);
         }
 
     -- so the totals are right again

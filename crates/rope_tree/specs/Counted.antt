@@ -10,6 +10,6 @@ pub record Counted : Type 0 where
 -- a text of at most so many bytes may have the counts: none is above its bytes, and a pair takes four of them
 pub record AreWithin (most : ℕ) (info : TextInfo) : Type 0 where
   pub chars : info.chars ≤ most
-  pub surrogates : 4 * info.utf16_surrogates ≤ most
-  pub count : info.break_count ≤ most
+  pub pairs : 4 * info.utf16_surrogates ≤ most
+  pub breaks : info.break_count ≤ most
   pub bytes : info.bytes ≤ most

@@ -162,7 +162,7 @@ impl Leaf {
     {
         ShortText {
             text: &self.text.as_str()[..info.bytes],
-            count: info.chars,
+            char_count: info.chars,
         }
     }
 

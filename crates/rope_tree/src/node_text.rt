@@ -219,10 +219,10 @@ impl NodeText {
         self.bytes.truncate(len - (to - from));
     }
 
-    /// Keeps the first `count` characters alone, which take `len` bytes. Nothing moves.
-    pub fn keep_first(&mut self, count: usize, len: usize)
-        requires { len ≡ byte_len (take count self.old) }
-        ensures value { self.new ≡ take count self.old }
+    /// Keeps the first `chars` characters alone, which take `len` bytes. Nothing moves.
+    pub fn keep_first(&mut self, chars: usize, len: usize)
+        requires { len ≡ byte_len (take chars self.old) }
+        ensures value { self.new ≡ take chars self.old }
         ensures scalars { all_scalars self.new ≡ true }
     {
         self.bytes.truncate(len);

@@ -16,7 +16,7 @@ use std::marker::Model;
 pub struct ShortText<'a> {
     pub(crate) text: &'a str,
     /// The number of its characters, or more than that of its bytes, where it isn't known.
-    pub(crate) count: usize,
+    pub(crate) char_count: usize,
 }
 
 // More than any short text has: its characters were not counted.
@@ -41,8 +41,8 @@ impl<'a> ShortText<'a> {
         ensures value { result ≡ chars text.now }
         ensures len { byte_len result ≡ length text.now }
     {
-        let count = UNCOUNTED;
-        ShortText { text, count }
+        let char_count = UNCOUNTED;
+        ShortText { text, char_count }
     }
 
     /// The text.
@@ -68,10 +68,10 @@ impl<'a> ShortText<'a> {
         ensures value { result ≡ char_to_byte self.now char_idx }
         ensures boundary { IsCharBoundary (encode_utf8_all self.now) result }
     {
-        if self.count == self.text.len() {
+        if self.char_count == self.text.len() {
             char_idx.min(self.text.len())
-        } else if self.count < self.text.len() {
-            str_utils::char_to_byte_idx_of(self.text, self.count, char_idx)
+        } else if self.char_count < self.text.len() {
+            str_utils::char_to_byte_idx_of(self.text, self.char_count, char_idx)
         } else {
             str_utils::char_to_byte_idx(self.text, char_idx)
         }
@@ -81,7 +81,7 @@ impl<'a> ShortText<'a> {
     pub fn char_to_line_with(&self, char_idx: usize, breaks: LineBreaks) -> usize
         ensures { result ≡ char_to_line breaks self.now char_idx }
     {
-        if self.count == self.text.len() {
+        if self.char_count == self.text.len() {
             str_utils::byte_to_line_with(self.text, char_idx, breaks)
         } else {
             str_utils::char_to_line_with(self.text, char_idx, breaks)
