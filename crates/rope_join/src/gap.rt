@@ -2,7 +2,7 @@
 //! There both ends are cut, and on the way back each node's children are listed once, with what
 //! became of those that were cut.
 ghost use Rattle.std.specs.Prelude.{◌≡◌, ◌+◌, ◌*◌, ◌<◌, ◌≤◌, ◌^◌, true, length, take, drop, max, IfOk};
-ghost use Rattle.rope_text.specs.declared.TheConstants.{MIN_PAIR_BYTES};
+ghost use Rattle.rope_text.specs.declared.TheConstants.{MIN_TWO_LEAVES_BYTES};
 ghost use Rattle.rope_text.specs.Dense.{IsDenseBehind, last_bytes};
 ghost use Rattle.rope_text.specs.Text.{byte_len};
 ghost use Rattle.rope_tree.specs.Leaves.{IsSeam};
@@ -14,7 +14,7 @@ ghost use Rattle.rope_join.specs.Put.{CanPut, CanPutAtEnd, IsPut, IsPutAtEnd, le
 
 use crate::cut::{back, front};
 use crate::join::{end_leaf_len, join, unite};
-use rope_text::{MIN_PAIR_BYTES, Steps};
+use rope_text::{MIN_TWO_LEAVES_BYTES, Steps};
 use rope_tree::{
     Made, Maker, Node, Row, Totals, Unit, View, node_over, pack, pack_over, place_of, root_of,
     total_before,
@@ -59,14 +59,14 @@ pub(crate) fn stands(children: &[Node], first: usize, past: usize, part: &Node) 
     requires some_behind { past < length children.now }
     requires some { 1 ≤ length part.now.leaves }
     ensures near { result ≡ true
-        → IsDenseBehind (last_bytes MIN_PAIR_BYTES (leaves_before children.now first)) part.now.leaves }
-    ensures next { result ≡ true → IsDenseBehind (last_bytes MIN_PAIR_BYTES part.now.leaves)
+        → IsDenseBehind (last_bytes MIN_TWO_LEAVES_BYTES (leaves_before children.now first)) part.now.leaves }
+    ensures next { result ≡ true → IsDenseBehind (last_bytes MIN_TWO_LEAVES_BYTES part.now.leaves)
         (leaves_of (drop past children.now)) }
 {
     let before = end_leaf_len(&children[first - 1], true);
     let behind = end_leaf_len(&children[past], false);
-    before + end_leaf_len(part, false) >= MIN_PAIR_BYTES
-        && end_leaf_len(part, true) + behind >= MIN_PAIR_BYTES
+    before + end_leaf_len(part, false) >= MIN_TWO_LEAVES_BYTES
+        && end_leaf_len(part, true) + behind >= MIN_TWO_LEAVES_BYTES
 }
 
 /// The first `end` characters of the one tree, and behind them what follows the first `start` of

@@ -1,6 +1,6 @@
 //! Two trees as one.
 ghost use Rattle.std.specs.Prelude.{◌≡◌, ℕ, ◌+◌, ◌-◌, ◌*◌, ◌<◌, ◌≤◌, ◌↔◌, [], ◌∷◌, ◌++◌, true, false, length, max, IsTrue, IfOk};
-ghost use Rattle.rope_text.specs.declared.TheConstants.{MAX_BYTES, MAX_CHILDREN, MIN_PAIR_BYTES};
+ghost use Rattle.rope_text.specs.declared.TheConstants.{MAX_BYTES, MAX_CHILDREN, MIN_TWO_LEAVES_BYTES};
 ghost use Rattle.rope_text.specs.Cuts.{distance};
 ghost use Rattle.rope_text.specs.Dense.{IsDenseBehind, last_bytes};
 ghost use Rattle.rope_tree.specs.Tree.{IsTree};
@@ -9,7 +9,7 @@ ghost use Rattle.rope_tree.specs.Siblings.{gathered};
 ghost use Rattle.rope_tree.specs.Rows.{IsRow};
 ghost use Rattle.rope_join.specs.Join.{CanGather, CanJoin, CanMerge, EndsIn, BeginsIn, IsNear, IsUnion, IsJoin};
 
-use rope_text::{MAX_BYTES, MAX_CHILDREN, MIN_BYTES, MIN_CHILDREN, MIN_PAIR_BYTES};
+use rope_text::{MAX_BYTES, MAX_CHILDREN, MIN_BYTES, MIN_CHILDREN, MIN_TWO_LEAVES_BYTES};
 use rope_tree::{
     Made, Maker, Node, NodeText, Nodes, Row, View, make_leaf, pack, pack_over, root_of,
 };
@@ -19,7 +19,7 @@ pub(crate) fn end_leaf_len(node: &Node, is_last: bool) -> usize
     requires { 1 ≤ length node.now.leaves }
     ensures last { IsTrue is_last → (n : ℕ) → result ≡ last_bytes n node.now.leaves }
     ensures first { is_last ≡ false → (n : ℕ)
-        → MIN_PAIR_BYTES ≤ n + result ↔ IsDenseBehind n node.now.leaves }
+        → MIN_TWO_LEAVES_BYTES ≤ n + result ↔ IsDenseBehind n node.now.leaves }
     ensures fits { result ≤ MAX_BYTES }
 {
     match node.view() {
@@ -112,7 +112,7 @@ pub(crate) fn unite(maker: &mut Maker, left: &Node, right: &Node) -> Made<Nodes>
     let height = left.height();
     if height == right.height()
         && (height == 0
-            || end_leaf_len(left, true) + end_leaf_len(right, false) >= MIN_PAIR_BYTES)
+            || end_leaf_len(left, true) + end_leaf_len(right, false) >= MIN_TWO_LEAVES_BYTES)
     {
         return merge(maker, left, right);
     }

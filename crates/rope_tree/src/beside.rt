@@ -1,13 +1,13 @@
 //! How few bytes a leaf may keep beside its neighbours.
 ghost use Rattle.std.specs.Prelude.{ℕ, ◌+◌, ◌<◌, ◌≤◌, List, length, take, drop};
-ghost use Rattle.rope_text.specs.declared.TheConstants.{MIN_PAIR_BYTES};
+ghost use Rattle.rope_text.specs.declared.TheConstants.{MIN_TWO_LEAVES_BYTES};
 ghost use Rattle.rope_text.specs.Dense.{IsDenseBehind, last_bytes};
 ghost use Rattle.rope_tree.specs.Leaves.{IsEnoughBehind, IsEnoughAhead};
 ghost use Rattle.rope_tree.specs.Tree.{Tree, leaves_of};
 ghost use Rattle.rope_tree.specs.Totals.{AreBelow};
 
 use crate::{Totals, total_before};
-use rope_text::{MIN_HALF_BYTES, MIN_PAIR_BYTES};
+use rope_text::{MIN_HALF_BYTES, MIN_TWO_LEAVES_BYTES};
 
 /// How many bytes the leaves at the two ends of a node have to keep: the first beside what stands before the node, and the last
 /// beside what follows it. Where nothing does, none.
@@ -22,7 +22,7 @@ pub struct Least {
 fn least_next_to(height: usize, totals: &Totals, place: usize) -> usize
     requires { place < length totals.now }
     ensures behind { (ts : List Tree) → AreBelow height totals.now ts
-        → (n : ℕ) → MIN_PAIR_BYTES ≤ last_bytes n (leaves_of (take (place + 1) ts)) + result }
+        → (n : ℕ) → MIN_TWO_LEAVES_BYTES ≤ last_bytes n (leaves_of (take (place + 1) ts)) + result }
     ensures ahead { (ts : List Tree) → AreBelow height totals.now ts
         → IsDenseBehind result (leaves_of (drop place ts)) }
 {
@@ -32,7 +32,7 @@ fn least_next_to(height: usize, totals: &Totals, place: usize) -> usize
     }
     let before = total_before(totals, place).bytes;
     let bytes = totals.get(place).bytes.saturating_sub(before);
-    MIN_PAIR_BYTES.saturating_sub(bytes).min(MIN_HALF_BYTES)
+    MIN_TWO_LEAVES_BYTES.saturating_sub(bytes).min(MIN_HALF_BYTES)
 }
 
 /// What is enough at the two ends of the child at a place, of a list of children of a node of this height, by what is wanted at

@@ -21,7 +21,7 @@
 //!   `node::in_place` edits nodes where they stand
 //! - `lookup`, `conversions`: the way down to a leaf, and indices on it
 //! - `beside`: how few bytes a leaf may keep beside its neighbours
-//! - `edit`: short inserts into whole trees, and removals from one leaf
+//! - `short_edits`: inserts into whole trees that change one leaf, and removals from one
 //! - `build`, `builder`: trees of whole texts, and of texts passed in one after the other
 #![tactic(auto)]
 
@@ -29,7 +29,6 @@ mod beside;
 pub mod build;
 mod builder;
 mod conversions;
-mod edit;
 mod leaf;
 mod leaf_edits;
 mod lookup;
@@ -37,11 +36,11 @@ mod maker;
 mod node;
 mod node_text;
 mod search;
+mod short_edits;
 mod short_text;
 
 pub use builder::Builder;
 pub use conversions::{convert, convert_in, first_sought};
-pub use edit::{insert_at, is_lf, remove_at};
 pub use leaf_edits::shared_breaks;
 pub use lookup::{Found, byte_at, char_at, leaf_at, leaf_count};
 pub use maker::{Made, Maker};
@@ -49,4 +48,5 @@ pub use node::row::{Row, node_over, pack, pack_over, root_of};
 pub use node::{Node, Nodes, View, leaf_of, make_leaf};
 pub use node_text::NodeText;
 pub use search::{Totals, Unit, count, place_of, total_before};
+pub use short_edits::{insert_at, is_lf, remove_at};
 pub use short_text::ShortText;
