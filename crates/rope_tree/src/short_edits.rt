@@ -1,4 +1,5 @@
-//! Edits of whole trees: inserts of short texts, and removals of characters that lie in one leaf.
+//! Edits of whole trees that change one leaf: short inserts, and removals of characters that lie in
+//! one leaf.
 ghost use Rattle.std.specs.Prelude.{◌≡◌, ◌+◌, ◌-◌, ◌*◌, ◌<◌, ◌≤◌, ◌^◌, true, length, drop, IfOk, OnOk, OnErr};
 ghost use Rattle.std.specs.Str.{chars};
 ghost use Rattle.rope_text.specs.declared.TheConstants.{MAX_BYTES, MAX_SHORT_BYTES};
@@ -16,7 +17,7 @@ use crate::node::anew::insert;
 use crate::{Made, Maker, Node, ShortText, char_at, root_of};
 use rope_text::{Steps, TextInfo};
 
-/// Whether an LF stands at a place.
+/// Whether the character at an index is LF. None is at the end.
 pub fn is_lf(node: &Node, at: usize) -> bool
     requires { at ≤ length (text node.now) }
     ensures value { result ≡ begins_with_lf (drop at (text node.now)) }
@@ -60,12 +61,13 @@ pub fn insert_at(maker: &mut Maker, root: &mut Node, at: usize, added: &str) -> 
     Ok(())
 }
 
-/// At the ends of a tree nothing stands beside a leaf, and it may be as short as it will.
+/// At a tree's ends no other leaf stands, so the first leaf and the last may have any length.
 const ANY: Least = Least { first: 0, last: 0 };
 
-/// Takes the characters from `start` up to `end` out where they lie in one leaf that may do without them: it has others, no LF comes
-/// first in it that wasn't, and no CR last. So no CR LF can lie across two leaves. Returns whether it did.
-/// Nodes on the way that are shared are copied; where none is, that takes no memory.
+/// Removes the characters from `start` up to `end`, if they lie in one leaf that may do without
+/// them: it has others, no LF comes first in it that didn't, and no CR last. So no CR LF comes to
+/// lie in two leaves. Returns whether it did. Shared nodes on the way are copied; where there are
+/// none, it takes no memory.
 pub fn remove_at(maker: &mut Maker, root: &mut Node, start: usize, end: usize) -> Made<bool>
     requires ordered { start < end }
     requires within { end ≤ length (text root.old) }
