@@ -307,6 +307,8 @@ impl Leaf {
         ensures cut { IfOk result (λ found. IfSome found (λ back.
             IsInserted self.old (self.new ∷ back ∷ []) (inserted (text self.old) at added.now))) }
         ensures kept { IfOk result (λ found. IfNone found (self.new ≡ self.old)) }
+        ensures room { IfOk result (λ found. IfNone found
+            (byte_len (text self.old) + byte_len added.now ≤ MAX_BYTES)) }
         ensures err { OnErr result (self.new ≡ self.old) }
         ensures unmade { IfOk result (λ found. IfNone found (maker.new.made ≡ maker.old.made)) }
         ensures made { maker.new.made ≤ maker.old.made + 1 }
