@@ -32,7 +32,9 @@ fn least_next_to(height: usize, totals: &Totals, place: usize) -> usize
     }
     let before = total_before(totals, place).bytes;
     let bytes = totals.get(place).bytes.saturating_sub(before);
-    MIN_TWO_LEAVES_BYTES.saturating_sub(bytes).min(MIN_HALF_BYTES)
+    MIN_TWO_LEAVES_BYTES
+        .saturating_sub(bytes)
+        .min(MIN_HALF_BYTES)
 }
 
 /// How many bytes are enough at the two ends of the child at a place, in the list of a node of this

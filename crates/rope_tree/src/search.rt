@@ -137,8 +137,10 @@ impl Totals {
     /// Whether the totals keep their width if the text grows by so many bytes.
     pub(crate) fn has_room_for(&self, bytes: usize) -> bool
         requires { 1 ≤ length self.now }
-        ensures { result ≡ true → AreNarrow self.now → (d : TextInfo)
+        ensures room { result ≡ true → AreNarrow self.now → (d : TextInfo)
             → (slice_index_or self.now (length self.now - 1) d).bytes + bytes < 2 ^ 32 }
+        ensures none { result ≡ false → (d : TextInfo)
+            → 2 ^ 32 ≤ (slice_index_or self.now (length self.now - 1) d).bytes + bytes }
     {
         let all = self.get(self.len() - 1).bytes;
         all >= TOO_WIDE || bytes < TOO_WIDE - all

@@ -2,7 +2,7 @@
 //! leaf. Each is one descent, on which nodes that other trees share are copied.
 ghost use Rattle.std.specs.Prelude.{◌≡◌, ◌+◌, ◌*◌, ◌<◌, ◌≤◌, ◌-◌, ◌^◌, [], ◌∷◌, true, false, length, take, slice_index_or, Ok, IfOk, OnErr, IfSome, IfNone};
 ghost use Rattle.std.specs.List.{insert};
-ghost use Rattle.rope_text.specs.declared.TheConstants.{MAX_SHORT_BYTES};
+ghost use Rattle.rope_text.specs.declared.TheConstants.{MAX_CHILDREN, MAX_SHORT_BYTES};
 ghost use Rattle.rope_text.specs.Text.{byte_len};
 ghost use Rattle.rope_text.specs.Edit.{inserted};
 ghost use Rattle.rope_tree.specs.Tree.{Tree, text, joined, height_of, tree_over, IsTree, AreFamily};
@@ -255,6 +255,9 @@ impl Children {
         ensures idle { IfOk result (λ did. did ≡ false → maker.new.made ≤ maker.old.made + 1) }
         ensures idle_above { IfOk result (λ did.
             did ≡ false → 1 ≤ height_of self.old → maker.new.made ≡ maker.old.made) }
+        ensures full { IfOk result (λ did. did ≡ false → 1 ≤ height_of self.old
+            → length self.old < MAX_CHILDREN
+            → 2 ^ 32 ≤ byte_len (joined self.old) + byte_len added.now) }
         ensures tried { IsTried result self.old self.new
             (AreGrown self.old self.new (inserted (joined self.old) at added.now)) }
     {
@@ -361,7 +364,9 @@ impl Node {
     /// The leaf that it is, if it is one.
     #[inline(always)]
     fn leaf(&self) -> Option<&Leaf>
-        ensures { IfSome result (λ _. self.now.height ≡ 0) }
+        ensures leaf { IfSome result (λ leaf. leaf.now ≡ self.now) }
+        ensures flat { IfSome result (λ _. self.now.height ≡ 0) }
+        ensures none { IfNone result (self.now.height ≡ 0 → text self.now ≡ []) }
     {
         match &self.form {
             Form::Leaf(leaf) => Some(leaf),
@@ -372,7 +377,10 @@ impl Node {
     /// Whether it is a leaf of more bytes than these.
     #[inline(always)]
     fn is_leaf_above(&self, bytes: usize) -> bool
-        ensures { result ≡ true → self.now.height ≡ 0 }
+        ensures flat { result ≡ true → self.now.height ≡ 0 }
+        ensures above { result ≡ true → bytes < byte_len (text self.now) }
+        ensures not_above { result ≡ false → self.now.height ≡ 0
+            → byte_len (text self.now) ≤ bytes }
     {
         matches!(self.leaf(), Some(leaf) if leaf.info().bytes > bytes)
     }

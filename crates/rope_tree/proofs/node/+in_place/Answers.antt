@@ -54,7 +54,7 @@ pub Children::insert_in_place-retotal-requires-clause-fits :
 Children::insert_in_place-retotal-requires-clause-fits t c =
     change_narrow _ _ _ _ _ _ _ (found t (goal.at.Children::insert_in_place-retotal-requires-clause-fits t c).After-index-self-place-2) c.args.added.now c.requires.takes.some c.requires.side c.requires.takes.fits
     c.insert_in_place.new.self (c.in_ok-insert_in_place.ensures.tried.done c.if-not-branch.false) c.new.result c.insert_in_place.new.more (change_from c.new.result c.insert_in_place.new.more _ _ c.new.ensures (c.in_ok-insert_in_place.ensures.change c.if-not-branch.false)) c.self.inside.totals refl
-    (rw c.len.ensures.value at c.has_room_for.ensures c.if-not-has_room_for.false)
+    (rw c.len.ensures.value at c.has_room_for.ensures.room c.if-not-has_room_for.false)
 
 pub Children::insert_in_place-invariant_of-self-2 :
     goal.Children::insert_in_place-invariant_of-self-2

@@ -55,7 +55,7 @@ pub Children::insert_parting-retotal-requires-clause-fits :
 Children::insert_parting-retotal-requires-clause-fits t c =
     still_narrow _ _ _ _ _ _ _ (found t (goal.at.Children::insert_parting-retotal-requires-clause-fits t c).After-info-old) c.args.added.now c.requires.takes.some c.requires.side c.requires.takes.fits
     c.insert_parting.new.self (c.in_ok-insert_parting.ensures.tried.done c.if-not-branch.false)
-    c.self.inside.totals refl (rw c.len.ensures.value at c.has_room_for.ensures c.if-not-has_room_for.false) c.info-old.result c.info-grown.result c.info-old.ensures.value c.info-grown.ensures.value
+    c.self.inside.totals refl (rw c.len.ensures.value at c.has_room_for.ensures.room c.if-not-has_room_for.false) c.info-old.result c.info-grown.result c.info-old.ensures.value c.info-grown.ensures.value
 
 pub Children::insert_parting-invariant_of-self-2 :
     goal.Children::insert_parting-invariant_of-self-2

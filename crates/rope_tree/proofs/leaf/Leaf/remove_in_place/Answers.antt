@@ -1,4 +1,4 @@
-use Rattle.std.proofs.Common.{◌≡◌, sym, ap, subst, ◌∙◌, arith}
+use Rattle.std.proofs.Common.{◌≡◌, sym, ap, subst, ◌∙◌}
 use Rattle.rope_text.specs.TextInfo.{info_of, HasPart}
 use Rattle.rope_text.specs.Edit.{removed}
 use Rattle.rope_tree.proofs.CountLaws.{counts_fall}

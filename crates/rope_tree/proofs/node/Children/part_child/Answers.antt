@@ -10,6 +10,7 @@ use Rattle.rope_text.specs.Edit.{inserted}
 use Rattle.rope_tree.specs.Search.{IsSmall}
 use Rattle.rope_tree.specs.Tree.{Tree, text, joined, height_of, breaks_of, AreChildren}
 use Rattle.rope_tree.specs.Totals.{HasTotals}
+use Rattle.rope_tree.specs.Listed.{listed}
 use Rattle.rope_tree.specs.Insert.{IsInserted, AreGrown}
 use Rattle.rope_tree.proofs.Infos.{small_info, small_below, sum_of_small}
 use Rattle.rope_tree.proofs.TreeLaws.{breaks_of_is}
@@ -17,11 +18,11 @@ use Rattle.rope_tree.proofs.NodeLaws.{byte_len-joined, small_totals}
 use Rattle.rope_tree.proofs.Descents.{front_is}
 use Rattle.rope_tree.proofs.InsertDescents.{last_total}
 use Rattle.rope_tree.proofs.InsertTrees.{byte_len-inserted}
-use Rattle.rope_tree.proofs.GrownLaws.{children_grown, grown_by_one}
+use Rattle.rope_tree.proofs.GrownLaws.{totals_seen, children_grown, grown_by_one}
 use Rattle.rope_tree.proofs.ListedLaws.{put_in_place, more_seen, more_listed}
 use Rattle.rope_tree.proofs.ChildLaws.{Finds, found_at, read, part, child_fits, may, small, still_narrow, fields_after, all_grown}
 use Rattle.rope_tree.proofs.CutLaws.{Cuts, own_first, own_second, small_both, cut_fits, few_bytes, first_narrow, totals_cut}
-use Rattle.rope_tree.proofs.node.Children.part_child.Goals.{After-info-old, After-info-front, After-put_behind}
+use Rattle.rope_tree.proofs.node.Children.part_child.Goals.{After-info-old, After-info-front, After-put_behind, then-count-ge-MAX_CHILDREN-via-then-count-ge-MAX_CHILDREN, then-count-ge-MAX_CHILDREN-via-else-count-ge-MAX_CHILDREN+then-not-has_room_for}
 use Rattle.rope_tree.proofs.node.Children.part_child.Goals as goal
 
 -- the child that takes the text, before it is cut
@@ -54,6 +55,24 @@ returns-in_err-cut-clause-made c = omega (arith, c.cut.ensures.made, (found (goa
 pub returns-in-Kept-clause-idle_above : goal.returns-in-Kept-clause-idle_above
 returns-in-Kept-clause-idle_above c = λ no above. absurd (omega (arith, above, c.in_ok-cut.ensures.inner c.in-Kept.is, (found (goal.at.returns-in-Kept-clause-idle_above c).After-info-old).taken.own.at_height))
 
+pub returns-in-Kept-clause-full : goal.returns-in-Kept-clause-full
+returns-in-Kept-clause-full c = λ no above few. absurd (omega (arith, above, c.in_ok-cut.ensures.inner c.in-Kept.is, (found (goal.at.returns-in-Kept-clause-full c).After-info-old).taken.own.at_height))
+
+-- the list is full, or the text would be too long for its totals
+pub returns-then-count-ge-MAX_CHILDREN-clause-full :
+    goal.returns-then-count-ge-MAX_CHILDREN-clause-full
+returns-then-count-ge-MAX_CHILDREN-clause-full c = λ no above few.
+    let ts = c.args.self.now in
+    elim c.then-count-ge-MAX_CHILDREN.branch [
+      | then-count-ge-MAX_CHILDREN-via-then-count-ge-MAX_CHILDREN w ↦
+          absurd (omega (arith, few, w.if-count-ge-MAX_CHILDREN.true, c.len-count.ensures, c.self.invariant.totals_right.as_many, ap length c.self.view_is))
+      | then-count-ge-MAX_CHILDREN-via-else-count-ge-MAX_CHILDREN+then-not-has_room_for w ↦
+          let d = info_of (breaks_of ts) [] in
+          let t = totals_seen (listed c.self.inside) ts c.self.inside.totals c.self.inside.totals c.self.view_is refl c.self.invariant.totals_right in
+          let last = last_total (breaks_of ts) c.self.inside.totals ts t (omega (arith, c.requires.children.at_least_two)) d in
+          omega (arith, w.has_room_for.ensures.none w.if-not-has_room_for.true d, ap (λ x. x.bytes) last, w.len.ensures.value)
+    ]
+
 pub returns-clause-made : goal.returns-clause-made
 returns-clause-made c = omega (arith, c.cut.ensures.made, (found (goal.at.returns-clause-made c).After-info-old).taken.own.at_height)
 
@@ -75,7 +94,7 @@ retotal-requires-clause-new c =
 pub retotal-requires-clause-fits : goal.retotal-requires-clause-fits
 retotal-requires-clause-fits c =
     still_narrow _ _ _ _ _ _ _ (found (goal.at.retotal-requires-clause-fits c).After-info-old) c.args.added.now c.requires.takes.some c.requires.side c.requires.takes.fits c.cut.new.self (rw c.in-Grown.is at c.in_ok-cut.ensures.cut)
-    c.self.inside.totals refl (rw c.len.ensures.value at c.has_room_for.ensures c.if-not-has_room_for.false) c.info-old.result c.info-new.result c.info-old.ensures.value c.info-new.ensures.value
+    c.self.inside.totals refl (rw c.len.ensures.value at c.has_room_for.ensures.room c.if-not-has_room_for.false) c.info-old.result c.info-new.result c.info-old.ensures.value c.info-new.ensures.value
 
 pub invariant_of-self-in-Grown : goal.invariant_of-self-in-Grown
 invariant_of-self-in-Grown c =
@@ -190,7 +209,7 @@ retotal-requires-2-clause-fits c = λ narrow j d from within.
     let t = totals f in
     let inside : j < length ts = omega (arith, t.as_many, within) in
     let last = last_total (breaks_of ts) c.self.inside.totals ts t (omega (arith, c.requires.children.at_least_two)) d in
-    let room = rw c.len.ensures.value at (c.has_room_for.ensures c.if-not-has_room_for.false narrow d) in
+    let room = rw c.len.ensures.value at (c.has_room_for.ensures.room c.if-not-has_room_for.false narrow d) in
     let few : byte_len (joined (parts f)) < 2 ^ 32 = omega (arith, room, ap (λ x. x.bytes) last, ap byte_len (parted f).text_is, byte_len-inserted (joined ts) c.args.at c.args.added.now) in
     rw (t.total_at j d inside, old_is f, both_are f c.info.result c.plus.result c.info.ensures.value c.plus.ensures.sum) (cut_fits _ _ _ _ _ _ (cut f) few j from inside)
 
