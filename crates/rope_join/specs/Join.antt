@@ -1,6 +1,6 @@
 -- What trees joined and gathered are.
 use Rattle.std.specs.Prelude.{◌≡◌, ◌+◌, ◌^◌, ◌≤◌, ◌<◌, max, List, [], ◌∷◌, ◌++◌, length}
-use Rattle.rope_text.specs.declared.TheConstants.{MAX_CHILDREN, MIN_PAIR_BYTES}
+use Rattle.rope_text.specs.declared.TheConstants.{MAX_CHILDREN, MIN_TWO_LEAVES_BYTES}
 use Rattle.rope_text.specs.Text.{byte_len}
 use Rattle.rope_text.specs.Dense.{IsDenseBehind, last_bytes}
 use Rattle.rope_tree.specs.Leaves.{IsSeam, Recuts}
@@ -15,12 +15,12 @@ pub record CanJoin (left right : Tree) : Type 0 where
 
 -- where the two meet, one of them is a leaf, or the last leaf of the one and the first of the other have 492 bytes or more together
 pub record IsNear (left right : Tree) : Type 0 where
-  pub near : 1 ≤ left.height → 1 ≤ right.height → IsDenseBehind (last_bytes MIN_PAIR_BYTES left.leaves) right.leaves
+  pub near : 1 ≤ left.height → 1 ≤ right.height → IsDenseBehind (last_bytes MIN_TWO_LEAVES_BYTES left.leaves) right.leaves
 
 -- two trees of one height, of which none goes further down: leaves, or trees whose last leaf and first leaf have 492 bytes or more together
 pub record CanMerge (left right : Tree) : Type 0 where
   pub level : left.height ≡ right.height
-  pub near : 1 ≤ left.height → IsDenseBehind (last_bytes MIN_PAIR_BYTES left.leaves) right.leaves
+  pub near : 1 ≤ left.height → IsDenseBehind (last_bytes MIN_TWO_LEAVES_BYTES left.leaves) right.leaves
 
 -- a tree by its last child and those before it
 pub record EndsIn (t : Tree) (before : List Tree) (last : Tree) : Type 0 where

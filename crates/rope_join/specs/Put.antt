@@ -1,7 +1,7 @@
 -- A tree in the place of some of a node's children.
 use Rattle.std.specs.Prelude.{◌≡◌, ℕ, ◌+◌, ◌^◌, ◌≤◌, ◌<◌, List, ◌++◌, length, take, drop}
 use Rattle.std.specs.List.{concat}
-use Rattle.rope_text.specs.declared.TheConstants.{MIN_PAIR_BYTES}
+use Rattle.rope_text.specs.declared.TheConstants.{MIN_TWO_LEAVES_BYTES}
 use Rattle.rope_text.specs.Text.{byte_len}
 use Rattle.rope_text.specs.Dense.{IsDenseBehind, last_bytes}
 use Rattle.rope_tree.specs.Leaves.{AreLeaves, IsSeam, Recuts}
@@ -27,7 +27,7 @@ pub record CanPut (ts : List Tree) (first past : ℕ) (part : Tree) : Type 0 whe
   pub not_higher : part.height ≤ height_of ts + 1
   pub behind : AreLeaves (leaves_behind ts past part)
   pub seam : IsSeam (concat (leaves_before ts first)) (concat (leaves_behind ts past part))
-  pub near : IsDenseBehind (last_bytes MIN_PAIR_BYTES (leaves_before ts first)) part.leaves
+  pub near : IsDenseBehind (last_bytes MIN_TWO_LEAVES_BYTES (leaves_before ts first)) part.leaves
   pub fits : byte_len (concat (leaves_before ts first)) + byte_len (concat (leaves_behind ts past part)) < 2 ^ 63
 
 -- the children before, the tree and those behind as one tree

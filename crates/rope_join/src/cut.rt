@@ -1,4 +1,4 @@
-//! The front and the back of a tree, as trees no higher than it, and what lies between two places.
+//! The front and the back of a tree, as trees no higher than it, and the part between two places.
 ghost use Rattle.std.specs.Prelude.{◌≡◌, ◌+◌, ◌-◌, ◌*◌, ◌<◌, ◌≤◌, length, IfOk};
 ghost use Rattle.std.specs.List.{slice_range};
 ghost use Rattle.rope_tree.specs.Tree.{text, leaf_tree, IsTree};
@@ -18,8 +18,9 @@ enum Side {
     Back,
 }
 
-/// A leaf of the first `at` characters of a leaf, or of what follows them. Never inlined, since a way down would clear room
-/// for its text at each node. Only the shorter part is gone over: the longer one's counts are the sum less those.
+/// A leaf of the first `at` characters of a leaf, or of what follows them. Never inlined, since
+/// each level of a descent would clear stack for its text. Only the shorter part is counted: the
+/// counts of the longer one are the difference.
 #[inline(never)]
 fn leaf_part(
     maker: &mut Maker,
@@ -56,7 +57,7 @@ fn leaf_part(
     make_leaf(maker, breaks, part, info)
 }
 
-/// The first `at` characters, perhaps none.
+/// The first `at` characters, perhaps none. Nodes that lie wholly before the cut are shared.
 pub fn front(maker: &mut Maker, node: &Node, at: usize) -> Made<Node>
     requires { at ≤ length (text node.now) }
     ensures front { IfOk result (λ part. IsFront at node.now part) }
@@ -86,7 +87,8 @@ pub fn front(maker: &mut Maker, node: &Node, at: usize) -> Made<Node>
     }
 }
 
-/// What follows the first `at` characters, perhaps nothing.
+/// What follows the first `at` characters, perhaps nothing. Nodes that lie wholly behind the cut
+/// are shared.
 pub fn back(maker: &mut Maker, node: &Node, at: usize) -> Made<Node>
     requires { at ≤ length (text node.now) }
     ensures back { IfOk result (λ part. IsBack at node.now part) }
@@ -116,7 +118,7 @@ pub fn back(maker: &mut Maker, node: &Node, at: usize) -> Made<Node>
     }
 }
 
-/// The characters from `start` up to `end`, one at least. What lies within whole is shared.
+/// The characters from `start` up to `end`, at least one. Nodes that lie wholly between are shared.
 pub fn between(maker: &mut Maker, node: &Node, start: usize, end: usize) -> Made<Node>
     requires ordered { start < end }
     requires within { end ≤ length (text node.now) }

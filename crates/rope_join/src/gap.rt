@@ -1,8 +1,8 @@
-//! Trees without some of their characters, on one way down to where the two ends of what goes part.
-//! There both ends are cut, and on the way back each node's children are listed once, with what
-//! became of those that were cut.
+//! Removals over several leaves, in one descent to the node where the two ends of what goes lie in
+//! different children. There both ends are cut, and on the way back each list is made once, with
+//! what is left of the children that were cut.
 ghost use Rattle.std.specs.Prelude.{◌≡◌, ◌+◌, ◌*◌, ◌<◌, ◌≤◌, ◌^◌, true, length, take, drop, max, IfOk};
-ghost use Rattle.rope_text.specs.declared.TheConstants.{MIN_PAIR_BYTES};
+ghost use Rattle.rope_text.specs.declared.TheConstants.{MIN_TWO_LEAVES_BYTES};
 ghost use Rattle.rope_text.specs.Dense.{IsDenseBehind, last_bytes};
 ghost use Rattle.rope_text.specs.Text.{byte_len};
 ghost use Rattle.rope_tree.specs.Leaves.{IsSeam};
@@ -14,17 +14,17 @@ ghost use Rattle.rope_join.specs.Put.{CanPut, CanPutAtEnd, IsPut, IsPutAtEnd, le
 
 use crate::cut::{back, front};
 use crate::join::{end_leaf_len, join, unite};
-use rope_text::{MIN_PAIR_BYTES, Steps};
+use rope_text::{MIN_TWO_LEAVES_BYTES, Steps};
 use rope_tree::{
     Made, Maker, Node, Row, Totals, Unit, View, node_over, pack, pack_over, place_of, root_of,
     total_before,
 };
 
-/// Above this height a removal goes by a front and a back of the whole tree: so the nodes that it
-/// makes are bounded by a multiple of the height. Such a tree has half a gigabyte at the least.
+/// A higher tree is cut into a front and a back instead, so that the nodes made are bounded by a
+/// multiple of the height. It has at least half a gigabyte.
 const MAX_ONE_WAY: usize = 6;
 
-/// Whether a cut before a character leaves the first leaf whole, and that is not the only one.
+/// Whether a cut before a character leaves the first leaf whole, and the tree has others.
 fn spares_first(node: &Node, at: usize) -> bool
     ensures { result ≡ true → SparesFirst at node.now }
 {
@@ -36,7 +36,7 @@ fn spares_first(node: &Node, at: usize) -> bool
     }
 }
 
-/// Whether a cut before a character leaves the last leaf whole, and that is not the only one.
+/// Whether a cut before a character leaves the last leaf whole, and the tree has others.
 fn spares_last(node: &Node, at: usize) -> bool
     ensures { result ≡ true → SparesLast at node.now }
 {
@@ -50,7 +50,7 @@ fn spares_last(node: &Node, at: usize) -> bool
     }
 }
 
-/// Whether a tree's leaves at its two ends have bytes enough to stand in the place of the children
+/// Whether a tree's first and last leaf have enough bytes to stand in the place of the children
 /// from `first` up to `past`.
 pub(crate) fn stands(children: &[Node], first: usize, past: usize, part: &Node) -> bool
     requires children { AreFamily children.now }
@@ -59,18 +59,18 @@ pub(crate) fn stands(children: &[Node], first: usize, past: usize, part: &Node) 
     requires some_behind { past < length children.now }
     requires some { 1 ≤ length part.now.leaves }
     ensures near { result ≡ true
-        → IsDenseBehind (last_bytes MIN_PAIR_BYTES (leaves_before children.now first)) part.now.leaves }
-    ensures next { result ≡ true → IsDenseBehind (last_bytes MIN_PAIR_BYTES part.now.leaves)
+        → IsDenseBehind (last_bytes MIN_TWO_LEAVES_BYTES (leaves_before children.now first)) part.now.leaves }
+    ensures next { result ≡ true → IsDenseBehind (last_bytes MIN_TWO_LEAVES_BYTES part.now.leaves)
         (leaves_of (drop past children.now)) }
 {
     let before = end_leaf_len(&children[first - 1], true);
     let behind = end_leaf_len(&children[past], false);
-    before + end_leaf_len(part, false) >= MIN_PAIR_BYTES
-        && end_leaf_len(part, true) + behind >= MIN_PAIR_BYTES
+    before + end_leaf_len(part, false) >= MIN_TWO_LEAVES_BYTES
+        && end_leaf_len(part, true) + behind >= MIN_TWO_LEAVES_BYTES
 }
 
-/// The first `end` characters of the one tree, and behind them what follows the first `start` of
-/// the other, where no CR meets an LF.
+/// The first `end` characters of one tree, and behind them what follows the first `start` of
+/// another, where no CR meets an LF.
 pub(crate) fn join_sides(
     maker: &mut Maker,
     left: &Node,
@@ -94,9 +94,9 @@ pub(crate) fn join_sides(
     join(maker, &first, &second)
 }
 
-/// The children of a node with a tree in the place of those from `first` up to `past`. One that is
-/// higher than they are is a node over such children, which are listed with them; any other is made
-/// one with the child before it, so that it has children enough.
+/// A node's children with a tree in the place of those from `first` up to `past`. If the tree is
+/// higher than they are, it is a node over such children, which are listed with them; any other is
+/// united with the child before it, so that it gets children enough.
 pub(crate) fn put(
     maker: &mut Maker,
     children: &[Node],
@@ -126,7 +126,7 @@ pub(crate) fn put(
     root_of(maker, packed)
 }
 
-/// Nodes side by side as one: the only one, or a node over them.
+/// Nodes side by side as one tree: the only one, or a node over them.
 fn gather(maker: &mut Maker, nodes: &[Node]) -> Made<Node>
     requires some { 1 ≤ length nodes.now }
     requires family { 2 ≤ length nodes.now → AreFamily nodes.now }
@@ -139,8 +139,8 @@ fn gather(maker: &mut Maker, nodes: &[Node]) -> Made<Node>
     node_over(maker, nodes)
 }
 
-/// A tree in the place of the first children of a node, up to `past`, or of the last, from `first`
-/// on.
+/// A node's children with a tree in the place of the first ones, up to `past`, or of the last, from
+/// `first` on.
 fn put_at_end(
     maker: &mut Maker,
     children: &[Node],
@@ -182,7 +182,8 @@ pub(crate) fn without(maker: &mut Maker, node: &Node, start: usize, end: usize) 
         let to = end - total_before(totals, last).chars;
         if first > 0 && last + 1 < children.len() {
             if height == 1 {
-                // Of leaves at most three are made before it is known whether they can stand there.
+                // At most three leaves are made in vain, if they turn out too short for their
+                // neighbours.
                 let part = join_sides(maker, left, from, right, to)?;
                 if part.info().bytes > 0 && stands(children, first, last + 1, &part) {
                     return put(maker, children, totals, first, last + 1, &part);

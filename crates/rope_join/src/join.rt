@@ -1,6 +1,6 @@
 //! Two trees as one.
 ghost use Rattle.std.specs.Prelude.{◌≡◌, ℕ, ◌+◌, ◌-◌, ◌*◌, ◌<◌, ◌≤◌, ◌↔◌, [], ◌∷◌, ◌++◌, true, false, length, max, IsTrue, IfOk};
-ghost use Rattle.rope_text.specs.declared.TheConstants.{MAX_BYTES, MAX_CHILDREN, MIN_PAIR_BYTES};
+ghost use Rattle.rope_text.specs.declared.TheConstants.{MAX_BYTES, MAX_CHILDREN, MIN_TWO_LEAVES_BYTES};
 ghost use Rattle.rope_text.specs.Cuts.{distance};
 ghost use Rattle.rope_text.specs.Dense.{IsDenseBehind, last_bytes};
 ghost use Rattle.rope_tree.specs.Tree.{IsTree};
@@ -9,17 +9,18 @@ ghost use Rattle.rope_tree.specs.Siblings.{gathered};
 ghost use Rattle.rope_tree.specs.Rows.{IsRow};
 ghost use Rattle.rope_join.specs.Join.{CanGather, CanJoin, CanMerge, EndsIn, BeginsIn, IsNear, IsUnion, IsJoin};
 
-use rope_text::{MAX_BYTES, MAX_CHILDREN, MIN_BYTES, MIN_CHILDREN, MIN_PAIR_BYTES};
+use rope_text::{MAX_BYTES, MAX_CHILDREN, MIN_BYTES, MIN_CHILDREN, MIN_TWO_LEAVES_BYTES};
 use rope_tree::{
     Made, Maker, Node, NodeText, Nodes, Row, View, make_leaf, pack, pack_over, root_of,
 };
 
-/// The bytes of a tree's last leaf or of its first: those of the one and of the other that stands behind it say whether it may.
+/// How many bytes a tree's last leaf has, or its first. Where two trees meet, the two leaves have
+/// to have enough together.
 pub(crate) fn end_leaf_len(node: &Node, is_last: bool) -> usize
     requires { 1 ≤ length node.now.leaves }
     ensures last { IsTrue is_last → (n : ℕ) → result ≡ last_bytes n node.now.leaves }
     ensures first { is_last ≡ false → (n : ℕ)
-        → MIN_PAIR_BYTES ≤ n + result ↔ IsDenseBehind n node.now.leaves }
+        → MIN_TWO_LEAVES_BYTES ≤ n + result ↔ IsDenseBehind n node.now.leaves }
     ensures fits { result ≤ MAX_BYTES }
 {
     match node.view() {
@@ -29,8 +30,9 @@ pub(crate) fn end_leaf_len(node: &Node, is_last: bool) -> usize
     }
 }
 
-/// Two trees that can be merged as one tree or two of their height. Leaves become one where they fit in it and one of them is
-/// short; other nodes where one can have all children, and where one of them has few they share the children evenly.
+/// Two trees of one height as one tree or two of that height. Two leaves become one, if they fit
+/// and one of them is short; other nodes do, if one can hold all children. If one of two has too
+/// few children, they share them evenly.
 fn merge(maker: &mut Maker, left: &Node, right: &Node) -> Made<Nodes>
     requires left_some { 1 ≤ length left.now.leaves }
     requires right_some { 1 ≤ length right.now.leaves }
@@ -71,8 +73,8 @@ fn merge(maker: &mut Maker, left: &Node, right: &Node) -> Made<Nodes>
     }
 }
 
-/// A tree's last child or its first, between the children before it and those behind it, where the tree is so high at least; else
-/// the tree itself, and none.
+/// A tree's last child or its first, between its siblings before and behind it, if the tree is at
+/// least so high; else the tree itself, and no siblings.
 fn end_of(node: &Node, least: usize, is_last: bool) -> (Row<'_>, &Node, Row<'_>)
     requires { least ≤ node.now.height → 1 ≤ node.now.height }
     ensures before { IsRow result.0 }
@@ -98,8 +100,9 @@ fn end_of(node: &Node, least: usize, is_last: bool) -> (Row<'_>, &Node, Row<'_>)
     (Row::none(), &children[0], row.rest(1))
 }
 
-/// Two trees that aren't empty as one tree or two of the greater height. It goes down the sides on which they meet to nodes of
-/// one height, and where the two leaves there have too few bytes together, down to those, which become one.
+/// Two trees that aren't empty, as one tree or two of the greater height. It goes down the sides on
+/// which they meet to nodes of one height; and further, to the two leaves there, if those have too
+/// few bytes together and so have to become one.
 pub(crate) fn unite(maker: &mut Maker, left: &Node, right: &Node) -> Made<Nodes>
     requires left_some { 1 ≤ length left.now.leaves }
     requires right_some { 1 ≤ length right.now.leaves }
@@ -112,7 +115,7 @@ pub(crate) fn unite(maker: &mut Maker, left: &Node, right: &Node) -> Made<Nodes>
     let height = left.height();
     if height == right.height()
         && (height == 0
-            || end_leaf_len(left, true) + end_leaf_len(right, false) >= MIN_PAIR_BYTES)
+            || end_leaf_len(left, true) + end_leaf_len(right, false) >= MIN_TWO_LEAVES_BYTES)
     {
         return merge(maker, left, right);
     }
@@ -122,8 +125,8 @@ pub(crate) fn unite(maker: &mut Maker, left: &Node, right: &Node) -> Made<Nodes>
     pack(maker, before, middle, after)
 }
 
-/// The text of the one tree and then that of the other as one tree, at most one level higher than the higher of them. No
-/// CR at the end of the one may stand before an LF of the other.
+/// Two trees as one, at most one level higher than the higher of them. No CR at the end of the
+/// first may stand before an LF of the second.
 pub fn join(maker: &mut Maker, left: &Node, right: &Node) -> Made<Node>
     requires { CanJoin left.now right.now }
     ensures join { IfOk result (λ node. IsJoin left.now right.now node) }
@@ -142,8 +145,8 @@ pub fn join(maker: &mut Maker, left: &Node, right: &Node) -> Made<Node>
     root_of(maker, nodes)
 }
 
-/// Two trees with the nodes beside the one of them, if any, as one tree: what `join` makes of the other and of a node over those,
-/// which isn't made. The other is no higher than they are.
+/// Two trees as one, with the siblings beside one of them, if any: what `join` makes of the other
+/// tree and of a node over the siblings, which isn't made. The other is no higher than they are.
 pub fn join_rows(
     maker: &mut Maker,
     before: Row<'_>,

@@ -4,10 +4,10 @@
 //! - `cut`: the front and the back of a tree, and what lies between two places
 //! - `join`: two trees as one
 //! - `gap`: a tree without some of its characters
-//! - `edit`: append, removal and long inserts of whole trees
+//! - `long_edits`: inserts, removals and appends that change more than one leaf
 #![tactic(auto)]
 
 pub mod cut;
-pub mod edit;
 mod gap;
 pub mod join;
+pub mod long_edits;

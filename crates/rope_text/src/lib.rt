@@ -57,11 +57,11 @@ pub const MAX_JOINED_BYTES: usize = MAX_BYTES + MAX_SHORT_BYTES;
 pub const MIN_BYTES: usize = 462;
 
 /// The fewest bytes that two neighbouring leaves have together.
-pub const MIN_PAIR_BYTES: usize = 492;
+pub const MIN_TWO_LEAVES_BYTES: usize = 492;
 
 /// A leaf of so many bytes may stand beside any other, since every leaf has at least one. Where a leaf without room is cut in two,
 /// each half has at least so many.
-pub const MIN_HALF_BYTES: usize = MIN_PAIR_BYTES - 1;
+pub const MIN_HALF_BYTES: usize = MIN_TWO_LEAVES_BYTES - 1;
 
 /// How many bytes of a device are held at once. If so many are held and no text stands at their front, they are refused.
 pub const BUFFER_BYTES: usize = 2 * MAX_BYTES;

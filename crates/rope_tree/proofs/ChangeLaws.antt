@@ -31,15 +31,15 @@ grown_change old new more sum small =
     let bytes = ap (λ x. x.bytes) sum in
     let chars = ap (λ x. x.chars) sum in
     let pairs = ap (λ x. x.utf16_surrogates) sum in
-    let count = ap (λ x. x.break_count) sum in
+    let breaks = ap (λ x. x.break_count) sum in
     record {
-      sum = same_counts (info_sum new no_counts) (info_sum old more) (omega (arith, bytes)) (omega (arith, chars)) (omega (arith, pairs)) (omega (arith, count));
+      sum = same_counts (info_sum new no_counts) (info_sum old more) (omega (arith, bytes)) (omega (arith, chars)) (omega (arith, pairs)) (omega (arith, breaks));
       part = record { bytes = omega arith; chars = omega arith; surrogates = omega arith; count = omega arith };
       low = record {
         bytes = omega (arith, bytes, small.bytes);
         chars = omega (arith, chars, small.chars, small.bytes);
-        surrogates = omega (arith, pairs, small.surrogates, small.chars, small.bytes);
-        count = omega (arith, count, small.count, small.chars, small.bytes);
+        pairs = omega (arith, pairs, small.surrogates, small.chars, small.bytes);
+        breaks = omega (arith, breaks, small.count, small.chars, small.bytes);
       };
     }
 
@@ -49,11 +49,11 @@ fallen_change old new less sum =
     let bytes = ap (λ x. x.bytes) sum in
     let chars = ap (λ x. x.chars) sum in
     let pairs = ap (λ x. x.utf16_surrogates) sum in
-    let count = ap (λ x. x.break_count) sum in
+    let breaks = ap (λ x. x.break_count) sum in
     record {
-      sum = same_counts (info_sum new less) (info_sum old no_counts) (omega (arith, bytes)) (omega (arith, chars)) (omega (arith, pairs)) (omega (arith, count));
-      part = record { bytes = omega (arith, bytes); chars = omega (arith, chars); surrogates = omega (arith, pairs); count = omega (arith, count) };
-      low = record { bytes = omega arith; chars = omega arith; surrogates = omega arith; count = omega arith };
+      sum = same_counts (info_sum new less) (info_sum old no_counts) (omega (arith, bytes)) (omega (arith, chars)) (omega (arith, pairs)) (omega (arith, breaks));
+      part = record { bytes = omega (arith, bytes); chars = omega (arith, chars); surrogates = omega (arith, pairs); count = omega (arith, breaks) };
+      low = record { bytes = omega arith; chars = omega arith; pairs = omega arith; breaks = omega arith };
     }
 
 module _ (before after old new : TextInfo) (c : IsChange before after old new) where
@@ -71,8 +71,8 @@ module _ (before after old new : TextInfo) (c : IsChange before after old new) w
   part_fits t f = record {
     bytes = omega (arith, f.bytes, ap (λ x. x.bytes) c.sum);
     chars = omega (arith, f.chars, ap (λ x. x.chars) c.sum);
-    surrogates = omega (arith, f.surrogates, ap (λ x. x.utf16_surrogates) c.sum);
-    count = omega (arith, f.count, ap (λ x. x.break_count) c.sum);
+    pairs = omega (arith, f.pairs, ap (λ x. x.utf16_surrogates) c.sum);
+    breaks = omega (arith, f.breaks, ap (λ x. x.break_count) c.sum);
   }
 
   -- totals in which the part was changed are those in which the text was

@@ -9,16 +9,16 @@ use Rattle.rope_tree.specs.Tree.{Tree, text, joined, height_of, breaks_of, tree_
 use Rattle.rope_tree.specs.Totals.{HasTotals}
 use Rattle.rope_tree.specs.declared.node.Children.TheInside.{Inside}
 use Rattle.rope_tree.specs.Listed.{listed, IsListed}
-use Rattle.rope_tree.proofs.ListedLaws.{set_seen, set_listed, set_totals}
+use Rattle.rope_tree.proofs.ListedLaws.{seen_at, set_seen, set_listed, set_totals}
 use Rattle.rope_tree.specs.Search.{IsSmall}
-use Rattle.rope_tree.specs.Insert.{MayInsert, IsInserted, AreGrown}
+use Rattle.rope_tree.specs.Insert.{MayInsert, GoesIn, IsInserted, AreGrown}
 use Rattle.rope_tree.proofs.Infos.{small_info}
 use Rattle.rope_tree.specs.Narrow.{AreNarrow, FitsWith}
 use Rattle.rope_tree.specs.Change.{IsChange, no_counts}
 use Rattle.rope_tree.proofs.CountLaws.{counts_grow}
 use Rattle.rope_tree.proofs.ChangeLaws.{grown_change, part_of_part, part_fits, whole_changed, change_by, change_own, change_of_list}
 use Rattle.rope_tree.proofs.TreeLaws.{breaks_of_is}
-use Rattle.rope_tree.proofs.InsertDescents.{Takes, last_total}
+use Rattle.rope_tree.proofs.InsertDescents.{Takes, takes, last_total}
 use Rattle.rope_tree.proofs.InsertTrees.{child_may, text_around, byte_len-inserted}
 use Rattle.rope_tree.proofs.TotalLaws.{has_part, fits_after}
 use Rattle.rope_tree.proofs.GrownLaws.{totals_seen, grown, children_grown, child_grown}
@@ -38,6 +38,19 @@ pub record Finds (a : Inside) (ts : List Tree) (k : ℕ) (child : Tree) (at i : 
   pub view : listed a ≡ ts
   pub fields : IsListed a
   pub taken : Takes ts k child at i to_right
+
+-- the one at a place among the nodes
+pub taken_at : (a : Inside) (ts : List Tree) (k : ℕ) (d : Tree) (at i : ℕ) (to_right : Bool) → listed a ≡ ts → AreChildren (breaks_of ts) (height_of ts) ts → k < length ts → at ≡ length (joined (take k ts)) + i
+    → ((child : Tree) → GoesIn at i (length (text (get_or ts k child))) to_right) → Takes ts k (get_or a.nodes k d) at i to_right
+taken_at a ts k d at i to_right view children within place goes = takes ts k (get_or a.nodes k d) at i to_right children within (seen_at a ts k d view within) place goes
+
+pub found_at : (a : Inside) (ts : List Tree) (k : ℕ) (d : Tree) (at i : ℕ) (to_right : Bool) → listed a ≡ ts → IsListed a → AreChildren (breaks_of ts) (height_of ts) ts → k < length ts → at ≡ length (joined (take k ts)) + i
+    → ((child : Tree) → GoesIn at i (length (text (get_or ts k child))) to_right) → Finds a ts k (get_or a.nodes k d) at i to_right
+found_at a ts k d at i to_right view fields children within place goes = record {
+  view = view;
+  fields = fields;
+  taken = taken_at a ts k d at i to_right view children within place goes;
+}
 
 module _ (a : Inside) (ts : List Tree) (k : ℕ) (child : Tree) (at i : ℕ) (to_right : Bool) (f : Finds a ts k child at i to_right) where
   pub read : (seen : List TextInfo) → seen ≡ a.totals → HasTotals (breaks_of ts) seen ts

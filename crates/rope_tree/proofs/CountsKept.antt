@@ -104,8 +104,8 @@ module _ (a b : Inside) (ts : List TextInfo) (i : IsTotals a) (view : all_totals
             record {
               bytes = omega (arith, f.bytes, bytes.within j late to);
               chars = omega (arith, f.chars, chars.within j late to);
-              surrogates = omega (arith, f.surrogates, pairs.within j late to);
-              count = omega (arith, f.count, breaks.within j late to);
+              pairs = omega (arith, f.pairs, pairs.within j late to);
+              breaks = omega (arith, f.breaks, breaks.within j late to);
             }
       ];
     }
@@ -216,7 +216,7 @@ module _ (a b : Inside) (ts : List TextInfo) (i : IsTotals a) (view : all_totals
 
 -- a part of a total, and what is put for it, are below the bound too
 pub was_below : (bound : ℕ) (total old : TextInfo) → IsBelow bound total → HasPart total old → IsBelow bound old
-was_below bound total old n p = record { bytes = omega (arith, n.bytes, p.bytes); chars = omega (arith, n.chars, p.chars); surrogates = omega (arith, n.surrogates, p.surrogates); count = omega (arith, n.count, p.count) }
+was_below bound total old n p = record { bytes = omega (arith, n.bytes, p.bytes); chars = omega (arith, n.chars, p.chars); pairs = omega (arith, n.pairs, p.surrogates); breaks = omega (arith, n.breaks, p.count) }
 
 pub is_below : (bound : ℕ) (total old new : TextInfo) → HasPart total old → IsBelowWith bound total old new → IsBelow bound new
-is_below bound total old new p f = record { bytes = omega (arith, p.bytes, f.bytes); chars = omega (arith, p.chars, f.chars); surrogates = omega (arith, p.surrogates, f.surrogates); count = omega (arith, p.count, f.count) }
+is_below bound total old new p f = record { bytes = omega (arith, p.bytes, f.bytes); chars = omega (arith, p.chars, f.chars); pairs = omega (arith, p.surrogates, f.pairs); breaks = omega (arith, p.count, f.breaks) }

@@ -12,7 +12,7 @@ use Rattle.rope_tree.specs.Tree.{Tree, text, joined, height_of, breaks_of, IsChi
 use Rattle.rope_tree.specs.Totals.{HasTotals}
 use Rattle.rope_tree.specs.Narrow.{IsNarrow, AreNarrow, FitsWith}
 use Rattle.rope_tree.specs.Search.{IsSmall}
-use Rattle.rope_tree.proofs.Infos.{low_info, small_info}
+use Rattle.rope_tree.proofs.Infos.{info_within, small_info}
 use Rattle.rope_tree.proofs.NodeLaws.{child_at, more_at, byte_len-joined}
 use Rattle.rope_tree.proofs.TotalLaws.{same_counts, sums_more, sums_cancel, get_or_self}
 
@@ -111,19 +111,19 @@ module _ (ts us : List Tree) (k : ℕ) (c u x : Tree) (cut : Cuts ts us k c u x)
   -- where the whole text has few bytes, so has each front
   pub cut_fits : byte_len (joined us) < 2 ^ 32 → (m : ℕ) → k ≤ m → m < length ts → FitsWith (counted (breaks_of ts) ts (m + 1)) (info_of (breaks_of ts) (text c)) both
   cut_fits few m from within =
-      let low = low_info (breaks_of ts) (joined (take (m + 1 + 1) us)) 4294967295 (omega (arith, byte_len-joined us (m + 1 + 1), few)) in
+      let low = info_within (breaks_of ts) (joined (take (m + 1 + 1) us)) 4294967295 (omega (arith, byte_len-joined us (m + 1 + 1), few)) in
       let e = even m from within in
       record {
         bytes = omega (arith, low.bytes, ap (λ t. t.bytes) e);
         chars = omega (arith, low.chars, ap (λ t. t.chars) e);
-        surrogates = omega (arith, low.surrogates, ap (λ t. t.utf16_surrogates) e);
-        count = omega (arith, low.count, ap (λ t. t.break_count) e);
+        pairs = omega (arith, low.pairs, ap (λ t. t.utf16_surrogates) e);
+        breaks = omega (arith, low.breaks, ap (λ t. t.break_count) e);
       }
 
   pub first_narrow : byte_len (joined us) < 2 ^ 32 → IsNarrow (info_sum (counted (breaks_of ts) ts k) (info_of (breaks_of ts) (text u)))
   first_narrow few =
-      let low = low_info (breaks_of ts) (joined (take (k + 1) us)) 4294967295 (omega (arith, byte_len-joined us (k + 1), few)) in
-      rw (sym first_more) (record { bytes = omega (arith, low.bytes); chars = omega (arith, low.chars); surrogates = omega (arith, low.surrogates); count = omega (arith, low.count) })
+      let low = info_within (breaks_of ts) (joined (take (k + 1) us)) 4294967295 (omega (arith, byte_len-joined us (k + 1), few)) in
+      rw (sym first_more) (record { bytes = omega (arith, low.bytes); chars = omega (arith, low.chars); pairs = omega (arith, low.pairs); breaks = omega (arith, low.breaks) })
 
   -- so the totals are right again
   pub totals_cut : (totals mid after : List TextInfo) (total : TextInfo) → HasTotals (breaks_of ts) totals ts → length mid ≡ length totals → ((j : ℕ) (d : TextInfo) → j < k → get_or mid j d ≡ get_or totals j d)

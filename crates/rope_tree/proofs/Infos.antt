@@ -11,6 +11,7 @@ use Rattle.rope_text.specs.Text.{byte_len, surrogate_count}
 use Rattle.rope_text.specs.TextInfo.{info_of, info_sum, HasSum}
 use Rattle.rope_text.proofs.InfoLaws.{break_count-le-length}
 use Rattle.rope_tree.specs.Narrow.{IsBelow}
+use Rattle.rope_tree.specs.Counted.{AreWithin}
 use Rattle.rope_tree.specs.Search.{IsSmall}
 
 -- the counts of a text of at most isize::MAX bytes
@@ -44,8 +45,8 @@ pub small_below : (info : TextInfo) → IsSmall info → IsBelow (2 ^ 63) info
 small_below info s = record {
   bytes = s.bytes;
   chars = omega (arith, s.bytes, s.chars);
-  surrogates = omega (arith, s.bytes, s.chars, s.surrogates);
-  count = omega (arith, s.bytes, s.chars, s.count);
+  pairs = omega (arith, s.bytes, s.chars, s.surrogates);
+  breaks = omega (arith, s.bytes, s.chars, s.count);
 }
 
 -- a character of two code units takes four bytes
@@ -63,15 +64,8 @@ pairs_in_bytes [] = omega arith
 pairs_in_bytes (c ∷ cs) =
     omega (arith, length-append (encode_utf8 c) (encode_utf8_all cs), four_bytes c, pairs_in_bytes cs, sum_by-append (λ c. cond (nat_le 65536 c) 1 0) (c ∷ []) cs)
 
--- none of a leaf's counts is above its bytes
-pub record IsLow (info : TextInfo) (most : ℕ) : Type 0 where
-  pub chars : info.chars ≤ most
-  pub surrogates : 4 * info.utf16_surrogates ≤ most
-  pub count : info.break_count ≤ most
-  pub bytes : info.bytes ≤ most
-
-pub low_info : (breaks : LineBreaks) (text : List ℕ) (most : ℕ) → byte_len text ≤ most → IsLow (info_of breaks text) most
-low_info breaks text most fits =
+pub info_within : (breaks : LineBreaks) (text : List ℕ) (most : ℕ) → byte_len text ≤ most → AreWithin most (info_of breaks text)
+info_within breaks text most fits =
     let chars = length-le-encodes text in
-    let count = break_count-le-length breaks text in
-    record { chars = omega (arith, chars, fits); surrogates = omega (arith, pairs_in_bytes text, fits); count = omega (arith, chars, count, fits); bytes = fits }
+    let few = break_count-le-length breaks text in
+    record { chars = omega (arith, chars, fits); pairs = omega (arith, pairs_in_bytes text, fits); breaks = omega (arith, chars, few, fits); bytes = fits }

@@ -131,8 +131,8 @@ module _ (xs ts : List Tree) (totals : List TextInfo) (from : ℕ) (p : IsPart t
       rw (total_is k d lt) (record {
         bytes = omega (arith, last, most, room);
         chars = omega (arith, last, most, room, o.chars, q.chars);
-        surrogates = omega (arith, last, most, room, o.chars, q.chars, o.surrogates, q.surrogates);
-        count = omega (arith, last, most, room, o.chars, q.chars, o.count, q.count);
+        pairs = omega (arith, last, most, room, o.chars, q.chars, o.surrogates, q.surrogates);
+        breaks = omega (arith, last, most, room, o.chars, q.chars, o.count, q.count);
       })
 
   -- the list with them

@@ -7,7 +7,7 @@ use Rattle.rope_text.proofs.Walks.{byte_len-chars}
 use Rattle.rope_tree.specs.Short.{IsShort}
 use Rattle.rope_tree.specs.declared.short_text.ShortText.TheInside.{Inside}
 
-module _ (s : Inside) (cs : List ℕ) (i : IsShort s) (view : chars s.text.now ≡ cs) (yes : s.count ≡ length s.text.now) where
+module _ (s : Inside) (cs : List ℕ) (i : IsShort s) (view : chars s.text.now ≡ cs) (yes : s.char_count ≡ length s.text.now) where
   pub as_many : length s.text.now ≡ length cs
   as_many = sym yes ∙ i.counted (omega arith) ∙ ap length view
 

@@ -9,7 +9,7 @@ use Rattle.rope_text.specs.TextInfo.{info_of, info_sum, HasPart}
 use Rattle.rope_tree.specs.Tree.{Tree, text, joined, AreChildren}
 use Rattle.rope_tree.specs.Totals.{HasTotals}
 use Rattle.rope_tree.specs.Narrow.{FitsWith}
-use Rattle.rope_tree.proofs.Infos.{low_info}
+use Rattle.rope_tree.proofs.Infos.{info_within}
 use Rattle.rope_tree.proofs.NodeLaws.{more_at, byte_len-joined}
 
 -- four equal counts
@@ -101,13 +101,13 @@ module _ (br : LineBreaks) (h : ℕ) (ts us : List Tree) (k : ℕ) (c u : Tree) 
     -- and where the whole text has few bytes, so has each front
     pub fits_after : byte_len (joined us) < 2 ^ 32 → (m : ℕ) → k ≤ m → m < length ts → FitsWith (counted ts (m + 1)) (info_of br (text c)) (info_of br (text u))
     fits_after few m from within =
-        let low = low_info br (joined (take (m + 1) us)) 4294967295 (omega (arith, byte_len-joined us (m + 1), few)) in
+        let low = info_within br (joined (take (m + 1) us)) 4294967295 (omega (arith, byte_len-joined us (m + 1), few)) in
         let e = even m from within in
         record {
           bytes = omega (arith, low.bytes, ap (λ t. t.bytes) e);
           chars = omega (arith, low.chars, ap (λ t. t.chars) e);
-          surrogates = omega (arith, low.surrogates, ap (λ t. t.utf16_surrogates) e);
-          count = omega (arith, low.count, ap (λ t. t.break_count) e);
+          pairs = omega (arith, low.pairs, ap (λ t. t.utf16_surrogates) e);
+          breaks = omega (arith, low.breaks, ap (λ t. t.break_count) e);
         }
 
     -- so the totals are right again

@@ -1,7 +1,7 @@
 -- Leaves cut off the front of a text, and the rest of it.
 use Rattle.std.specs.Prelude.{◌≡◌, ℕ, ◌+◌, ◌*◌, ◌<◌, ◌≤◌, ◌^◌, List, ◌++◌, length}
 use Rattle.std.specs.List.{All, concat}
-use Rattle.rope_text.specs.declared.TheConstants.{MIN_CUT_BYTES, MIN_PAIR_BYTES}
+use Rattle.rope_text.specs.declared.TheConstants.{MIN_CUT_BYTES, MIN_TWO_LEAVES_BYTES}
 use Rattle.rope_text.specs.declared.line_breaks.LineBreaks.{LineBreaks}
 use Rattle.rope_text.specs.Text.{byte_len}
 use Rattle.rope_text.specs.Dense.{last_bytes}
@@ -13,7 +13,7 @@ use Rattle.rope_tree.specs.declared.builder.Builder.TheInside.{Inside}
 pub record AreFronts (text : List ℕ) (leaves : List (List ℕ)) (rest : List ℕ) : Type 0 where
   pub whole : concat leaves ++ rest ≡ text
   pub are_leaves : AreLeaves leaves
-  pub long : 1 ≤ length rest → MIN_PAIR_BYTES ≤ last_bytes MIN_PAIR_BYTES leaves
+  pub long : 1 ≤ length rest → MIN_TWO_LEAVES_BYTES ≤ last_bytes MIN_TWO_LEAVES_BYTES leaves
   pub apart : IsSeam (concat leaves) rest
 
 -- leaf nodes side by side, and the rest of the text

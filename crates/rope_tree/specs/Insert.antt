@@ -1,11 +1,13 @@
 -- What an insert into a tree needs and gives.
-use Rattle.std.specs.Prelude.{◌≡◌, ℕ, ◌+◌, ◌≤◌, ◌<◌, ◌^◌, ◌⊎◌, Bool, true, false, List, length, drop}
+use Rattle.std.specs.Prelude.{◌≡◌, ℕ, ◌+◌, ◌≤◌, ◌<◌, ◌^◌, ◌⊎◌, Bool, true, false, List, [], ◌∷◌, length, drop}
 use Rattle.rope_text.specs.declared.TheConstants.{MAX_CHILDREN, MAX_SHORT_BYTES, MIN_HALF_BYTES}
 use Rattle.rope_text.specs.Text.{byte_len}
 use Rattle.rope_text.specs.Breaks.{begins_with_lf}
 use Rattle.rope_tree.specs.Leaves.{AreLeaves, IsSeam, StandFor}
 use Rattle.rope_tree.specs.Tree.{Tree, text, joined, leaves_of, height_of, breaks_of}
 use Rattle.rope_tree.specs.Siblings.{AreSiblings, AreParts}
+use Rattle.rope_tree.specs.declared.node.in_place.Cut.{Cut}
+use Rattle.rope_tree.specs.declared.node.in_place.Cut.TheVariants.{Kept, Grown, Parted}
 
 -- a tree takes a text of 1 to 981 bytes before its character `at`, and has fewer than 2^63 bytes with it
 pub record TakesShort (t : Tree) (at : ℕ) (new : List ℕ) : Type 0 where
@@ -31,6 +33,12 @@ pub record IsInserted (old : Tree) (ts : List Tree) (new : List ℕ) : Type 0 wh
   pub leaves : AreLeaves (leaves_of ts)
   pub stand : 1 ≤ length old.leaves → StandFor MIN_HALF_BYTES MIN_HALF_BYTES old.leaves (leaves_of ts)
   pub parts : AreParts old.breaks old.width (old.width + 1) old.height ts
+
+-- what became of a node without room that was to have this text: it is as it was, or has the text, or the first part of it, with the second in a node behind it
+abbrev pub IsCut : Tree → Tree → List ℕ → Cut → Type 0
+IsCut old now new Kept = now ≡ old
+IsCut old now new Grown = IsInserted old (now ∷ []) new
+IsCut old now new (Parted back) = IsInserted old (now ∷ back ∷ []) new
 
 -- at least as many trees of the same height as before, and at most 24, of this text
 pub record AreGrown (old ts : List Tree) (new : List ℕ) : Type 0 where

@@ -2,7 +2,7 @@
 use Rattle.std.specs.Prelude.{◌≡◌, ℕ, ◌+◌, ◌≤◌, true, false, min, List, ◌++◌, length}
 use Rattle.std.specs.List.{All, concat}
 use Rattle.std.specs.Str.{all_scalars}
-use Rattle.rope_text.specs.declared.TheConstants.{MAX_BYTES, MIN_PAIR_BYTES}
+use Rattle.rope_text.specs.declared.TheConstants.{MAX_BYTES, MIN_TWO_LEAVES_BYTES}
 use Rattle.rope_text.specs.Text.{byte_len}
 use Rattle.rope_text.specs.Cutting.{parts_crlf, KeepsCrlf}
 use Rattle.rope_text.specs.Dense.{IsDenseBehind, AreDense, last_bytes}
@@ -32,12 +32,12 @@ pub record Recuts (left right new : List (List ℕ)) : Type 0 where
 
 -- other leaves in the place of old ones: they may stand behind so many bytes as are 492 with `first`, and the last of them is as long as the old one or as `last`
 pub record StandFor (first last : ℕ) (old new : List (List ℕ)) : Type 0 where
-  pub behind : (n : ℕ) → MIN_PAIR_BYTES ≤ n + first → IsDenseBehind n old → IsDenseBehind n new
+  pub behind : (n : ℕ) → MIN_TWO_LEAVES_BYTES ≤ n + first → IsDenseBehind n old → IsDenseBehind n new
   pub ahead : (n : ℕ) → min last (last_bytes n old) ≤ last_bytes n new
 
 -- so many bytes are enough for a leaf behind these, and where there are none, as many as are wanted there
 abbrev pub IsEnoughBehind : ℕ → ℕ → List (List ℕ) → Type 0
-IsEnoughBehind wanted first before = (n : ℕ) → MIN_PAIR_BYTES ≤ n + wanted → MIN_PAIR_BYTES ≤ last_bytes n before + first
+IsEnoughBehind wanted first before = (n : ℕ) → MIN_TWO_LEAVES_BYTES ≤ n + wanted → MIN_TWO_LEAVES_BYTES ≤ last_bytes n before + first
 
 -- so many bytes are enough for a leaf before these, and where there are none, as many as are wanted there
 pub record IsEnoughAhead (wanted last : ℕ) (after : List (List ℕ)) : Type 0 where

@@ -1,4 +1,5 @@
 pub mod Leaves
+pub mod Halves
 pub mod Short
 pub mod Tree
 pub mod Search

@@ -6,8 +6,8 @@ use Rattle.rope_text.specs.declared.text_info.TextInfo.{TextInfo}
 pub record IsBelow (bound : ℕ) (info : TextInfo) : Type 0 where
   pub bytes : info.bytes < bound
   pub chars : info.chars < bound
-  pub surrogates : info.utf16_surrogates < bound
-  pub count : info.break_count < bound
+  pub pairs : info.utf16_surrogates < bound
+  pub breaks : info.break_count < bound
 
 -- all of them are
 abbrev pub AreBounded : ℕ → List TextInfo → Type 0
@@ -17,8 +17,8 @@ AreBounded bound totals = (k : ℕ) (d : TextInfo) → k < length totals → IsB
 pub record IsBelowWith (bound : ℕ) (total old new : TextInfo) : Type 0 where
   pub bytes : total.bytes + new.bytes < bound + old.bytes
   pub chars : total.chars + new.chars < bound + old.chars
-  pub surrogates : total.utf16_surrogates + new.utf16_surrogates < bound + old.utf16_surrogates
-  pub count : total.break_count + new.break_count < bound + old.break_count
+  pub pairs : total.utf16_surrogates + new.utf16_surrogates < bound + old.utf16_surrogates
+  pub breaks : total.break_count + new.break_count < bound + old.break_count
 
 -- those that fit in 32 bits
 abbrev pub IsNarrow : TextInfo → Type 0

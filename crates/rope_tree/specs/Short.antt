@@ -4,8 +4,8 @@ use Rattle.std.specs.Str.{chars, is_utf8}
 use Rattle.rope_text.specs.declared.TheConstants.{MAX_BYTES}
 use Rattle.rope_tree.specs.declared.short_text.ShortText.TheInside.{Inside}
 
--- how many characters it has is known, or the count is more than that of its bytes
+-- how many characters it has is known, or the number kept for it is more than that of its bytes
 pub record IsShort (s : Inside) : Type 0 where
   pub utf8 : is_utf8 s.text.now ≡ true
   pub fits : length s.text.now ≤ MAX_BYTES
-  pub counted : s.count ≤ length s.text.now → s.count ≡ length (chars s.text.now)
+  pub counted : s.char_count ≤ length s.text.now → s.char_count ≡ length (chars s.text.now)

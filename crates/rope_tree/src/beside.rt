@@ -1,42 +1,44 @@
 //! How few bytes a leaf may keep beside its neighbours.
 ghost use Rattle.std.specs.Prelude.{ℕ, ◌+◌, ◌<◌, ◌≤◌, List, length, take, drop};
-ghost use Rattle.rope_text.specs.declared.TheConstants.{MIN_PAIR_BYTES};
+ghost use Rattle.rope_text.specs.declared.TheConstants.{MIN_TWO_LEAVES_BYTES};
 ghost use Rattle.rope_text.specs.Dense.{IsDenseBehind, last_bytes};
 ghost use Rattle.rope_tree.specs.Leaves.{IsEnoughBehind, IsEnoughAhead};
 ghost use Rattle.rope_tree.specs.Tree.{Tree, leaves_of};
 ghost use Rattle.rope_tree.specs.Totals.{AreBelow};
 
 use crate::{Totals, total_before};
-use rope_text::{MIN_HALF_BYTES, MIN_PAIR_BYTES};
+use rope_text::{MIN_HALF_BYTES, MIN_TWO_LEAVES_BYTES};
 
-/// How many bytes the leaves at the two ends of a node have to keep: the first beside what stands before the node, and the last
-/// beside what follows it. Where nothing does, none.
+/// How many bytes the first and the last leaf of a node have to keep, so that each has enough
+/// together with the leaf beside it, outside of the node. 0 where none stands beside it.
 #[derive(Clone, Copy)]
 pub struct Least {
     pub first: usize,
     pub last: usize,
 }
 
-/// So many bytes are enough for a leaf next to the child at a place: where that is a leaf, what its own bytes leave to be
-/// wanted. The totals tell how many it has, and it isn't looked at.
+/// How many bytes are enough for a leaf beside the child at a place: if that is a leaf, too, what
+/// it lacks of the least that two have. Its length comes from the totals, so it isn't read.
 fn least_next_to(height: usize, totals: &Totals, place: usize) -> usize
     requires { place < length totals.now }
     ensures behind { (ts : List Tree) → AreBelow height totals.now ts
-        → (n : ℕ) → MIN_PAIR_BYTES ≤ last_bytes n (leaves_of (take (place + 1) ts)) + result }
+        → (n : ℕ) → MIN_TWO_LEAVES_BYTES ≤ last_bytes n (leaves_of (take (place + 1) ts)) + result }
     ensures ahead { (ts : List Tree) → AreBelow height totals.now ts
         → IsDenseBehind result (leaves_of (drop place ts)) }
 {
-    // Beside any leaf half is enough: each has one byte at the least.
+    // Each leaf has at least one byte, and with that half a leaf is enough.
     if height > 1 {
         return MIN_HALF_BYTES;
     }
     let before = total_before(totals, place).bytes;
     let bytes = totals.get(place).bytes.saturating_sub(before);
-    MIN_PAIR_BYTES.saturating_sub(bytes).min(MIN_HALF_BYTES)
+    MIN_TWO_LEAVES_BYTES
+        .saturating_sub(bytes)
+        .min(MIN_HALF_BYTES)
 }
 
-/// What is enough at the two ends of the child at a place, of a list of children of a node of this height, by what is wanted at
-/// the ends of that node.
+/// How many bytes are enough at the two ends of the child at a place, in the list of a node of this
+/// height, by how many are enough at the node's ends.
 pub fn least_at(height: usize, totals: &Totals, place: usize, wanted: Least) -> Least
     requires { place < length totals.now }
     ensures behind { (ts : List Tree) → AreBelow height totals.now ts

@@ -15,14 +15,15 @@ use rope_text::{LineBreaks, MAX_BYTES, MIN_CUT_BYTES};
 use std::alloc::{AllocError, Global};
 use std::marker::Model;
 
-// More bytes than a leaf can have, even where the last of them begin a character or are a CR.
+// How much of the next text is looked at, at the most, to cut a leaf: a leaf's bytes, and four
+// more, since the cut may have to lie up to three bytes before.
 const MAX_AHEAD_BYTES: usize = MAX_BYTES + 4;
 
-// A leaf's bytes, and so many ahead.
+// A rest, of at most a leaf's bytes, and what is looked at behind it.
 const MAX_SEAM_BYTES: usize = MAX_BYTES + MAX_AHEAD_BYTES;
 
-// Cuts the first leaf off a text that begins with `rest` and goes on with `text`, wherever it ends. Answers it, what of `rest` is
-// behind it, and how many bytes of the text are in it.
+// Cuts the first leaf off a text that begins with `rest` and goes on with `text`. Answers that
+// leaf, what of `rest` is behind it, and how many bytes of `text` are in it.
 fn cut_at_seam(rest: &NodeText, text: &str) -> (NodeText, NodeText, usize)
     requires { MAX_BYTES < byte_len rest.now + length text.now }
     ensures boundary { IsCharBoundary text.now result.2 }
@@ -50,8 +51,9 @@ fn cut_at_seam(rest: &NodeText, text: &str) -> (NodeText, NodeText, usize)
     (leaf, NodeText::new(), len - first.len())
 }
 
-// Puts the front of a text behind `rest`, so that it is the first leaf of the two, and answers how many bytes; none where that
-// leaf would be too short, as it may be where it ends near the start of the text.
+// Moves the front of a text behind `rest`, so that the two are a whole leaf, and answers how many
+// bytes. None, if that leaf would be too short, as it may be where it ends near the start of the
+// text.
 fn fill_up(rest: &mut NodeText, text: &str) -> usize
     requires { MAX_BYTES < byte_len rest.old + length text.now }
     ensures boundary { IsCharBoundary text.now result }
@@ -73,7 +75,7 @@ fn fill_up(rest: &mut NodeText, text: &str) -> usize
     taken
 }
 
-// Cuts leaves off the front of `rest` and the text behind it, until what is left fits into one.
+// Cuts leaves off the front of `rest` and the text behind it, until what is left fits in one.
 #[inline(never)]
 fn cut_leaves(
     alloc: Global,
@@ -134,7 +136,7 @@ impl Model for Builder {
 }
 
 impl Builder {
-    /// Nothing is passed in yet. It takes no memory.
+    /// A builder with no text yet. It takes no memory.
     pub fn new(alloc: Global, breaks: LineBreaks) -> Builder
         ensures text { result.text ≡ [] }
         ensures breaks { result.breaks ≡ breaks }
@@ -156,8 +158,8 @@ impl Builder {
         self.bytes
     }
 
-    /// Puts a text behind what was passed in. Where memory is refused, it is as if nothing had been passed in. An empty
-    /// text takes no memory.
+    /// Appends a text. If memory is refused, the builder is empty again. An empty text takes no
+    /// memory.
     pub fn append(&mut self, text: &str) -> Made<()>
         requires { byte_len self.old.text + length text.now < 2 ^ 63 }
         ensures ok { OnOk result (self.new.text ≡ self.old.text ++ chars text.now) }
@@ -179,8 +181,8 @@ impl Builder {
         Ok(())
     }
 
-    /// The tree of what was passed in, with at most one leaf for each 981 bytes and one for the rest. All its nodes are
-    /// counted here, also the leaves that were made before.
+    /// The tree of what was passed in, with at most one leaf for each 981 bytes and one for the
+    /// rest. All its nodes are counted here, those of leaves that were made before included.
     pub fn finish(self, maker: &mut Maker) -> Made<Node>
         ensures text { IfOk result (λ node. text node ≡ self.text) }
         ensures breaks { IfOk result (λ node. node.breaks ≡ self.breaks) }

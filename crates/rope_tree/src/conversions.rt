@@ -1,4 +1,5 @@
-//! Conversions between the indices of a tree's text: each goes down to the leaf that holds the place, and takes no memory.
+//! Conversions between the indices of a tree's text. Each goes down to the leaf that holds the
+//! place, and takes no memory.
 ghost use Rattle.std.specs.Prelude.{◌≡◌, ◌≤◌, ◌<◌, true};
 ghost use Rattle.std.specs.Str.{chars};
 ghost use Rattle.rope_text.specs.TextInfo.{info_of};
@@ -10,17 +11,17 @@ use crate::search::Unit::{Byte, Char, CodeUnit, LineBreak};
 use crate::{Node, Unit, count, leaf_at};
 use rope_text::{LineBreaks, Steps, TextInfo, str_utils};
 
-/// The first index for which a tree is entered: where the first line starts is known.
+/// The first index for which a conversion goes down the tree: 1 for lines, since the first line
+/// starts at 0.
 pub fn first_sought(unit: Unit) -> usize
     ensures { result ≡ first_sought unit }
 {
     usize::from(matches!(unit, LineBreak))
 }
 
-/// The index in the unit `to` of the place of a text that an index in the unit `from` names, by the
-/// counts of the text. It reads the shorter side of the place, but up to one that is given in code
-/// units, and nothing where both units count the same: bytes and characters in ASCII, characters and
-/// code units where no character takes two.
+/// Converts an index from the unit `from` to the unit `to`, in a text whose counts are known. It scans
+/// the text from its nearer end, but for an index in code units. Nothing is scanned where both units
+/// count the same: bytes and characters in ASCII, characters and code units in a text without pairs.
 #[inline(always)]
 pub fn convert_in(
     text: &str,
@@ -49,9 +50,10 @@ pub fn convert_in(
     }
 }
 
-/// The index in the unit `to` of the place that an index in the unit `from` names: the character that holds the byte or the
-/// code unit, the line on which the place lies, or the place at which the line starts. The index may be that of the text's
-/// end, which of lines is the one past the last. It is expanded where it is called, since the units are constants there.
+/// Converts an index of the tree's text from the unit `from` to the unit `to`: to the character
+/// that holds the byte or the code unit, to the line of the place, or to where the line starts. The
+/// index may be that of the text's end, which for lines is one past the last. Inlined, so that the
+/// units are constants.
 #[inline(always)]
 pub fn convert(node: &Node, from: Unit, to: Unit, idx: usize, steps: &mut Steps) -> usize
     requires units { are_converted from to ≡ true }

@@ -1,5 +1,5 @@
 //! Leaves: a text with its counts and its set of line breaks.
-ghost use Rattle.std.specs.Prelude.{◌≡◌, ◌+◌, ◌/◌, ◌<◌, ◌≤◌, [], ◌∷◌, true, false, length, take, IfOk, OnErr, IfSome, IfNone};
+ghost use Rattle.std.specs.Prelude.{◌≡◌, ◌+◌, ◌<◌, ◌≤◌, [], ◌∷◌, true, false, length, take, IfOk, OnErr, IfSome, IfNone};
 ghost use Rattle.std.specs.Str.{chars};
 ghost use Rattle.rope_text.specs.Text.{byte_len};
 ghost use Rattle.rope_text.specs.TextInfo.{info_of};
@@ -7,6 +7,7 @@ ghost use Rattle.rope_text.specs.declared.TheConstants.{MAX_BYTES, MAX_SHORT_BYT
 ghost use Rattle.rope_text.specs.Edit.{inserted};
 ghost use Rattle.rope_tree.specs.Tree.{text, leaf_tree, IsTree};
 ghost use Rattle.rope_tree.specs.LeafTree.{IsLeafOf};
+ghost use Rattle.rope_tree.specs.Counted.{AreWithin};
 ghost use Rattle.rope_tree.specs.Shape.{IsLeafNode};
 ghost use Rattle.rope_tree.specs.Change.{GrowsBy, FallsBy};
 ghost use Rattle.rope_tree.specs.Insert.{IsInserted};
@@ -21,8 +22,8 @@ use std::alloc::{AllocError, Global};
 use std::marker::Model;
 use std::rc::Rc;
 
-/// The counts of a leaf's text, and the set by which its line breaks are counted, in eight bytes. None of the counts is above the
-/// text's bytes, and of its characters at most every fourth byte begins one of two code units. It is seen as the two.
+/// The counts of a leaf's text and its set of line breaks, in eight bytes, seen as the two. No
+/// count is above the text's bytes, and a pair takes four of them.
 #[derive(Clone, Copy)]
 struct Summary {
     chars: u16,
@@ -57,12 +58,9 @@ impl Model for Summary {
 }
 
 impl Summary {
-    /// These counts, by this set.
+    /// These counts, of which the breaks were counted by this set.
     fn new(breaks: LineBreaks, info: TextInfo) -> Summary
-        requires chars { info.chars ≤ MAX_BYTES }
-        requires surrogates { info.utf16_surrogates ≤ MAX_BYTES / 4 }
-        requires break_count { info.break_count ≤ MAX_BYTES }
-        requires bytes { info.bytes ≤ MAX_BYTES }
+        requires { AreWithin MAX_BYTES info }
         ensures breaks { result.breaks ≡ breaks }
         ensures info { result.info ≡ info }
     {
@@ -75,7 +73,7 @@ impl Summary {
         }
     }
 
-    /// The counts, in the width of a whole text's.
+    /// The counts, in words.
     fn info(self) -> TextInfo
         ensures { result ≡ self.info }
     {
@@ -108,7 +106,8 @@ impl Model for Leaf {
 }
 
 impl Leaf {
-    /// Puts a copy of another text in the place of its own, whose counts by this set of line breaks the caller knows.
+    /// Replaces the text by a copy of another, whose counts by this set of line breaks the caller
+    /// knows.
     fn fill(&mut self, breaks: LineBreaks, text: &str, info: TextInfo)
         requires fits { length text.now ≤ MAX_BYTES }
         requires info { info ≡ info_of breaks (chars text.now) }
@@ -118,14 +117,14 @@ impl Leaf {
         self.text.set(text);
     }
 
-    /// A leaf with a copy of this text, whose counts by this set the caller knows. It is filled where it stays, so that the text is
-    /// moved once.
+    /// A leaf with a copy of this text, whose counts by this set the caller knows. It is filled
+    /// where it stays, so that the text is moved once.
     pub fn of_text(alloc: Global, breaks: LineBreaks, text: &str, info: TextInfo) -> Made<Rc<Leaf>>
         requires fits { length text.now ≤ MAX_BYTES }
         requires info { info ≡ info_of breaks (chars text.now) }
         ensures { IfOk result (λ leaf. leaf.value ≡ leaf_tree breaks (chars text.now)) }
     {
-        // Each byte of it is 0, so that its place in memory is cleared at once.
+        // All its bytes are 0, so that the memory is cleared at once.
         let empty = Leaf {
             summary: Summary::new(LineBreaks::Lf, TextInfo::new()),
             text: NodeText::new(),
@@ -134,7 +133,7 @@ impl Leaf {
         let Ok(mut leaf) = Rc::new(alloc, empty) else {
             return Err(AllocError);
         };
-        // A leaf that was just made has no other owner, so that it can always be changed.
+        // It was just made and has no other owner, so this never fails.
         let Some(room) = Rc::get_mut(&mut leaf) else {
             return Err(AllocError);
         };
@@ -156,26 +155,28 @@ impl Leaf {
         self.summary.info()
     }
 
-    /// Its text, by its counts, which the caller knows or reads in the leaf: the length that is kept with the text lies behind it, a
-    /// cache line that a walk over leaves would miss on at each.
+    /// Its text, by its counts, which the caller knows or reads here: the length that is kept with
+    /// the text lies behind it, in a cache line on which a walk over leaves would miss each time.
     pub(crate) fn known_text(&self, info: TextInfo) -> ShortText<'_>
         requires { info ≡ info_of self.now.breaks (text self.now) }
         ensures { IsLeafOf self.now result }
     {
         ShortText {
             text: &self.text.as_str()[..info.bytes],
-            count: info.chars,
+            char_count: info.chars,
         }
     }
 
-    /// Prefetch: reads the last of `len` bytes and one in each cache line from `from` on, which an edit goes over. The length is the
-    /// caller's, since the text's own would miss. Answers whether their sum is one that none have: a caller that tests it keeps the
-    /// compiler from dropping the reads.
+    /// Prefetch: reads the last of `len` bytes, and from `from` on one in each cache line, for an
+    /// edit that will go over them. The length is the caller's, since a load of the text's own
+    /// would miss. Answers whether their sum is one that they can't have: the caller's test keeps
+    /// the compiler from dropping the reads.
     pub(crate) fn touch(&self, from: usize, len: usize) -> bool {
         let bytes = self.text.as_str().as_bytes();
         let len = len.min(MAX_BYTES);
         let mut sum = 0;
-        // Each test is a branch, which is predicted: a choice between two addresses would wait for the text's own length.
+        // Each test is a branch, which is predicted: a choice between two addresses would wait for
+        // the text's own length.
         if let Some(last) = bytes.get(len.saturating_sub(1)) {
             sum = usize::from(*last);
         }
@@ -189,8 +190,8 @@ impl Leaf {
         sum == usize::MAX
     }
 
-    /// Puts a text before the character `at`, if there is room for it; returns whether it did, and in `more` by how much the
-    /// counts grew. It takes no memory.
+    /// Puts a text before the character `at`, if there is room for it. Returns whether it did, and
+    /// in `more` by how much the counts grew. It takes no memory.
     pub fn insert_in_place(&mut self, at: usize, added: &ShortText<'_>, more: &mut TextInfo) -> bool
         requires within { at ≤ length (text self.old) }
         requires some { 1 ≤ length added.now }
@@ -216,7 +217,7 @@ impl Leaf {
         true
     }
 
-    /// Keeps the first characters alone, which take so many bytes, and whose counts the caller knows.
+    /// Keeps the first characters alone, which take `len` bytes, and whose counts the caller knows.
     fn keep(&mut self, len: usize, info: TextInfo)
         requires len { len ≡ byte_len (take info.chars (text self.old)) }
         requires info { info ≡ info_of self.old.breaks (take info.chars (text self.old)) }
@@ -227,9 +228,10 @@ impl Leaf {
         self.summary = Summary::new(breaks, info);
     }
 
-    /// Puts a text before the character `at`, where there is no room for it, if it is short and goes inside of a half of the leaf:
-    /// leaves the first half here, and answers a leaf with the second. So no byte moves but those of the second half, and those
-    /// behind the place in its half. None, and nothing changed, where it isn't so.
+    /// Puts a text before the character `at`, where there is no room for it, if it is short and
+    /// goes inside of one half of the leaf: leaves the first half here, and answers a leaf with the
+    /// second. So no byte moves but the second half's, and those behind the text in its half. None,
+    /// and nothing has changed, in any other case.
     fn cut_in_place(
         &mut self,
         maker: &mut Maker,
@@ -258,7 +260,7 @@ impl Leaf {
         }
         maker.add_made();
         let mut leaf = Leaf::of_text(maker.alloc, breaks, back, info.minus(front_info))?;
-        // A leaf that was just made has no other owner, so that it can always be changed.
+        // It was just made and has no other owner, so this never fails.
         let Some(behind) = Rc::get_mut(&mut leaf) else {
             return Err(AllocError);
         };
@@ -272,8 +274,9 @@ impl Leaf {
         Ok(Some(leaf))
     }
 
-    /// Puts a text before the character `at`, where there is no room for it: leaves the first part of the two together here, and
-    /// answers a leaf with the second. Where memory is refused, nothing is changed.
+    /// Puts a text before the character `at`, where there is no room for it: builds the two
+    /// together, leaves the first part here and answers a leaf with the second. If memory is
+    /// refused, nothing has changed.
     fn cut_anew(&mut self, maker: &mut Maker, at: usize, added: &ShortText<'_>) -> Made<Node>
         requires full { MAX_BYTES < byte_len (text self.old) + byte_len added.now }
         requires some { 1 ≤ length added.now }
@@ -294,8 +297,9 @@ impl Leaf {
         Ok(behind)
     }
 
-    /// Puts a text before the character `at`, where there is no room for it: leaves the first part here, and answers a leaf
-    /// with the second. None, and nothing changed, where there is room. Where memory is refused, nothing is changed.
+    /// Puts a text before the character `at`, where there is no room for it: leaves the first part
+    /// here, and answers a leaf with the second. None, and nothing has changed, where there is
+    /// room. If memory is refused, nothing has changed.
     pub fn cut(&mut self, maker: &mut Maker, at: usize, added: &ShortText<'_>) -> Made<Option<Node>>
         requires within { at ≤ length (text self.old) }
         requires some { 1 ≤ length added.now }
@@ -303,6 +307,8 @@ impl Leaf {
         ensures cut { IfOk result (λ found. IfSome found (λ back.
             IsInserted self.old (self.new ∷ back ∷ []) (inserted (text self.old) at added.now))) }
         ensures kept { IfOk result (λ found. IfNone found (self.new ≡ self.old)) }
+        ensures room { IfOk result (λ found. IfNone found
+            (byte_len (text self.old) + byte_len added.now ≤ MAX_BYTES)) }
         ensures err { OnErr result (self.new ≡ self.old) }
         ensures unmade { IfOk result (λ found. IfNone found (maker.new.made ≡ maker.old.made)) }
         ensures made { maker.new.made ≤ maker.old.made + 1 }
@@ -317,8 +323,9 @@ impl Leaf {
         Ok(Some(behind))
     }
 
-    /// Takes the characters from `start` up to `end` out, if the leaf may do without them and keeps so many bytes; returns
-    /// whether it did, and in `less` by how much the counts fell. It takes no memory.
+    /// Removes the characters from `start` up to `end`, if the leaf may do without them and keeps
+    /// so many bytes. Returns whether it did, and in `less` by how much the counts fell. It takes
+    /// no memory.
     pub fn remove_in_place(
         &mut self,
         start: usize,

@@ -1,4 +1,4 @@
-//! The text of a leaf edited, and its counts by sums and differences.
+//! Edits of a leaf's text, whose counts follow by sums and differences.
 ghost use Rattle.std.specs.Prelude.{◌≡◌, ◌+◌, ◌<◌, ◌≤◌, ◌++◌, true, length, IfSome, IfNone};
 ghost use Rattle.std.specs.Str.{chars, all_scalars};
 ghost use Rattle.rope_text.specs.declared.TheConstants.{MAX_BYTES, MAX_SHORT_BYTES};
@@ -14,7 +14,7 @@ use arrayvec::ArrayString;
 use rope_text::str_utils::char_to_byte_idx_of;
 use rope_text::{LineBreaks, MAX_JOINED_BYTES, TextInfo};
 
-/// Whether CR is the last character.
+/// Whether the last character is CR.
 pub fn ends_in_cr(text: &str) -> bool
     ensures { result ≡ ends_in_cr (chars text.now) }
 {
@@ -22,22 +22,24 @@ pub fn ends_in_cr(text: &str) -> bool
     !bytes.is_empty() && bytes[bytes.len() - 1] == b'\r'
 }
 
-/// Whether LF is the first character.
+/// Whether the first character is LF.
 fn begins_with_lf(text: &str) -> bool
     ensures { result ≡ begins_with_lf (chars text.now) }
 {
     text.chars().next() == Some('\n')
 }
 
-/// How many breaks two texts have less where they are joined: one where a CR that is a break meets an LF.
+/// How many breaks fewer two texts have when they are joined: one, if a CR that is a break meets an
+/// LF.
 pub fn shared_breaks(first: &str, second: &str, breaks: LineBreaks) -> usize
     ensures { result ≡ shared_breaks breaks (chars first.now) (chars second.now) }
 {
     usize::from(ends_in_cr(first) && begins_with_lf(second) && breaks.is_break('\r'))
 }
 
-/// The counts of a text with another between its front and its back, by the counts of the whole: only the new text is gone
-/// over, and the ends. Where neither the front nor the new text ends in a CR, no CR meets an LF, and the sums are right.
+/// The counts of a text with another put between its front and its back, by the counts of the two:
+/// only the new text is counted. If neither the front nor the new text ends in CR, no CR meets an
+/// LF, and the sums are right.
 #[inline(always)]
 fn info_between(
     info: TextInfo,
@@ -64,8 +66,8 @@ fn info_between(
     }
 }
 
-/// The text of a leaf with another before its character `at`, which may be too long for one leaf, and its counts, which come
-/// from those of the leaf.
+/// The text of a leaf with another before its character `at`, which may be too long for one leaf,
+/// and its counts, by those of the leaf.
 #[inline(always)]
 pub(crate) fn leaf_with(
     info: TextInfo,
@@ -90,8 +92,8 @@ pub(crate) fn leaf_with(
     (text_of_parts(front, added, back), info)
 }
 
-/// Puts a text before the character `at` of a leaf that has room for it, and gives the counts of the whole, by those of what
-/// was.
+/// Puts a text before the character `at` of a leaf that has room for it, and answers the counts of
+/// the whole, by those before.
 pub fn put_in(
     leaf: &mut NodeText,
     at: usize,
@@ -121,9 +123,10 @@ pub fn put_in(
     info
 }
 
-/// Takes the characters from `start` up to `end` out of a leaf, and gives the counts of what stays, by those of what was: only the part
-/// that goes is gone over, and the ends. None, and the leaf as it was, where nothing would stay, or fewer bytes than `least`, or where
-/// what stays could not stand between the same neighbours with no CR before an LF.
+/// Removes the characters from `start` up to `end` from a leaf, and answers the counts of what
+/// stays, by those before: only the part that goes is counted. None, and the leaf as it was, if
+/// nothing would stay, or fewer bytes than `least`, or if an LF would come first or a CR last that
+/// didn't: beside a neighbour it might make a CR LF.
 pub fn take_out(
     leaf: &mut NodeText,
     start: usize,

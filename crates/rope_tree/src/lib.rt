@@ -1,14 +1,17 @@
 //! The tree of a rope: leaf texts under nodes with running totals.
 //!
-//! A leaf has 1 to 984 bytes of text, which fill a block of 1,024 with its counts. An inner node has up to 24 children and, for
-//! each kind of count, a row of running totals: a search for a place reads one row, by halving, and waits for two cache lines.
-//! Nodes are shared between trees by their counts of owners, and one with more owners than one is copied before it changes.
+//! A leaf has 1 to 984 bytes of text, which fill a block of 1,024 with its counts. An inner node
+//! has up to 24 children and, for each kind of count, a row of running totals: a search halves over
+//! one row, and misses on two cache lines at most. Trees share nodes, whose owners are counted; a
+//! node with more than one is copied before it is changed.
 //!
-//! Any two neighbouring leaves have 492 bytes or more together, so that the memory of a tree follows its text. An insert keeps
-//! that by itself: a full leaf is cut into two of 491 bytes or more, and a byte of a neighbour makes 492. A removal asks its
-//! neighbours' lengths, which the totals tell. No leaf is merged with another but by a join, so an edit changes one leaf.
+//! Any two neighbouring leaves have 492 bytes or more together, so that the memory of a tree follows
+//! its text. An insert needn't look after that: a full leaf is cut into two of 491 bytes or more, and
+//! any neighbour has one. A removal compares with the neighbours' lengths, which the totals tell. No
+//! leaf is merged with another but by a join, so that an edit changes one leaf.
 //!
-//! No CR LF lies in two leaves: so each leaf's line breaks are counted by itself, and the totals are sums.
+//! No CR LF lies in two leaves. So each leaf's line breaks are counted without its neighbours, and
+//! the totals are sums.
 //!
 //! Modules, lowest first:
 //! - `node_text`: the text of a leaf, and where a longer one is cut
@@ -17,11 +20,11 @@
 //! - `leaf`: a text with its counts
 //! - `maker`: where nodes' memory comes from
 //! - `search`: running totals, and the child that holds a place
-//! - `node`: nodes; `node::row` puts them side by side, `node::anew` puts a text into a tree beside the old one, and
+//! - `node`: nodes; `node::row` puts them side by side, `node::anew` inserts into a new tree, and
 //!   `node::in_place` edits nodes where they stand
-//! - `lookup`, `conversions`: the way down to a leaf, and indices on it
+//! - `lookup`, `conversions`: the descent to a leaf, and indices on it
 //! - `beside`: how few bytes a leaf may keep beside its neighbours
-//! - `edit`: short inserts into whole trees, and removals from one leaf
+//! - `short_edits`: inserts into whole trees that change one leaf, and removals from one
 //! - `build`, `builder`: trees of whole texts, and of texts passed in one after the other
 #![tactic(auto)]
 
@@ -29,7 +32,6 @@ mod beside;
 pub mod build;
 mod builder;
 mod conversions;
-mod edit;
 mod leaf;
 mod leaf_edits;
 mod lookup;
@@ -37,11 +39,11 @@ mod maker;
 mod node;
 mod node_text;
 mod search;
+mod short_edits;
 mod short_text;
 
 pub use builder::Builder;
 pub use conversions::{convert, convert_in, first_sought};
-pub use edit::{insert_at, is_lf, remove_at};
 pub use leaf_edits::shared_breaks;
 pub use lookup::{Found, byte_at, char_at, leaf_at, leaf_count};
 pub use maker::{Made, Maker};
@@ -49,4 +51,5 @@ pub use node::row::{Row, node_over, pack, pack_over, root_of};
 pub use node::{Node, Nodes, View, leaf_of, make_leaf};
 pub use node_text::NodeText;
 pub use search::{Totals, Unit, count, place_of, total_before};
+pub use short_edits::{insert_at, is_lf, remove_at};
 pub use short_text::ShortText;

@@ -1,4 +1,4 @@
-//! The way down to the leaf that holds a place.
+//! The descent to the leaf that holds a place.
 ghost use Rattle.std.specs.Prelude.{◌≡◌, ◌+◌, ◌-◌, ◌*◌, ◌<◌, ◌≤◌, ◌^◌, length, slice_get, Some};
 ghost use Rattle.std.specs.Str.{encode_utf8_all};
 ghost use Rattle.rope_text.specs.declared.text_info.TextInfo.{TextInfo};
@@ -13,7 +13,7 @@ use crate::{Node, ShortText, Unit, View, count, place_of, total_before};
 use rope_text::str_utils::first_char;
 use rope_text::{Steps, TextInfo};
 
-/// A leaf, its counts, and those of the text before it.
+/// A leaf that was looked up, its counts, and those of the text before it.
 #[derive(Drop)]
 pub struct Found<'a> {
     pub leaf: ShortText<'a>,
@@ -36,7 +36,7 @@ pub fn leaf_at<'a>(node: &'a Node, unit: Unit, at: usize, steps: &mut Steps) -> 
     ensures made { steps.new.made ≡ steps.old.made }
 {
     let mut here = node;
-    // A leaf's counts are told by its list's totals, so that no look-up misses on the leaf's head.
+    // A leaf's counts come from its list's totals, so that no look-up misses on the leaf's head.
     let mut inside = node.info();
     let mut rest = at;
     let mut before = TextInfo::new();
@@ -63,7 +63,8 @@ pub fn leaf_at<'a>(node: &'a Node, unit: Unit, at: usize, steps: &mut Steps) -> 
     }
 }
 
-/// The number of chunks: the leaves that are not empty. It enters the inner nodes alone, and takes no memory.
+/// The number of chunks, which are the leaves that aren't empty. It reads inner nodes alone, and
+/// takes no memory.
 pub fn leaf_count(node: &Node) -> usize
     ensures { result ≡ length node.now.leaves }
 {
@@ -81,7 +82,7 @@ pub fn leaf_count(node: &Node) -> usize
     }
 }
 
-/// The byte at a place.
+/// The byte at an index.
 pub fn byte_at(node: &Node, byte_idx: usize, steps: &mut Steps) -> u8
     requires within { byte_idx < byte_len (text node.now) }
     requires room { HaveRoom node.now.height steps.old }
@@ -95,7 +96,7 @@ pub fn byte_at(node: &Node, byte_idx: usize, steps: &mut Steps) -> u8
     bytes[byte_idx - found.before.bytes]
 }
 
-/// The character at a place.
+/// The character at an index.
 pub fn char_at(node: &Node, char_idx: usize, steps: &mut Steps) -> char
     requires within { char_idx < length (text node.now) }
     requires room { HaveRoom node.now.height steps.old }

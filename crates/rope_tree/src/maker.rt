@@ -1,4 +1,4 @@
-//! What makes nodes.
+//! The maker of nodes, which counts them.
 ghost use Rattle.std.specs.Prelude.{◌≡◌, ◌+◌, ◌<◌, ◌≤◌, ◌^◌};
 
 use std::alloc::{AllocError, Global};
@@ -6,7 +6,7 @@ use std::alloc::{AllocError, Global};
 /// What is made, unless memory for it is refused.
 pub type Made<T> = Result<T, AllocError>;
 
-/// What makes nodes: where their memory comes from, and how many it made.
+/// Where nodes' memory comes from, and how many were made.
 #[derive(Clone, Copy)]
 pub struct Maker {
     pub alloc: Global,
@@ -14,14 +14,14 @@ pub struct Maker {
 }
 
 impl Maker {
-    /// It has made none.
+    /// A maker that has made none yet.
     pub fn new(alloc: Global) -> Maker
         ensures { result.made ≡ 0 }
     {
         Maker { alloc, made: 0 }
     }
 
-    /// Counts a node that is made.
+    /// Counts one node more. Above the largest number it stays there.
     pub(crate) fn add_made(&mut self)
         ensures most { self.new.made ≤ self.old.made + 1 }
         ensures added { self.old.made + 1 < 2 ^ 64 → self.new.made ≡ self.old.made + 1 }
@@ -30,7 +30,7 @@ impl Maker {
         self.made = self.made.saturating_add(1);
     }
 
-    /// Counts so many nodes that were made before.
+    /// Counts nodes that were made without this maker.
     pub(crate) fn add_all_made(&mut self, nodes: usize)
         ensures most { self.new.made ≤ self.old.made + nodes }
         ensures added { self.old.made + nodes < 2 ^ 64 → self.new.made ≡ self.old.made + nodes }

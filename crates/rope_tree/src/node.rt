@@ -1,4 +1,5 @@
-//! Nodes: an empty text, or a pointer to a leaf or to a list of children. No other module sees their fields.
+//! Nodes: an empty text, or a pointer to a leaf or to a list of children. Their fields are private
+//! to this module and those in it.
 ghost use Rattle.std.specs.Prelude.{◌≡◌, ◌+◌, ◌^◌, ◌<◌, ◌≤◌, List, length, IfOk};
 ghost use Rattle.std.specs.Str.{chars};
 ghost use Rattle.rope_text.specs.declared.TheConstants.{MAX_BYTES, MAX_CHILDREN, MAX_HEIGHT};
@@ -26,7 +27,8 @@ pub struct Node {
     form: Form,
 }
 
-/// What a node has. Its kind is known beside the pointer, and an empty text takes no memory.
+/// What a node is. Its kind lies beside the pointer, so that no memory is read to learn it, and an
+/// empty text takes none.
 #[cycle(tree)]
 #[derive(Drop)]
 enum Form {
@@ -35,14 +37,14 @@ enum Form {
     Inner(Rc<Children>),
 }
 
-/// The children of an inner node, and for each the counts of all children up to and with it. Behind the children empty nodes
-/// keep the places of more.
+/// The children of an inner node, with their running totals. The places behind the children hold
+/// empty nodes.
 #[cycle(tree)]
 #[derive(Drop)]
 struct Children {
     height: u8,
     breaks: LineBreaks,
-    /// Which child the last edit went to, where the next one often goes.
+    /// The child that the last edit went to, where the next one often goes.
     last: u8,
     totals: Totals,
     nodes: [Node; MAX_CHILDREN],
@@ -108,7 +110,7 @@ impl Children {
 impl Default for Node {
     ghost is_default = { IsFlat };
 
-    /// An empty node, of which each byte is 0: so the places of a list are cleared at once.
+    /// An empty node. All its bytes are 0, so that the places of a list are cleared at once.
     fn default() -> Self {
         let form = Form::Empty(LineBreaks::Lf);
         Node { form }
@@ -116,7 +118,8 @@ impl Default for Node {
 }
 
 impl Node {
-    /// How many levels lie below it: 0 for a leaf, and at most 18. A call of it also tells a proof what holds of every node.
+    /// How many levels lie below it: 0 for a leaf, and at most 18. Its clauses also say what holds
+    /// of every node.
     pub fn height(&self) -> usize
         ensures value { result ≡ self.now.height }
         ensures low { self.now.height ≤ MAX_HEIGHT }
@@ -139,7 +142,7 @@ impl Node {
         }
     }
 
-    /// The counts of its text. A call of it, too, tells a proof what holds of every node.
+    /// The counts of its text. Its clauses also say what holds of every node.
     pub fn info(&self) -> TextInfo
         ensures value { result ≡ info_of self.now.breaks (text self.now) }
         ensures low { self.now.height ≤ MAX_HEIGHT }
@@ -152,14 +155,14 @@ impl Node {
         }
     }
 
-    /// What the node has.
+    /// What the node is.
     pub fn view(&self) -> View<'_>
         ensures { IsViewOf self.now result }
     {
         self.known_view(self.info())
     }
 
-    /// The same by the counts of its text, which the caller knows: nothing of a leaf is read.
+    /// The same, by the counts of its text, which the caller knows: so nothing of a leaf is read.
     pub fn known_view(&self, info: TextInfo) -> View<'_>
         requires { info ≡ info_of self.now.breaks (text self.now) }
         ensures { IsViewOf self.now result }
@@ -174,7 +177,7 @@ impl Node {
         }
     }
 
-    /// The node that is a leaf.
+    /// A node of this leaf.
     pub(crate) fn of_leaf(leaf: Rc<Leaf>) -> Node
         requires { IsLeafNode leaf.value }
         ensures { result ≡ leaf.value }
@@ -183,7 +186,7 @@ impl Node {
         Node { form }
     }
 
-    /// The same node once more.
+    /// The same node, with one owner more.
     pub fn share(&self) -> Made<Node>
         ensures same { IfOk result (λ node. node ≡ self.now) }
         ensures tree { IfOk result (λ node. IsTree node) }
@@ -197,21 +200,21 @@ impl Node {
     }
 }
 
-/// What a node has: a leaf's text, or an inner node's children with their running totals.
+/// What a node is: a leaf's text, or an inner node's children with their running totals.
 #[derive(Drop)]
 pub enum View<'a> {
     Leaf(ShortText<'a>),
     Inner(&'a [Node], &'a Totals),
 }
 
-/// One node, or two in a row.
+/// One node, or two side by side.
 #[derive(Drop)]
 pub enum Nodes {
     One(Node),
     Two(Node, Node),
 }
 
-/// A leaf with this text, whose counts the caller knows. An empty one takes no memory.
+/// A leaf of this text, whose counts the caller knows. An empty one takes no memory.
 pub fn make_leaf(maker: &mut Maker, breaks: LineBreaks, text: &str, info: TextInfo) -> Made<Node>
     requires fits { length text.now ≤ MAX_BYTES }
     requires info { info ≡ info_of breaks (chars text.now) }
@@ -230,7 +233,7 @@ pub fn make_leaf(maker: &mut Maker, breaks: LineBreaks, text: &str, info: TextIn
     Ok(Node { form })
 }
 
-/// A leaf of its own with this text.
+/// A leaf of this text.
 pub fn leaf_of(maker: &mut Maker, breaks: LineBreaks, text: &str) -> Made<Node>
     requires { length text.now ≤ MAX_BYTES }
     ensures ok { IfOk result (λ node. node ≡ leaf_tree breaks (chars text.now)) }

@@ -1,11 +1,11 @@
 //! The text of a leaf.
-ghost use Rattle.std.specs.Prelude.{◌≡◌, ℕ, ◌+◌, ◌<◌, ◌≤◌, ◌++◌, [], true, false, length, take, IsTrue, IfSome};
+ghost use Rattle.std.specs.Prelude.{◌≡◌, ℕ, ◌+◌, ◌<◌, ◌≤◌, ◌++◌, [], true, length, take, IsTrue, IfSome};
 ghost use Rattle.std.specs.List.{insert_slice, remove_range};
-ghost use Rattle.std.specs.Str.{chars, all_scalars, IsUtf8, IsCharBoundary, encode_utf8_all};
-ghost use Rattle.rope_text.specs.declared.TheConstants.{MAX_BYTES, MAX_JOINED_BYTES, MIN_CUT_BYTES, MIN_HALF_BYTES};
+ghost use Rattle.std.specs.Str.{chars, all_scalars, IsCharBoundary, encode_utf8_all};
+ghost use Rattle.rope_text.specs.declared.TheConstants.{MAX_BYTES, MAX_JOINED_BYTES, MIN_CUT_BYTES};
 ghost use Rattle.rope_text.specs.Text.{byte_len};
-ghost use Rattle.rope_text.specs.Cutting.{parts_crlf};
 ghost use Rattle.rope_text.specs.Cuts.{is_cut};
+ghost use Rattle.rope_tree.specs.Halves.{AreHalves};
 
 use arrayvec::{ArrayString, ArrayVec};
 use rope_text::crlf::{next_break, prev_break};
@@ -14,7 +14,7 @@ use rope_text::{MAX_BYTES, MAX_JOINED_BYTES, MIN_HALF_BYTES};
 use std::marker::Model;
 use std::str;
 
-// One text of three.
+// Three texts as one.
 pub(crate) fn text_of_parts<const N: usize>(
     first: &str,
     second: &str,
@@ -33,7 +33,7 @@ pub(crate) fn text_of_parts<const N: usize>(
 // Room for the bytes of a leaf.
 type LeafBytes = ArrayVec<u8, MAX_BYTES>;
 
-// Puts bytes at the end.
+// Appends bytes.
 fn append_bytes(bytes: &mut LeafBytes, added: &[u8])
     requires { length bytes.old.items + length added.now ≤ MAX_BYTES }
     ensures { bytes.new.items ≡ bytes.old.items ++ added.now }
@@ -44,7 +44,8 @@ fn append_bytes(bytes: &mut LeafBytes, added: &[u8])
     }
 }
 
-// Puts bytes before the one at `place` of the first `old_len`. What follows it moves up, over as many bytes as are put in.
+// Inserts bytes before the one at `place` of the first `old_len`. What follows it moves up, over as
+// many bytes as are inserted.
 fn put_in_gap(bytes: &mut [u8], place: usize, old_len: usize, added: &[u8])
     requires place { place ≤ old_len }
     requires len { length bytes.old ≡ old_len + length added.now }
@@ -55,14 +56,14 @@ fn put_in_gap(bytes: &mut [u8], place: usize, old_len: usize, added: &[u8])
     bytes[place..end].copy_from_slice(added);
 }
 
-// Puts bytes before the one at `place`. What follows it moves up once, and what stands before it stays.
+// Inserts bytes before the one at `place`. What follows it moves once.
 fn put_bytes(bytes: &mut LeafBytes, place: usize, added: &[u8])
     requires place { place ≤ length bytes.old.items }
     requires fits { length bytes.old.items + length added.now ≤ MAX_BYTES }
     ensures { bytes.new.items ≡ insert_slice bytes.old.items place added.now }
 {
     if added.len() == 1 {
-        // As of a key that was pressed: what follows moves by one place, which the compiler knows, and so by one call.
+        // Mostly a typed character: what follows moves by one byte, a constant, and so by one call.
         bytes.insert(place, added[0]);
         return;
     }
@@ -71,35 +72,22 @@ fn put_bytes(bytes: &mut LeafBytes, place: usize, added: &[u8])
     put_in_gap(bytes.as_mut_slice(), place, old_len, added);
 }
 
-/// Cuts a text that is too long for one leaf into two. Each part has half a leaf, but for a byte, and the cut parts no CR from
-/// an LF.
+/// Cuts a text that is too long for a leaf into two near its middle, so that each is a leaf's text,
+/// and has at least half a leaf's bytes but for one. No CR is parted from an LF.
 pub(crate) fn halves_of(text: &str) -> (&str, &str)
     requires long { MAX_BYTES < length text.now }
     requires short { length text.now ≤ MAX_JOINED_BYTES }
-    ensures utf8 { IsUtf8 result.0.now × IsUtf8 result.1.now }
-    ensures joined { chars result.0.now ++ chars result.1.now ≡ chars text.now }
-    ensures some { (0 < length (chars result.0.now)) × (0 < length (chars result.1.now)) }
-    ensures apart { parts_crlf (chars result.0.now) (chars result.1.now) ≡ false }
-    ensures least { (MIN_HALF_BYTES ≤ length result.0.now)
-        × (MIN_HALF_BYTES ≤ length result.1.now) }
-    ensures most { (length result.0.now ≤ MAX_BYTES) × (length result.1.now ≤ MAX_BYTES) }
+    ensures { AreHalves 0 text.now result.0.now result.1.now }
 {
     let cut = next_break(text.len() / 2 - 2, text.as_bytes());
     (&text[..cut], &text[cut..])
 }
 
-/// Cuts the text of a leaf into two, of which each has half a leaf, but for a byte, and room for so many bytes more; the cut parts
-/// no CR from an LF. None where no cut next to the middle is such.
+/// Cuts the text of a leaf into two near its middle, so that each has at least half a leaf's bytes
+/// but for one, and room for so many more. No CR is parted from an LF. None where no cut next to
+/// the middle is such.
 pub(crate) fn even_halves(text: &str, room: usize) -> Option<(&str, &str)>
-    ensures utf8 { IfSome result (λ halves. IsUtf8 halves.0.now × IsUtf8 halves.1.now) }
-    ensures joined { IfSome result (λ halves.
-        chars halves.0.now ++ chars halves.1.now ≡ chars text.now) }
-    ensures apart { IfSome result (λ halves.
-        parts_crlf (chars halves.0.now) (chars halves.1.now) ≡ false) }
-    ensures least { IfSome result (λ halves. (MIN_HALF_BYTES ≤ length halves.0.now)
-        × (MIN_HALF_BYTES ≤ length halves.1.now)) }
-    ensures room { IfSome result (λ halves. (length halves.0.now + room ≤ MAX_BYTES)
-        × (length halves.1.now + room ≤ MAX_BYTES)) }
+    ensures { IfSome result (λ halves. AreHalves room text.now halves.0.now halves.1.now) }
 {
     let cut = next_break(text.len() / 2, text.as_bytes());
     let back = &text[cut..];
@@ -110,8 +98,8 @@ pub(crate) fn even_halves(text: &str, room: usize) -> Option<(&str, &str)>
     Some((&text[..cut], back))
 }
 
-/// A text of at most `MAX_BYTES` bytes, seen as the list of its characters. Its calls count in
-/// characters where they take a place, and take no memory.
+/// A text of at most `MAX_BYTES` bytes, held in place and seen as the list of its characters. No
+/// call takes memory.
 #[derive(Drop)]
 pub struct NodeText {
     bytes: LeafBytes,
@@ -158,7 +146,7 @@ impl NodeText {
         ensures fits { byte_len self.now ≤ MAX_BYTES }
         ensures scalars { all_scalars self.now ≡ true }
     {
-        // That they are a text is what the type keeps, so they are not checked again.
+        // The type's invariant says that they are UTF-8, so they aren't checked again.
         unsafe { str::from_utf8_unchecked(self.bytes.as_slice()) }
     }
 
@@ -170,7 +158,7 @@ impl NodeText {
         self.as_str().len()
     }
 
-    /// Puts `added` where a character starts, or at the end. What follows it moves down, and what stands before it stays.
+    /// Inserts `added` where a character starts, or at the end. What follows it moves once.
     pub fn insert_bytes(&mut self, place: usize, added: &str)
         requires boundary { IsCharBoundary (encode_utf8_all self.old) place }
         requires fits { byte_len self.old + length added.now ≤ MAX_BYTES }
@@ -181,7 +169,7 @@ impl NodeText {
         put_bytes(&mut self.bytes, place, added.as_bytes());
     }
 
-    /// Puts another text of at most `MAX_BYTES` bytes in its place.
+    /// Replaces the text by another of at most `MAX_BYTES` bytes.
     pub(crate) fn set(&mut self, text: &str)
         requires { length text.now ≤ MAX_BYTES }
         ensures { self.new ≡ chars text.now }
@@ -190,7 +178,7 @@ impl NodeText {
         append_bytes(&mut self.bytes, text.as_bytes());
     }
 
-    /// Puts `text` at the end.
+    /// Appends `text`.
     pub fn push_str(&mut self, text: &str)
         requires { byte_len self.old + length text.now ≤ MAX_BYTES }
         ensures value { self.new ≡ self.old ++ chars text.now }
@@ -199,8 +187,8 @@ impl NodeText {
         append_bytes(&mut self.bytes, text.as_bytes());
     }
 
-    /// The bytes that the characters from `start` up to `end` take, where the text is known to have `chars` characters: where
-    /// it has as many bytes, nothing is read.
+    /// The bytes at which the characters from `start` up to `end` begin and end. `chars` is the
+    /// number of the text's characters: if it has as many bytes, nothing is scanned.
     pub fn byte_range(&self, start: usize, end: usize, chars: usize) -> (usize, usize)
         requires ordered { start ≤ end }
         requires chars { chars ≡ length self.now }
@@ -220,7 +208,7 @@ impl NodeText {
         (from, to)
     }
 
-    /// Takes bytes out that are whole characters. What follows them moves down once, and what stands before them stays.
+    /// Removes bytes that are whole characters. What follows them moves once.
     pub fn remove_bytes(&mut self, from: usize, to: usize)
         requires ordered { from ≤ to }
         requires from { IsCharBoundary (encode_utf8_all self.old) from }
@@ -233,17 +221,18 @@ impl NodeText {
         self.bytes.truncate(len - (to - from));
     }
 
-    /// Keeps the first `count` characters alone, which take `len` bytes. Nothing moves.
-    pub fn keep_first(&mut self, count: usize, len: usize)
-        requires { len ≡ byte_len (take count self.old) }
-        ensures value { self.new ≡ take count self.old }
+    /// Keeps the first `chars` characters alone, which take `len` bytes. Nothing moves.
+    pub fn keep_first(&mut self, chars: usize, len: usize)
+        requires { len ≡ byte_len (take chars self.old) }
+        ensures value { self.new ≡ take chars self.old }
         ensures scalars { all_scalars self.new ≡ true }
     {
         self.bytes.truncate(len);
     }
 }
 
-/// The byte at which the first leaf of a longer text ends: the last cut by which it has `MAX_BYTES` bytes at the most.
+/// Where the first leaf of a longer text ends: the last cut by which it has at most `MAX_BYTES`
+/// bytes.
 pub fn first_leaf_len(text: &str) -> usize
     requires { MAX_BYTES < length text.now }
     ensures boundary { IsCharBoundary text.now result }

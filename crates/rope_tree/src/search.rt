@@ -1,4 +1,4 @@
-//! Running totals over children, and the child that holds a place, found by halving over them.
+//! Running totals over children, and the search for the child that holds a place.
 ghost use Rattle.std.specs.Prelude.{◌≡◌, ℕ, ◌+◌, ◌-◌, ◌<◌, ◌≤◌, ◌^◌, [], ◌∷◌, ◌++◌, true, false, length, slice_index_or, IfOk, OnOk, OnErr};
 ghost use Rattle.rope_text.specs.declared.TheConstants.{MAX_CHILDREN};
 ghost use Rattle.rope_text.specs.declared.line_breaks.LineBreaks.{LineBreaks};
@@ -28,7 +28,7 @@ pub enum Unit {
     LineBreak,
 }
 
-/// One of the counts.
+/// The count in this unit.
 pub fn count(info: TextInfo, unit: Unit) -> usize
     requires { IsSmall info }
     ensures { result ≡ count_of unit info }
@@ -41,8 +41,9 @@ pub fn count(info: TextInfo, unit: Unit) -> usize
     }
 }
 
-/// For each child of a list of at most 24 the counts of all children up to and with it, seen as the list of those counts. Those of
-/// a text below 4 GiB fit in 32 bits each; others are kept elsewhere, in words.
+/// For each child of a list of at most 24, the counts of all children up to it and with it, seen as
+/// the list of those counts. In a text below 4 GiB each takes 32 bits; others lie in a box of their
+/// own, in words.
 #[derive(Drop)]
 pub struct Totals {
     width: Width,
@@ -68,13 +69,14 @@ impl Model for Totals {
     ghost view = { totals_of };
 }
 
-/// The same totals in words. It is kept out of the callers, which seldom come to it.
+/// The same totals in words. Cold: only a text of 4 GiB or more has such.
 #[inline(never)]
 fn widened(alloc: Global, totals: &CountRows) -> Made<Box<WideTotals>>
     requires { length totals.now ≤ MAX_CHILDREN }
     ensures { IfOk result (λ wide. wide.value.items ≡ totals.now) }
 {
-    // Matched by hand: through `?` the totals that a refusal gives back would be moved where none is refused, too.
+    // Matched by hand: `?` would move the totals that a refusal gives back on the path that
+    // succeeds, too.
     let Ok(mut wide) = Box::new(alloc, WideTotals::new()) else {
         return Err(AllocError);
     };
@@ -84,7 +86,7 @@ fn widened(alloc: Global, totals: &CountRows) -> Made<Box<WideTotals>>
     Ok(wide)
 }
 
-/// Puts other counts for those of one part of a text, in all totals from a place on.
+/// Replaces the counts of a part by others, in all totals from a place on.
 // Cold: only totals of 4 GiB and more come to it.
 #[inline(never)]
 fn shift_wide(totals: &mut [TextInfo], from: usize, old: TextInfo, new: TextInfo)
@@ -99,11 +101,11 @@ fn shift_wide(totals: &mut [TextInfo], from: usize, old: TextInfo, new: TextInfo
     }
 }
 
-/// The bytes of a text whose counts may not all fit in 32 bits.
+/// A text of so many bytes may have counts that don't fit in 32 bits.
 const TOO_WIDE: usize = 4_294_967_296;
 
 impl Totals {
-    /// Those of no child.
+    /// The totals of no children.
     pub(crate) fn new() -> Totals
         ensures { result ≡ [] }
     {
@@ -132,17 +134,19 @@ impl Totals {
         }
     }
 
-    /// Whether a text of so many bytes more leaves the totals in the width that they have.
+    /// Whether the totals keep their width if the text grows by so many bytes.
     pub(crate) fn has_room_for(&self, bytes: usize) -> bool
         requires { 1 ≤ length self.now }
-        ensures { result ≡ true → AreNarrow self.now → (d : TextInfo)
+        ensures room { result ≡ true → AreNarrow self.now → (d : TextInfo)
             → (slice_index_or self.now (length self.now - 1) d).bytes + bytes < 2 ^ 32 }
+        ensures none { result ≡ false → (d : TextInfo)
+            → 2 ^ 32 ≤ (slice_index_or self.now (length self.now - 1) d).bytes + bytes }
     {
         let all = self.get(self.len() - 1).bytes;
         all >= TOO_WIDE || bytes < TOO_WIDE - all
     }
 
-    /// Puts the total of one child more behind the others.
+    /// Appends the total of one child more.
     pub(crate) fn push(&mut self, alloc: Global, total: TextInfo) -> Made<()>
         requires room { length self.old < MAX_CHILDREN }
         requires small { IsSmall total }
@@ -164,8 +168,9 @@ impl Totals {
         Ok(())
     }
 
-    /// Puts totals of another list behind these: `count` of them from one place on, with the counts `new` in each for the part
-    /// `old`. Returns whether it did: not where they would be of two widths, and then nothing has changed.
+    /// Appends `count` totals of another list, from a place on, with the counts `new` in each for
+    /// those of the part `old`. Returns whether it did: not if they would be of two widths, and
+    /// then nothing has changed.
     pub(crate) fn append(
         &mut self,
         alloc: Global,
@@ -218,7 +223,7 @@ impl Totals {
         }
     }
 
-    /// Puts the total of one child more before the one at a place.
+    /// Inserts the total of one child more before the one at a place.
     pub(crate) fn insert(&mut self, place: usize, total: TextInfo)
         requires within { place ≤ length self.old }
         requires room { length self.old < MAX_CHILDREN }
@@ -234,7 +239,7 @@ impl Totals {
         }
     }
 
-    /// Puts other counts for those of one part of a text, in all totals from a place on.
+    /// Replaces the counts of a part by others, in all totals from a place on.
     #[inline(always)]
     pub(crate) fn retotal(&mut self, place: usize, old: TextInfo, new: TextInfo)
         requires within { place < length self.old }
@@ -266,7 +271,8 @@ pub fn total_before(totals: &Totals, place: usize) -> TextInfo
     }
 }
 
-/// A place whose total passes `at` and the total before it does not, by at most five comparisons.
+/// The place whose total passes `at`, where the total before it doesn't: found by halving, in at
+/// most five comparisons.
 #[inline(always)]
 pub fn place_of(totals: &Totals, unit: Unit, at: usize, steps: &mut Steps) -> usize
     requires some { 0 < length totals.now }
@@ -298,8 +304,9 @@ pub fn place_of(totals: &Totals, unit: Unit, at: usize, steps: &mut Steps) -> us
     base
 }
 
-/// The child that holds `at`. While `follows`, the child of the last edit is tried before the search; of few children none is, since
-/// the branch would be mispredicted too often. Answers, too, whether the way still follows that edit.
+/// The child that holds `at`, and whether the way still follows that of the last edit. While it
+/// does, that edit's child is tried before the search, unless there are few children: then the
+/// branch would be mispredicted too often.
 #[inline(always)]
 pub(crate) fn try_place(totals: &Totals, at: usize, likely: usize, follows: bool) -> (usize, bool)
     requires some { 0 < length totals.now }
@@ -325,7 +332,8 @@ pub(crate) fn try_place(totals: &Totals, at: usize, likely: usize, follows: bool
     (place, follows && are_few)
 }
 
-/// The character that the child which takes a text has to hold: at a seam the one before it, or the one after it.
+/// The character that must lie in the child which takes a text: at a seam, the one before it or the
+/// one behind it.
 pub fn char_to_hold(at: usize, to_right: bool) -> usize
     ensures right { to_right ≡ true → result ≡ at }
     ensures first { to_right ≡ false → at ≡ 0 → result ≡ 0 }

@@ -1,4 +1,4 @@
-//! A text that goes into a leaf, or lies in one.
+//! Short texts: those that go into leaves, and those of leaves.
 ghost use Rattle.std.specs.Prelude.{◌≡◌, ◌≤◌, true, length};
 ghost use Rattle.std.specs.Str.{chars, all_scalars, encode_utf8_all, IsCharBoundary};
 ghost use Rattle.rope_text.specs.declared.TheConstants.{MAX_BYTES};
@@ -8,18 +8,18 @@ ghost use Rattle.rope_text.specs.Conversions.{char_to_byte};
 use rope_text::str_utils;
 use std::marker::Model;
 
-/// A text of at most `MAX_BYTES` bytes that lies elsewhere, seen as the list of its characters.
+/// A borrowed text of at most `MAX_BYTES` bytes, seen as the list of its characters.
 ///
-/// Where it is known to have as many bytes as characters, the byte of a character is its index, and nothing is read to find
-/// it. Where it is known to have another number of characters, the shorter side of the character is read.
+/// If it is known to be ASCII, a byte index is the character index. If it is known to have fewer
+/// characters than bytes, it is scanned from the end that is nearer to the character.
 #[derive(Drop)]
 pub struct ShortText<'a> {
     pub(crate) text: &'a str,
-    /// The number of its characters, or more than that of its bytes, where it isn't known.
-    pub(crate) count: usize,
+    /// How many characters it has; where they weren't counted, more than it has bytes.
+    pub(crate) char_count: usize,
 }
 
-// More than any short text has: its characters were not counted.
+// More characters than any short text has: they weren't counted.
 const UNCOUNTED: usize = usize::MAX;
 
 impl<'a> Model for ShortText<'a> {
@@ -35,14 +35,14 @@ impl<'a> Model for ShortText<'a> {
 }
 
 impl<'a> ShortText<'a> {
-    /// The text, of at most `MAX_BYTES` bytes.
+    /// A text of at most `MAX_BYTES` bytes, whose characters aren't counted.
     pub fn new(text: &'a str) -> ShortText<'a>
         requires { length text.now ≤ MAX_BYTES }
         ensures value { result ≡ chars text.now }
         ensures len { byte_len result ≡ length text.now }
     {
-        let count = UNCOUNTED;
-        ShortText { text, count }
+        let char_count = UNCOUNTED;
+        ShortText { text, char_count }
     }
 
     /// The text.
@@ -68,10 +68,10 @@ impl<'a> ShortText<'a> {
         ensures value { result ≡ char_to_byte self.now char_idx }
         ensures boundary { IsCharBoundary (encode_utf8_all self.now) result }
     {
-        if self.count == self.text.len() {
+        if self.char_count == self.text.len() {
             char_idx.min(self.text.len())
-        } else if self.count < self.text.len() {
-            str_utils::char_to_byte_idx_of(self.text, self.count, char_idx)
+        } else if self.char_count < self.text.len() {
+            str_utils::char_to_byte_idx_of(self.text, self.char_count, char_idx)
         } else {
             str_utils::char_to_byte_idx(self.text, char_idx)
         }

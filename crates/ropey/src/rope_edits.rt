@@ -13,7 +13,7 @@ ghost use Rattle.rope_text.specs.declared.error.Error.TheVariants.{OutOfMemory};
 
 use crate::rope::Rope;
 use rope_join::cut::{back, front};
-use rope_join::edit::{append_to, insert, remove};
+use rope_join::long_edits::{append_to, insert, remove};
 use rope_text::range::{IndexRange, char_bounds};
 use rope_text::{Error, MAX_SHORT_BYTES, MAX_TEXT_BYTES, Result, Steps};
 use rope_tree::{Maker, insert_at};

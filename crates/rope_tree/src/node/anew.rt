@@ -1,4 +1,4 @@
-//! Short texts put into trees beside the old ones, which stay as they are.
+//! Short inserts that leave the old tree as it is, and share its nodes.
 ghost use Rattle.std.specs.Prelude.{◌≡◌, ◌+◌, ◌*◌, ◌<◌, ◌≤◌, ◌^◌, length, IfOk};
 ghost use Rattle.rope_text.specs.declared.TheConstants.{MAX_SHORT_BYTES};
 ghost use Rattle.rope_text.specs.Text.{byte_len};
@@ -15,8 +15,9 @@ use crate::search::char_to_hold;
 use crate::{Made, Maker, ShortText, Unit, place_of, total_before};
 use rope_text::{MAX_BYTES, Steps, TextInfo};
 
-/// The leaf with another text before its character `at`, or two leaves where one can't hold both. The counts of the leaf
-/// that was are not taken again: only the new text is counted, and of two leaves the first.
+/// The leaf with another text before its character `at`, as one leaf, or as two if one can't hold
+/// both. Nothing of the old leaf is counted again: only the new text is, and of two leaves the
+/// first.
 fn insert_into_leaf(
     maker: &mut Maker,
     node: &Node,
@@ -48,8 +49,8 @@ fn insert_into_leaf(
     Ok(Nodes::Two(first, second))
 }
 
-/// The tree with a text of at most 981 bytes before its character `at`, as one tree or two of the same height. The old
-/// tree stays as it is; what both have in common is shared.
+/// The tree with a text of at most 981 bytes before its character `at`, as one tree or as two of
+/// the same height. The old tree stays as it is, and shares its nodes off the way.
 pub(crate) fn insert(
     maker: &mut Maker,
     node: &Node,

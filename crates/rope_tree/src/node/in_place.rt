@@ -1,15 +1,15 @@
-//! Edits where the nodes stand: inserts of short texts, for which a leaf without room is cut into two, and removals of characters from
-//! one leaf. Each is one way down, on which a node that is shared is copied.
+//! Edits where the nodes stand: short inserts, which may cut a leaf into two, and removals from one
+//! leaf. Each is one descent, on which nodes that other trees share are copied.
 ghost use Rattle.std.specs.Prelude.{◌≡◌, ◌+◌, ◌*◌, ◌<◌, ◌≤◌, ◌-◌, ◌^◌, [], ◌∷◌, true, false, length, take, slice_index_or, Ok, IfOk, OnErr, IfSome, IfNone};
 ghost use Rattle.std.specs.List.{insert};
-ghost use Rattle.rope_text.specs.declared.TheConstants.{MAX_SHORT_BYTES};
+ghost use Rattle.rope_text.specs.declared.TheConstants.{MAX_CHILDREN, MAX_SHORT_BYTES};
 ghost use Rattle.rope_text.specs.Text.{byte_len};
 ghost use Rattle.rope_text.specs.Edit.{inserted};
 ghost use Rattle.rope_tree.specs.Tree.{Tree, text, joined, height_of, tree_over, IsTree, AreFamily};
 ghost use Rattle.rope_tree.specs.Shape.{form_tree, IsForm};
 ghost use Rattle.rope_tree.specs.declared.node.in_place.Cut.TheVariants.{Kept, Grown, Parted};
 ghost use Rattle.rope_tree.specs.Change.{GrowsBy, FallsBy, GrowBy, FallBy};
-ghost use Rattle.rope_tree.specs.Insert.{TakesShort, MayInsert, GoesIn, IsInserted, AreGrown};
+ghost use Rattle.rope_tree.specs.Insert.{TakesShort, MayInsert, GoesIn, IsInserted, IsCut, AreGrown};
 ghost use Rattle.rope_tree.specs.Removal.{IsRemoved, AreRemoved};
 ghost use Rattle.rope_tree.specs.Tries.{IsTried};
 
@@ -23,7 +23,7 @@ use crate::{Made, Maker, ShortText, Totals, total_before};
 use rope_text::{MAX_BYTES, MAX_CHILDREN, TextInfo};
 use std::rc::Rc;
 
-/// Puts a copy of a leaf in its place.
+/// Replaces a leaf by a copy, which has no other owner.
 #[inline(never)]
 fn copy_leaf(leaf: &mut Rc<Leaf>, maker: &mut Maker) -> Made<()>
     ensures same { leaf.new.value ≡ leaf.old.value }
@@ -40,7 +40,7 @@ fn copy_leaf(leaf: &mut Rc<Leaf>, maker: &mut Maker) -> Made<()>
     Ok(())
 }
 
-/// Puts a copy of a list of children in its place.
+/// Replaces a list of children by a copy, which has no other owner.
 #[inline(never)]
 fn copy_children(children: &mut Rc<Children>, maker: &mut Maker) -> Made<()>
     requires { AreFamily children.old.value }
@@ -53,7 +53,7 @@ fn copy_children(children: &mut Rc<Children>, maker: &mut Maker) -> Made<()>
     Ok(())
 }
 
-/// Makes what a node has its own: where another node has it too, a copy takes its place.
+/// Makes what a node points to its own: if another node shares it, a copy takes its place.
 fn own(form: &mut Form, maker: &mut Maker) -> Made<()>
     requires { IsForm form.old }
     ensures same { form_tree form.new ≡ form_tree form.old }
@@ -67,16 +67,17 @@ fn own(form: &mut Form, maker: &mut Maker) -> Made<()>
     }
 }
 
-/// Prefetch: reads a child in each cache line of the list, so that the search and the step to a child don't miss on them one by one.
-/// Answers whether all of those are empty, which none is: a caller that tests it keeps the compiler from dropping the reads.
+/// Prefetch: reads a child in each cache line of the list, so that the search and the step to a
+/// child don't miss on them one by one. Answers whether all of those are empty, which they never
+/// are: the caller's test keeps the compiler from dropping the reads.
 #[inline(never)]
 fn touch_list(nodes: &[Node; MAX_CHILDREN]) -> bool {
     nodes[0].is_empty() & nodes[4].is_empty() & nodes[8].is_empty()
         && nodes[12].is_empty() & nodes[16].is_empty() & nodes[20].is_empty()
 }
 
-/// Prefetch: reads what an edit at the character `at` of the child at a place goes over, where that is a leaf. How long it is, the
-/// totals tell. The answer is `Leaf::touch`'s.
+/// Prefetch: if the child at a place is a leaf, reads what an edit at its character `at` goes over.
+/// Its length comes from the totals. The answer is `Leaf::touch`'s.
 #[inline(never)]
 fn touch_leaf(totals: &Totals, nodes: &[Node], place: usize, at: usize) -> bool
     requires totals { place < length totals.now }
@@ -91,7 +92,7 @@ fn touch_leaf(totals: &Totals, nodes: &[Node], place: usize, at: usize) -> bool
     matches!(nodes[place].leaf(), Some(leaf) if leaf.touch(from, bytes))
 }
 
-/// What an edit answers that changes nothing. Cold, so that the hot path has no jump.
+/// The answer of an edit that changed nothing. Cold, so that the hot path has no jump.
 #[cold]
 #[inline(never)]
 fn unchanged() -> Made<bool>
@@ -100,18 +101,18 @@ fn unchanged() -> Made<bool>
     Ok(false)
 }
 
-/// What became of a node that had no room.
+/// What became of a node that was to take a text for which it has no room.
 #[derive(Drop)]
 enum Cut {
-    /// Nothing: it had room after all.
+    /// It is as it was: it had room after all.
     Kept,
     /// It took the text.
     Grown,
-    /// It has the first part, and this node has the second.
+    /// It has the first part of the text; this node has the second.
     Parted(Node),
 }
 
-/// Puts a node behind the one at a place. The last node, an empty one, goes.
+/// Inserts a node behind the one at a place. The last node, an empty one, drops out.
 fn put_behind(nodes: &mut [Node], place: usize, node: Node)
     requires { place + 1 < length nodes.old }
     ensures { nodes.new ≡ insert (take (length nodes.old - 1) nodes.old) (place + 1) node }
@@ -122,8 +123,9 @@ fn put_behind(nodes: &mut [Node], place: usize, node: Node)
 }
 
 impl Children {
-    /// The child that takes a text before the character `at`, before which of its characters, and whether the way still follows that of
-    /// the edit before. Where it did so far, that one's child is tried first.
+    /// The child that takes a text before the character `at`, before which of its characters, and
+    /// whether the way still follows that of the last edit. While it does, that edit's child is
+    /// tried first.
     #[inline(always)]
     fn way_in(&self, at: usize, to_right: bool, follows: bool) -> (usize, usize, bool)
         requires children { AreFamily self.now }
@@ -140,8 +142,8 @@ impl Children {
         (place, at - before, follows)
     }
 
-    /// The same, with what the edit will go over read ahead, where it isn't that of the edit before. None only for the answers of
-    /// `touch_list` and `touch_leaf`, which never come.
+    /// The same. Where the way doesn't follow that of the last edit, what this one will go over is
+    /// read ahead. None only if `touch_list` or `touch_leaf` say yes, which they never do.
     #[inline(always)]
     fn locate(&self, at: usize, to_right: bool, follows: bool) -> Option<(usize, usize, bool)>
         requires children { AreFamily self.now }
@@ -162,9 +164,10 @@ impl Children {
         Some((place, inside, follows))
     }
 
-    /// Puts a text before the character `at`, where the leaf has room, or is cut into two and the node over it has room for one
-    /// more; returns whether it did, and in `more` by how much the counts grew. `follows` says whether the way is that of the edit
-    /// before so far. Where memory is refused, the children are as they were.
+    /// Puts a text before the character `at`, if the leaf has room, or can be cut into two, since
+    /// the list that it is in has room for one more. Returns whether it did, and in `more` by how
+    /// much the counts grew. `follows` says whether the way so far is that of the last edit. If
+    /// memory is refused, the children are as they were.
     #[cycle(in_place)]
     #[inline(never)]
     fn insert_in_place(
@@ -180,7 +183,7 @@ impl Children {
         requires takes { TakesShort (tree_over self.old) at added.now }
         requires side { MayInsert (tree_over self.old) at added.now to_right }
         ensures change { IfOk result (λ did. did ≡ true → GrowBy more.new self.old self.new) }
-        ensures made { maker.new.made ≤ maker.old.made + 3 * height_of self.old + 3 }
+        ensures made { maker.new.made ≤ maker.old.made + height_of self.old + 2 }
         ensures idle { IfOk result (λ did.
             did ≡ false → maker.new.made ≤ maker.old.made + height_of self.old + 1) }
         ensures tried { IsTried result self.old self.new
@@ -193,7 +196,7 @@ impl Children {
             return unchanged();
         };
         let most = MAX_BYTES.saturating_sub(added.len());
-        if matches!(self.nodes[place].leaf(), Some(leaf) if leaf.info().bytes > most) {
+        if self.nodes[place].is_leaf_above(most) {
             return self.cut_child(maker, at, added, to_right, more);
         }
         let node = &mut self.nodes[place];
@@ -205,8 +208,9 @@ impl Children {
         Ok(true)
     }
 
-    /// Puts a text before the character `at`, where the child that takes it has no room: it is cut into two, where one more fits in
-    /// beside it; returns whether it did, and in `more` by how much the counts grew. Where memory is refused, nothing is changed.
+    /// Puts a text before the character `at`, where the child that takes it has no room: cuts that
+    /// into two, if the list has room for one more. Returns whether it did, and in `more` by how
+    /// much the counts grew. If memory is refused, nothing has changed.
     #[cold]
     #[inline(never)]
     fn cut_child(
@@ -236,7 +240,7 @@ impl Children {
         Ok(true)
     }
 
-    /// The same, without by how much the counts grew.
+    /// The same, but doesn't say by how much the counts grew.
     fn part_child(
         &mut self,
         maker: &mut Maker,
@@ -251,6 +255,9 @@ impl Children {
         ensures idle { IfOk result (λ did. did ≡ false → maker.new.made ≤ maker.old.made + 1) }
         ensures idle_above { IfOk result (λ did.
             did ≡ false → 1 ≤ height_of self.old → maker.new.made ≡ maker.old.made) }
+        ensures full { IfOk result (λ did. did ≡ false → 1 ≤ height_of self.old
+            → length self.old < MAX_CHILDREN
+            → 2 ^ 32 ≤ byte_len (joined self.old) + byte_len added.now) }
         ensures tried { IsTried result self.old self.new
             (AreGrown self.old self.new (inserted (joined self.old) at added.now)) }
     {
@@ -278,9 +285,9 @@ impl Children {
         Ok(true)
     }
 
-    /// Puts a text before the character `at` of children that have children, where the lowest list that has room takes one child
-    /// more; returns whether it did. So a list without room becomes two, and no node above them is made anew. Nothing is changed
-    /// where none has room, where a node on the way is shared, or where memory is refused.
+    /// Puts a text before the character `at`, if a list on the way, but for the lowest, has room
+    /// for one child more: the full list below it becomes two. Returns whether it did. Nothing has
+    /// changed if no list has room, if a node on the way is shared, or if memory is refused.
     #[cycle(parting)]
     #[cold]
     #[inline(never)]
@@ -313,9 +320,10 @@ impl Children {
         Ok(true)
     }
 
-    /// Takes the characters from `start` up to `end` out, where they lie in one leaf that may do without them and keeps enough
-    /// beside its neighbours; returns whether it did, and in `less` by how much the counts fell. `follows` says whether the way is
-    /// that of the edit before so far. Where memory is refused, the children are as they were.
+    /// Removes the characters from `start` up to `end`, if they lie in one leaf that may do without
+    /// them and keeps enough bytes beside its neighbours. Returns whether it did, and in `less` by
+    /// how much the counts fell. `follows` says whether the way so far is that of the last edit. If
+    /// memory is refused, the children are as they were.
     #[cycle(in_place_removal)]
     #[inline(never)]
     fn remove_in_place(
@@ -355,11 +363,26 @@ impl Children {
 impl Node {
     /// The leaf that it is, if it is one.
     #[inline(always)]
-    fn leaf(&self) -> Option<&Leaf> {
+    fn leaf(&self) -> Option<&Leaf>
+        ensures leaf { IfSome result (λ leaf. leaf.now ≡ self.now) }
+        ensures flat { IfSome result (λ _. self.now.height ≡ 0) }
+        ensures none { IfNone result (self.now.height ≡ 0 → text self.now ≡ []) }
+    {
         match &self.form {
             Form::Leaf(leaf) => Some(leaf),
             _ => None,
         }
+    }
+
+    /// Whether it is a leaf of more bytes than these.
+    #[inline(always)]
+    fn is_leaf_above(&self, bytes: usize) -> bool
+        ensures flat { result ≡ true → self.now.height ≡ 0 }
+        ensures above { result ≡ true → bytes < byte_len (text self.now) }
+        ensures not_above { result ≡ false → self.now.height ≡ 0
+            → byte_len (text self.now) ≤ bytes }
+    {
+        matches!(self.leaf(), Some(leaf) if leaf.info().bytes > bytes)
     }
 
     /// Whether it has no text and no children.
@@ -367,10 +390,11 @@ impl Node {
         matches!(self.form, Form::Empty(_))
     }
 
-    /// Puts a text of at most 981 bytes before the character `at`, where the leaf has room, or is cut into two and the node over
-    /// it has room for one more; returns whether it did, and in `more` by how much the counts grew. `follows` says whether the way
-    /// is that of the edit before so far. A node on the way that is shared is copied; where none is, and the leaf has room, it takes no
-    /// memory. Where memory is refused, the tree is as it was.
+    /// Puts a text of at most 981 bytes before the character `at`, if the leaf has room, or can be
+    /// cut into two, since the list that it is in has room for one more. Returns whether it did,
+    /// and in `more` by how much the counts grew. `follows` says whether the way so far is that of
+    /// the last edit. Shared nodes on the way are copied; where there are none, and the leaf has
+    /// room, it takes no memory. If memory is refused, the tree is as it was.
     #[cycle(in_place)]
     #[inline(always)]
     pub(crate) fn insert_in_place(
@@ -385,7 +409,7 @@ impl Node {
         requires takes { TakesShort self.old at added.now }
         requires side { MayInsert self.old at added.now to_right }
         ensures change { IfOk result (λ did. did ≡ true → GrowsBy more.new self.old self.new) }
-        ensures made { maker.new.made ≤ maker.old.made + 3 * self.old.height + 2 }
+        ensures made { maker.new.made ≤ maker.old.made + self.old.height + 2 }
         ensures idle { IfOk result (λ did.
             did ≡ false → maker.new.made ≤ maker.old.made + self.old.height + 1) }
         ensures tree { IsTree self.new }
@@ -408,8 +432,9 @@ impl Node {
         }
     }
 
-    /// Puts a text of at most 981 bytes before the character `at`, where a list on the way has room for one child more, and all
-    /// nodes on the way are this tree's own; returns whether it did. Where memory is refused, the tree is as it was.
+    /// Puts a text of at most 981 bytes before the character `at`, if a list on the way, but for
+    /// the lowest, has room for one child more, and all nodes on the way are this tree's own.
+    /// Returns whether it did. If memory is refused, the tree is as it was.
     #[cycle(parting)]
     pub(crate) fn insert_parting(
         &mut self,
@@ -435,8 +460,8 @@ impl Node {
         }
     }
 
-    /// Puts a text before the character `at` of a node that has no room for it: leaves the first part here, and answers the second.
-    /// Where memory is refused, nothing is changed.
+    /// Puts a text before the character `at` of a node that has no room for it: leaves the first
+    /// part here, and answers the second. If memory is refused, nothing has changed.
     fn cut(
         &mut self,
         maker: &mut Maker,
@@ -446,11 +471,8 @@ impl Node {
     ) -> Made<Cut>
         requires takes { TakesShort self.old at added.now }
         requires side { MayInsert self.old at added.now to_right }
-        ensures grown { IfOk result (λ cut. cut ≡ Grown
-            → IsInserted self.old (self.new ∷ []) (inserted (text self.old) at added.now)) }
-        ensures parted { IfOk result (λ cut. (back : Tree) → cut ≡ Parted back
-            → IsInserted self.old (self.new ∷ back ∷ []) (inserted (text self.old) at added.now)) }
-        ensures kept { IfOk result (λ cut. cut ≡ Kept → self.new ≡ self.old) }
+        ensures cut { IfOk result
+            (IsCut self.old self.new (inserted (text self.old) at added.now)) }
         ensures err { OnErr result (self.new ≡ self.old) }
         ensures made { maker.new.made ≤ maker.old.made + 2 * self.old.height + 2 }
         ensures idle { IfOk result (λ cut. cut ≡ Kept → maker.new.made ≤ maker.old.made + 1) }
@@ -472,7 +494,8 @@ impl Node {
         }
     }
 
-    /// The same by copies of the nodes on the way, which take this one's place last of all.
+    /// The same by a new tree or two, which share the nodes off the way. The first takes this one's
+    /// place last of all.
     fn cut_anew(
         &mut self,
         maker: &mut Maker,
@@ -482,10 +505,8 @@ impl Node {
     ) -> Made<Cut>
         requires takes { TakesShort self.old at added.now }
         requires side { MayInsert self.old at added.now to_right }
-        ensures grown { IfOk result (λ cut. cut ≡ Grown
-            → IsInserted self.old (self.new ∷ []) (inserted (text self.old) at added.now)) }
-        ensures parted { IfOk result (λ cut. (back : Tree) → cut ≡ Parted back
-            → IsInserted self.old (self.new ∷ back ∷ []) (inserted (text self.old) at added.now)) }
+        ensures cut { IfOk result
+            (IsCut self.old self.new (inserted (text self.old) at added.now)) }
         ensures done { IfOk result (λ cut. cut ≡ Kept → ⊥) }
         ensures err { OnErr result (self.new ≡ self.old) }
         ensures made { maker.new.made ≤ maker.old.made + 2 * self.old.height + 2 }
@@ -502,9 +523,10 @@ impl Node {
         }
     }
 
-    /// Takes the characters from `start` up to `end` out, where they lie in one leaf that may do without them, and keeps so many
-    /// bytes where it is first or last; returns whether it did, and in `less` by how much the counts fell. `follows` says whether the
-    /// way is that of the edit before so far. A node on the way that is shared is copied; where none is, it takes no memory. Where
+    /// Removes the characters from `start` up to `end`, if they lie in one leaf that may do without
+    /// them, and keeps so many bytes if it is the first or the last. Returns whether it did, and in
+    /// `less` by how much the counts fell. `follows` says whether the way so far is that of the
+    /// last edit. Shared nodes on the way are copied; where there are none, it takes no memory. If
     /// memory is refused, the tree is as it was.
     #[cycle(in_place_removal)]
     #[inline(always)]

@@ -1,4 +1,4 @@
-//! Nodes put side by side, and the nodes over them.
+//! Rows of nodes side by side, and the nodes over them.
 ghost use Rattle.std.specs.Prelude.{◌≡◌, ◌+◌, ◌*◌, ◌^◌, ◌<◌, ◌≤◌, ◌++◌, [], length, take, drop, IfOk, OnOk};
 ghost use Rattle.rope_text.specs.declared.TheConstants.{MAX_CHILDREN};
 ghost use Rattle.rope_tree.specs.Tree.{breaks_of, leaves_of, tree_over, AreFamily};
@@ -15,8 +15,9 @@ use std::alloc::{AllocError, Global};
 use std::mem;
 use std::rc::Rc;
 
-/// Nodes side by side. Where they are some of the children of a node, `totals` are the running totals of all of those, and `from`
-/// is how many stand before them: then their counts are known without a look at each node.
+/// Nodes side by side. If they are children of one node, `totals` are the running totals of all its
+/// children, and `from` is how many of those stand before the row: so the counts are known without
+/// a read of each node.
 #[derive(Clone, Copy)]
 pub struct Row<'a> {
     pub nodes: &'a [Node],
@@ -24,8 +25,8 @@ pub struct Row<'a> {
     pub from: usize,
 }
 
-/// Shares the nodes, and puts them behind the others of a list, whose counts the caller knows; returns the counts with them. So no
-/// total is read that was written just before.
+/// Shares nodes, and appends them to a list whose counts the caller knows. Returns the counts with
+/// them, so that no total is loaded that was just stored.
 #[inline(always)]
 fn push_all(
     alloc: Global,
@@ -55,7 +56,7 @@ fn push_all(
     Ok(total)
 }
 
-/// The same with a row: where its totals are known, they are moved in one piece.
+/// The same with a row: if its totals are known, they are copied in one piece.
 fn push_row(
     alloc: Global,
     totals: &mut Totals,
@@ -92,10 +93,11 @@ fn push_row(
     }
 }
 
-/// The nodes of three lists, one behind the other.
+/// Three lists of nodes, one behind the other.
 pub(super) type Rows<'a> = (Row<'a>, &'a [Node], Row<'a>);
 
-/// Takes all nodes out of a list. Never inlined, since a caller would clear room for the empty ones at each call.
+/// Takes all nodes out of a list. Never inlined, since a caller would clear stack for empty nodes
+/// at each call.
 #[inline(never)]
 fn clear(totals: &mut Totals, places: &mut [Node; MAX_CHILDREN])
     ensures list { IsNewList (new_list totals.new places.new) }
@@ -105,7 +107,8 @@ fn clear(totals: &mut Totals, places: &mut [Node; MAX_CHILDREN])
     *places = Default::default();
 }
 
-/// A list of the nodes of three lists, which it shares. It is filled where it stays, so that no node is moved.
+/// A list of the nodes of three, which it shares. It is filled where it stays, so that no node is
+/// moved.
 #[inline(never)]
 pub(super) fn list_of(maker: &mut Maker, rows: Rows<'_>) -> Made<Rc<Children>>
     requires before { IsRow rows.0 }
@@ -133,7 +136,7 @@ pub(super) fn list_of(maker: &mut Maker, rows: Rows<'_>) -> Made<Rc<Children>>
             return Err(AllocError);
         }
     };
-    // A list that was just made has no other owner, so that it can always be changed.
+    // It was just made and has no other owner, so this never fails.
     let Some(children) = Rc::get_mut(&mut list) else {
         return Err(AllocError);
     };
@@ -148,7 +151,7 @@ pub(super) fn list_of(maker: &mut Maker, rows: Rows<'_>) -> Made<Rc<Children>>
         children.breaks = children.nodes[0].line_breaks();
         return Ok(list);
     }
-    // Where memory is refused it has none again.
+    // If memory is refused, it is empty again before it is dropped.
     clear(&mut children.totals, &mut children.nodes);
     Err(AllocError)
 }
@@ -206,7 +209,7 @@ impl<'a> Row<'a> {
         }
     }
 
-    /// The first nodes, so many, or all.
+    /// At most so many nodes from the front.
     pub fn first(self, most: usize) -> Row<'a>
         requires { IsRow self }
         ensures row { IsRow result }
@@ -218,7 +221,7 @@ impl<'a> Row<'a> {
         }
     }
 
-    /// The nodes behind the first so many, or none.
+    /// The nodes behind so many from the front.
     pub fn rest(self, past: usize) -> Row<'a>
         requires { IsRow self }
         ensures row { IsRow result }
@@ -233,7 +236,7 @@ impl<'a> Row<'a> {
     }
 }
 
-/// A node over the nodes of three lists, or two over a half of them each where one can't hold them.
+/// A node over the nodes of three lists, or two over half of them each, if one can't hold them.
 pub fn pack_over(maker: &mut Maker, before: Row<'_>, middle: &[Node], after: Row<'_>) -> Made<Nodes>
     requires before { IsRow before }
     requires after { IsRow after }
@@ -262,7 +265,8 @@ pub fn pack_over(maker: &mut Maker, before: Row<'_>, middle: &[Node], after: Row
     Ok(Nodes::Two(first, second))
 }
 
-/// A node over the nodes before, one or two, and the nodes after, or two over a half of them each where one can't hold them.
+/// A node over the nodes before, one or two, and the nodes behind; or two over half of them each,
+/// if one can't hold them.
 pub fn pack(maker: &mut Maker, before: Row<'_>, middle: Nodes, after: Row<'_>) -> Made<Nodes>
     requires before { IsRow before }
     requires after { IsRow after }
@@ -283,7 +287,7 @@ pub fn pack(maker: &mut Maker, before: Row<'_>, middle: Nodes, after: Row<'_>) -
     }
 }
 
-/// One tree or two side by side as one: the only one, or a node over them.
+/// One tree or two as one: the only one, or a node over both.
 pub fn root_of(maker: &mut Maker, nodes: Nodes) -> Made<Node>
     requires { length (trees_in nodes) ≡ 2 → AreFamily (trees_in nodes) }
     ensures ok { IfOk result (λ node. node ≡ gathered (trees_in nodes)) }

@@ -10,8 +10,8 @@ ghost use Rattle.rope_tree.specs.RunningTotals.{HavePart, FitFrom, SameBefore, C
 use rope_text::{MAX_CHILDREN, TextInfo};
 use std::marker::Model;
 
-/// For each child of a list of at most 24 the counts of all children up to and with it, seen as the list of those counts. For each
-/// kind of count there is a row of 24 places, of which the first are in use.
+/// The totals of a list of at most 24 children, seen as the list of their counts. Each kind of
+/// count has a row of 24 places, of which the first are in use.
 #[derive(Drop)]
 pub(crate) struct CountRows {
     len: usize,
@@ -34,17 +34,17 @@ impl Model for CountRows {
     ghost invariant = { IsTotals };
 }
 
-/// A number of which each bit is set.
+/// All bits set.
 const ALL: u32 = 4_294_967_295;
 
-/// 24 times no bit, and then 24 times all.
+/// 24 masks of no bit, and then 24 of all.
 static MASKS: [u32; 2 * MAX_CHILDREN] = [
     0, 0, 0, 0, 0, 0, 0, 0, 0, 0, 0, 0, 0, 0, 0, 0, 0, 0, 0, 0, 0, 0, 0, 0, ALL, ALL, ALL, ALL,
     ALL, ALL, ALL, ALL, ALL, ALL, ALL, ALL, ALL, ALL, ALL, ALL, ALL, ALL, ALL, ALL, ALL, ALL, ALL,
     ALL,
 ];
 
-/// For each of 24 places all bits where it is `from` or behind it, and none before.
+/// A mask for each of 24 places: no bit before the place `from`, and all bits from it on.
 fn masks_from(from: usize) -> &'static [u32]
     requires { from ≤ MAX_CHILDREN }
     ensures len { length result.now ≡ MAX_CHILDREN }
@@ -54,8 +54,9 @@ fn masks_from(from: usize) -> &'static [u32]
     &MASKS[MAX_CHILDREN - from..2 * MAX_CHILDREN - from]
 }
 
-/// Puts the count `new` of a part for its count `old`, in the counts from a place on. It goes over all places, four at once, and adds
-/// nothing before that place, so that it has no branch that depends on one. Where it mostly adds nothing, it asks that first.
+/// Replaces the count `old` of a part by `new`, in the counts from a place on. It adds to all 24
+/// under a mask, so that it is vectorized, and no branch depends on the place. Where the two are
+/// mostly the same, that is tested first.
 #[inline(always)]
 fn shift(counts: &mut [u32], from: usize, old: usize, new: usize, mostly_same: bool)
     requires len { length counts.old ≡ MAX_CHILDREN }
@@ -86,7 +87,7 @@ fn at(row: &[u32], place: usize) -> usize
     row[place] as usize
 }
 
-/// Puts a count before the one at a place of a row, of which the last goes.
+/// Inserts a count before the one at a place of a row, whose last one drops out.
 fn put_in(row: &mut [u32], place: usize, count: u32)
     requires { place < length row.old }
     ensures { row.new ≡ insert (take (length row.old - 1) row.old) place count }
@@ -96,7 +97,7 @@ fn put_in(row: &mut [u32], place: usize, count: u32)
     row[place] = count;
 }
 
-/// Puts counts of another row, `count` of them from one place on, into a row, from another place on.
+/// Copies `count` counts of another row, from one place on, into a row, from another place on.
 fn put_row(row: &mut [u32], place: usize, others: &[u32], from: usize, count: usize)
     requires room { place + count ≤ length row.old }
     requires within { from + count ≤ length others.now }
@@ -107,7 +108,7 @@ fn put_row(row: &mut [u32], place: usize, others: &[u32], from: usize, count: us
 }
 
 impl CountRows {
-    /// Those of no child.
+    /// The totals of no children.
     pub fn new() -> CountRows
         ensures { result ≡ [] }
     {
@@ -140,7 +141,7 @@ impl CountRows {
         }
     }
 
-    /// Puts the total of one child more behind the others.
+    /// Appends the total of one child more.
     pub fn push(&mut self, total: TextInfo)
         requires room { length self.old < MAX_CHILDREN }
         requires narrow { IsNarrow total }
@@ -154,7 +155,7 @@ impl CountRows {
         self.len = len + 1;
     }
 
-    /// Puts the total of one child more before the one at a place.
+    /// Inserts the total of one child more before the one at a place.
     pub fn insert(&mut self, place: usize, total: TextInfo)
         requires within { place ≤ length self.old }
         requires room { length self.old < MAX_CHILDREN }
@@ -171,7 +172,7 @@ impl CountRows {
         self.len += 1;
     }
 
-    /// Puts other counts for those of one part of a text, in all totals from a place on.
+    /// Replaces the counts of a part by others, in all totals from a place on.
     #[inline(always)]
     pub fn retotal(&mut self, place: usize, old: TextInfo, new: TextInfo)
         requires within { place < length self.old }
@@ -200,7 +201,8 @@ impl CountRows {
         );
     }
 
-    /// Puts totals of another list behind these: `count` of them, from a place on, with the counts `new` in each for the part `old`.
+    /// Appends `count` totals of another list, from a place on, with the counts `new` in each for
+    /// those of the part `old`.
     pub fn append(&mut self, others: &Self, from: usize, count: usize, old: TextInfo, new: TextInfo)
         requires some { 1 ≤ count }
         requires within { from + count ≤ length others.now }

@@ -4,7 +4,7 @@ use Rattle.rope_tree.specs.View.{trees_in}
 use Rattle.rope_join.specs.Join.{CanMerge, IsUnion}
 use Rattle.rope_tree.proofs.LastCalls.{both_ok}
 use Rattle.rope_join.proofs.Sides.{AreSides, sides_below, sides_some, sides_can_join, sides_near, sides_apart, sides_count, sides_siblings, sides_union}
-use Rattle.rope_join.proofs.join.+unite.Goals.{After-end_of-2, else-height-via-then-height+else-end_leaf_len-ge-MIN_PAIR_BYTES, else-height-via-else-height, then-height-eq0, else-height-eq0}
+use Rattle.rope_join.proofs.join.+unite.Goals.{After-end_of-2, else-height-via-then-height+else-end_leaf_len-ge-MIN_TWO_LEAVES_BYTES, else-height-via-else-height, then-height-eq0, else-height-eq0}
 use Rattle.rope_join.proofs.join.+unite.Goals as goal
 
 sides : (t : ℕ) (c : After-end_of-2 t) → AreSides c.args.left.now c.args.right.now c.end_of.result.1.now c.end_of-2.result.1.now c.end_of.result.0.nodes.now c.end_of-2.result.2.nodes.now
@@ -20,8 +20,8 @@ sides t c = record {
 
 far : (t : ℕ) (c : After-end_of-2 t) → CanMerge c.args.left.now c.args.right.now → ⊥
 far t c can = elim c.else-height.branch [
-  | else-height-via-then-height+else-end_leaf_len-ge-MIN_PAIR_BYTES w ↦
-      let no = w.if-end_leaf_len-ge-MIN_PAIR_BYTES.false in
+  | else-height-via-then-height+else-end_leaf_len-ge-MIN_TWO_LEAVES_BYTES w ↦
+      let no = w.if-end_leaf_len-ge-MIN_TWO_LEAVES_BYTES.false in
       elim w.if-height-eq0.branch [
         | then-height-eq0 v ↦ grind (arith, no, v.value-is)
         | else-height-eq0 v ↦

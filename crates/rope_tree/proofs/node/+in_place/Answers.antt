@@ -10,25 +10,19 @@ use Rattle.rope_text.specs.TextInfo.{info_of}
 use Rattle.rope_tree.specs.Change.{IsChange, no_counts}
 use Rattle.rope_tree.specs.Insert.{TakesShort, MayInsert, IsInserted}
 use Rattle.rope_tree.proofs.NodeLaws.{small_totals}
-use Rattle.rope_tree.proofs.InsertDescents.{takes}
 use Rattle.rope_tree.proofs.GrownLaws.{tallest_above}
 use Rattle.rope_tree.proofs.FormLaws.{inner_of, inner_seen, leaf_seen, node_tree, grown_leaf, by_answer, by_outcome, not_tried, tried_in, still_children, grown_children, grown_node}
-use Rattle.rope_tree.proofs.ListedLaws.{seen_at}
 use Rattle.rope_tree.proofs.ChangeLaws.{change_from, change_seen}
-use Rattle.rope_tree.proofs.ChildLaws.{if_idle, Finds, read, child_fits, may, change_part, change_narrow, fields_changed, all_changed, list_changed}
+use Rattle.rope_tree.proofs.ChildLaws.{if_idle, Finds, found_at, read, child_fits, may, change_part, change_narrow, fields_changed, all_changed, list_changed}
 use Rattle.rope_tree.proofs.node.+in_place.Goals.{Children::insert_in_place-After-index-self-place-2, Node::insert_in_place-Joined-self, Node::insert_in_place-in-Empty, Node::insert_in_place-in-Leaf+in-Some, Node::insert_in_place-in-Leaf+in-None, Node::insert_in_place-in-Inner+in-Some-get_mut, Node::insert_in_place-in-Inner+in-None-get_mut}
 use Rattle.rope_tree.proofs.node.+in_place.Goals as goal
 
 -- the child that takes the text
 found : (t : ℕ) (c : Children::insert_in_place-After-index-self-place-2 t) → Finds c.self.inside c.args.self.now c.in-Some.place (get_or c.self.inside.nodes c.in-Some.place c.index-self-place-2.result)
     c.args.at c.in-Some.inside c.args.to_right
-found t c = record {
-  view = c.self.view_is;
-  fields = c.self.invariant;
-  taken = takes c.args.self.now c.in-Some.place (get_or c.self.inside.nodes c.in-Some.place c.index-self-place-2.result) c.args.at c.in-Some.inside c.args.to_right
-      c.requires.children (rw c.in-Some.is at c.locate.ensures.child) (seen_at c.self.inside c.args.self.now c.in-Some.place c.index-self-place-2.result c.self.view_is (rw c.in-Some.is at c.locate.ensures.child))
-      (rw c.in-Some.is at c.locate.ensures.place) (rw c.in-Some.is at c.locate.ensures.goes);
-}
+found t c =
+    found_at c.self.inside c.args.self.now c.in-Some.place c.index-self-place-2.result c.args.at c.in-Some.inside c.args.to_right c.self.view_is c.self.invariant c.requires.children
+    (rw c.in-Some.is at c.locate.ensures.child) (rw c.in-Some.is at c.locate.ensures.place) (rw c.in-Some.is at c.locate.ensures.goes)
 
 pub Children::insert_in_place-insert_in_place-requires :
     goal.Children::insert_in_place-insert_in_place-requires
@@ -60,7 +54,7 @@ pub Children::insert_in_place-retotal-requires-clause-fits :
 Children::insert_in_place-retotal-requires-clause-fits t c =
     change_narrow _ _ _ _ _ _ _ (found t (goal.at.Children::insert_in_place-retotal-requires-clause-fits t c).After-index-self-place-2) c.args.added.now c.requires.takes.some c.requires.side c.requires.takes.fits
     c.insert_in_place.new.self (c.in_ok-insert_in_place.ensures.tried.done c.if-not-branch.false) c.new.result c.insert_in_place.new.more (change_from c.new.result c.insert_in_place.new.more _ _ c.new.ensures (c.in_ok-insert_in_place.ensures.change c.if-not-branch.false)) c.self.inside.totals refl
-    (rw c.len.ensures.value at c.has_room_for.ensures c.if-not-has_room_for.false)
+    (rw c.len.ensures.value at c.has_room_for.ensures.room c.if-not-has_room_for.false)
 
 pub Children::insert_in_place-invariant_of-self-2 :
     goal.Children::insert_in_place-invariant_of-self-2

@@ -4,7 +4,6 @@ use Rattle.rope_tree.specs.declared.node.Node.TheInside.{Inside}
 use Rattle.rope_tree.specs.Shape.{IsLeafNode, IsForm, IsNode}
 use Rattle.rope_tree.specs.Falls.{tallest_below}
 use Rattle.std.proofs.Common.{◌≡◌, true, ℕ, ◌-◌, ◌<◌, ◌^◌, length, get_or, set, sym, ap, subst, refl, ◌∙◌, arith}
-use Rattle.rope_text.specs.declared.text_info.TextInfo.{TextInfo}
 use Rattle.rope_text.specs.Text.{byte_len}
 use Rattle.rope_text.specs.TextInfo.{info_of}
 use Rattle.rope_tree.specs.Tree.{Tree, text, joined, height_of, breaks_of, tree_over}
@@ -14,33 +13,30 @@ use Rattle.rope_tree.specs.Change.{IsChange, no_counts}
 use Rattle.rope_tree.specs.Removal.{IsRemoved, AreRemoved}
 use Rattle.rope_tree.proofs.ChangeLaws.{change_to, part_of_part, part_fits, whole_changed, change_by, change_own, change_of_list}
 use Rattle.rope_tree.proofs.NodeLaws.{small_totals}
-use Rattle.rope_tree.proofs.InsertDescents.{Takes, takes, last_total}
+use Rattle.rope_tree.proofs.ChildLaws.{taken_at}
+use Rattle.rope_tree.proofs.InsertDescents.{Takes, last_total}
 use Rattle.rope_tree.proofs.TotalLaws.{has_part, fits_after}
 use Rattle.rope_tree.proofs.GrownLaws.{totals_seen, tallest_above}
-use Rattle.rope_tree.proofs.ListedLaws.{seen_at, set_seen, set_listed, set_totals}
+use Rattle.rope_tree.proofs.ListedLaws.{set_seen, set_listed, set_totals}
 use Rattle.rope_tree.proofs.FormLaws.{inner_of, inner_seen, leaf_seen, node_tree, fallen_leaf, by_answer, by_outcome, not_tried, tried_in, still_children, removed_children, removed_node}
 use Rattle.rope_tree.proofs.RemovalLaws.{Holds, holds, byte_len-removed, children_removed}
 use Rattle.rope_tree.proofs.node.+in_place_removal.Goals as goal
 use Rattle.rope_tree.proofs.node.+in_place_removal.Goals.{Children::remove_in_place-After-index-self-place, Node::remove_in_place-Joined-self, Node::remove_in_place-in-Empty, Node::remove_in_place-in-Leaf+in-Some, Node::remove_in_place-in-Leaf+in-None, Node::remove_in_place-in-Inner+in-Some-get_mut, Node::remove_in_place-in-Inner+in-None-get_mut}
 
-none : TextInfo
-none = record { chars = 0; utf16_surrogates = 0; break_count = 0; bytes = 0 }
-
 -- the child that holds the characters
 down : (t : ℕ) (c : Children::remove_in_place-After-index-self-place t)
     → Takes c.args.self.now c.in-Some.place (get_or c.self.inside.nodes c.in-Some.place c.index-self-place.result) c.args.start c.in-Some.at true
 down t c =
-    takes c.args.self.now c.in-Some.place (get_or c.self.inside.nodes c.in-Some.place c.index-self-place.result) c.args.start c.in-Some.at true
-    c.requires.children (rw c.in-Some.is at c.locate.ensures.child) (seen_at c.self.inside c.args.self.now c.in-Some.place c.index-self-place.result c.self.view_is (rw c.in-Some.is at c.locate.ensures.child))
-    (rw c.in-Some.is at c.locate.ensures.place) (rw c.in-Some.is at c.locate.ensures.goes)
+    taken_at c.self.inside c.args.self.now c.in-Some.place c.index-self-place.result c.args.start c.in-Some.at true c.self.view_is c.requires.children
+    (rw c.in-Some.is at c.locate.ensures.child) (rw c.in-Some.is at c.locate.ensures.place) (rw c.in-Some.is at c.locate.ensures.goes)
 
 held : (t : ℕ) (c : Children::remove_in_place-After-index-self-place t)
     → Holds c.args.self.now c.in-Some.place (get_or c.self.inside.nodes c.in-Some.place c.index-self-place.result) c.in-Some.at (c.args.end - (c.args.start - c.in-Some.at)) c.args.start c.args.end
 held t c =
     let ts = c.args.self.now in
     let totals = totals_seen (listed c.self.inside) ts c.self.inside.totals c.self.inside.totals c.self.view_is refl c.self.invariant.totals_right in
-    holds ts c.in-Some.place (get_or c.self.inside.nodes c.in-Some.place c.index-self-place.result) c.in-Some.at c.args.start c.args.end c.self.inside.totals none
-    (down t c) totals c.requires.ordered (rw (c.get.ensures none) at c.if-get-end.false)
+    holds ts c.in-Some.place (get_or c.self.inside.nodes c.in-Some.place c.index-self-place.result) c.in-Some.at c.args.start c.args.end c.self.inside.totals no_counts
+    (down t c) totals c.requires.ordered (rw (c.get.ensures no_counts) at c.if-get-end.false)
 
 pub Children::remove_in_place-remove_in_place-requires :
     goal.Children::remove_in_place-remove_in_place-requires

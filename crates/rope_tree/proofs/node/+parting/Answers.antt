@@ -3,11 +3,9 @@ use Rattle.rope_tree.specs.Shape.{IsNode}
 use Rattle.rope_tree.specs.Tree.{Tree, breaks_of, tree_over}
 use Rattle.rope_tree.proofs.Infos.{small_below}
 use Rattle.rope_tree.proofs.NodeLaws.{small_totals}
-use Rattle.rope_tree.proofs.InsertDescents.{takes}
 use Rattle.rope_tree.proofs.GrownLaws.{tallest_above}
 use Rattle.rope_tree.proofs.FormLaws.{inner_of, inner_seen, node_tree, by_outcome, not_tried, tried_in, still_children, grown_children, grown_node}
-use Rattle.rope_tree.proofs.ListedLaws.{seen_at}
-use Rattle.rope_tree.proofs.ChildLaws.{Finds, read, part, child_fits, may, small, still_narrow, fields_after, all_grown}
+use Rattle.rope_tree.proofs.ChildLaws.{Finds, found_at, read, part, child_fits, may, small, still_narrow, fields_after, all_grown}
 use Rattle.rope_tree.proofs.node.+parting.Goals.{Children::insert_parting-After-info-old, Node::insert_parting-Joined-self, Node::insert_parting-in-Inner+in-Some, Node::insert_parting-in-Inner+in-None, Node::insert_parting-in_default}
 use Rattle.rope_tree.proofs.node.+parting.Goals as goal
 
@@ -16,13 +14,9 @@ abbrev child : (t : ℕ) → Children::insert_parting-After-info-old t → Tree
 child t c = get_or c.self.inside.nodes c.way_in-place.result.0 c.index-self-place.result
 
 found : (t : ℕ) (c : Children::insert_parting-After-info-old t) → Finds c.self.inside c.args.self.now c.way_in-place.result.0 (child t c) c.args.at c.way_in-place.result.1 c.args.to_right
-found t c = record {
-  view = c.self.view_is;
-  fields = c.self.invariant;
-  taken = takes c.args.self.now c.way_in-place.result.0 (child t c) c.args.at c.way_in-place.result.1 c.args.to_right
-      c.requires.children c.way_in-place.ensures.child (seen_at c.self.inside c.args.self.now c.way_in-place.result.0 c.index-self-place.result c.self.view_is c.way_in-place.ensures.child)
-      c.way_in-place.ensures.place c.way_in-place.ensures.goes;
-}
+found t c =
+    found_at c.self.inside c.args.self.now c.way_in-place.result.0 c.index-self-place.result c.args.at c.way_in-place.result.1 c.args.to_right
+    c.self.view_is c.self.invariant c.requires.children c.way_in-place.ensures.child c.way_in-place.ensures.place c.way_in-place.ensures.goes
 
 pub Children::insert_parting-insert_parting-requires :
     goal.Children::insert_parting-insert_parting-requires
@@ -61,7 +55,7 @@ pub Children::insert_parting-retotal-requires-clause-fits :
 Children::insert_parting-retotal-requires-clause-fits t c =
     still_narrow _ _ _ _ _ _ _ (found t (goal.at.Children::insert_parting-retotal-requires-clause-fits t c).After-info-old) c.args.added.now c.requires.takes.some c.requires.side c.requires.takes.fits
     c.insert_parting.new.self (c.in_ok-insert_parting.ensures.tried.done c.if-not-branch.false)
-    c.self.inside.totals refl (rw c.len.ensures.value at c.has_room_for.ensures c.if-not-has_room_for.false) c.info-old.result c.info-grown.result c.info-old.ensures.value c.info-grown.ensures.value
+    c.self.inside.totals refl (rw c.len.ensures.value at c.has_room_for.ensures.room c.if-not-has_room_for.false) c.info-old.result c.info-grown.result c.info-old.ensures.value c.info-grown.ensures.value
 
 pub Children::insert_parting-invariant_of-self-2 :
     goal.Children::insert_parting-invariant_of-self-2

@@ -1,20 +1,16 @@
 use Rattle.std.proofs.Common.{◌≡◌, ◌+◌, ◌-◌, ◌<◌, ◌≤◌, Bool, true, false, List, ℕ, [], ◌∷◌, ◌++◌, length, take, refl, sym, ap, ap₂, subst, ◌∙◌, arith}
 use Rattle.std.proofs.Math.Seq.{take-append_seam}
 use Rattle.std.proofs.lemmas.List.{length-append}
-use Rattle.std.proofs.lemmas.Str.{scalars-chars}
 use Rattle.std.specs.Str.{chars}
 use Rattle.rope_text.specs.declared.line_breaks.LineBreaks.{LineBreaks}
 use Rattle.rope_text.specs.Text.{byte_len}
 use Rattle.rope_text.specs.Cutting.{parts_crlf}
 use Rattle.rope_text.specs.Edit.{inserted}
-use Rattle.rope_text.specs.TextInfo.{info_of, info_sum}
-use Rattle.rope_text.proofs.Apart.{has_chars}
-use Rattle.rope_text.proofs.InfoLaws.{info_of-append_apart, part_of_sum}
-use Rattle.rope_text.proofs.Walks.{byte_len-chars}
+use Rattle.rope_text.specs.TextInfo.{info_of}
+use Rattle.rope_text.proofs.InfoLaws.{part_of_sum}
 use Rattle.rope_tree.specs.Tree.{Tree, text, leaf_tree, IsTree}
 use Rattle.rope_tree.specs.Insert.{IsInserted}
-use Rattle.rope_tree.proofs.GrownLaws.{leaf_is_tree}
-use Rattle.rope_tree.proofs.HalfLaws.{in_front, in_back, front_seam, back_seam}
+use Rattle.rope_tree.proofs.HalfLaws.{front_bytes, back_bytes, half_some, front_tree, back_tree, half_counts, in_front, in_back, front_seam, back_seam}
 use Rattle.rope_tree.proofs.InsertLeaves.{two_inserted}
 use Rattle.rope_tree.proofs.InsertTrees.{byte_len-inserted, length-inserted}
 use Rattle.rope_tree.proofs.NodeLaws.{leaf_text}
@@ -31,38 +27,21 @@ module _ (c : After-from_str-front_info) where
   abbrev br : LineBreaks
   br = c.args.self.now.breaks
 
-  -- the two halves are the leaf's text
+  -- the text that is cut is the leaf's
+  same : chars c.as_str-text.result.now ≡ text c.args.self.now
+  same = c.as_str-text.ensures.chars ∙ sym (ap text c.known_text.ensures.is ∙ leaf_text c.known_text.result)
+
   whole : f ++ b ≡ text c.args.self.now
-  whole = c.in-Some.ensures.joined ∙ c.as_str-text.ensures.chars ∙ sym (ap text c.known_text.ensures.is ∙ leaf_text c.known_text.result)
-
-  front_bytes : byte_len f ≡ length c.in-Some.front.now
-  front_bytes = byte_len-chars c.in-Some.front.now c.in-Some.ensures.utf8.0
-
-  back_bytes : byte_len b ≡ length c.in-Some.back.now
-  back_bytes = byte_len-chars c.in-Some.back.now c.in-Some.ensures.utf8.1
+  whole = c.in-Some.ensures.joined ∙ same
 
   front_chars : c.from_str-front_info.result.chars ≡ length f
   front_chars = ap (λ i. i.chars) c.from_str-front_info.ensures
 
+  front_info_is : c.from_str-front_info.result ≡ info_of br f
+  front_info_is = c.from_str-front_info.ensures ∙ ap (λ x. info_of x f) c.line_breaks-breaks.ensures
+
   kept : take c.from_str-front_info.result.chars (text c.args.self.now) ≡ f
   kept = ap (λ n. take n (text c.args.self.now)) front_chars ∙ ap (take (length f)) (sym whole) ∙ take-append_seam f b
-
-  parted : c.info-info.result ≡ info_sum c.from_str-front_info.result (info_of br b)
-  parted =
-      c.info-info.ensures ∙ ap (info_of br) (sym whole) ∙ info_of-append_apart br f b c.in-Some.ensures.apart
-      ∙ ap (λ i. info_sum i (info_of br b)) (sym (c.from_str-front_info.ensures ∙ ap (λ x. info_of x f) c.line_breaks-breaks.ensures))
-
-  front_tree : IsTree (leaf_tree br f)
-  front_tree = leaf_is_tree br [] f (omega (arith, front_bytes, c.in-Some.ensures.room.0)) (scalars-chars c.in-Some.front.now c.in-Some.ensures.utf8.0)
-
-  back_tree : IsTree (leaf_tree br b)
-  back_tree = leaf_is_tree br [] b (omega (arith, back_bytes, c.in-Some.ensures.room.1)) (scalars-chars c.in-Some.back.now c.in-Some.ensures.utf8.1)
-
-  front_some : 0 < length f
-  front_some = has_chars c.in-Some.front.now c.in-Some.ensures.utf8.0 (omega (arith, c.in-Some.ensures.least.0))
-
-  back_some : 0 < length b
-  back_some = has_chars c.in-Some.back.now c.in-Some.ensures.utf8.1 (omega (arith, c.in-Some.ensures.least.1))
 
   -- two leaves in the place of this one
   two : (x y : List ℕ) (s : List ℕ) → IsTree (leaf_tree br x) → IsTree (leaf_tree br y) → x ++ y ≡ inserted (text c.args.self.now) c.args.at s → parts_crlf x y ≡ false → 491 ≤ byte_len x → 491 ≤ byte_len y → 0 < length x → 0 < length y
@@ -72,29 +51,31 @@ module _ (c : After-from_str-front_info) where
       (two_inserted br c.known_text.result x y _ _ _ refl refl x_tree y_tree is (x_some, y_some, apart) (x_long, y_long))
 
 pub minus-requires : goal.minus-requires
-minus-requires c = part_of_sum _ _ _ (parted (goal.at.minus-requires c).After-from_str-front_info)
+minus-requires c =
+    let e = (goal.at.minus-requires c).After-from_str-front_info in
+    part_of_sum _ _ _ (half_counts c.in-Some.ensures _ _ _ (c.info-info.ensures ∙ ap (info_of (br e)) (sym (same e))) (front_info_is e))
 
 pub keep-requires-clause-len : goal.keep-requires-clause-len
 keep-requires-clause-len c =
     let e = (goal.at.keep-requires-clause-len c).After-from_str-front_info in
-    sym (ap byte_len (kept e) ∙ front_bytes e)
+    sym (ap byte_len (kept e) ∙ front_bytes c.in-Some.ensures)
 
 pub keep-requires-clause-info : goal.keep-requires-clause-info
 keep-requires-clause-info c =
     let e = (goal.at.keep-requires-clause-info c).After-from_str-front_info in
-    rw (kept e) (c.from_str-front_info.ensures ∙ ap (λ x. info_of x (f e)) c.line_breaks-breaks.ensures)
+    rw (kept e) (front_info_is e)
 
 pub keep-requires-else-at-chars-2-clause-len :
     goal.keep-requires-else-at-chars-2-clause-len
 keep-requires-else-at-chars-2-clause-len c =
     let e = (goal.at.keep-requires-else-at-chars-2-clause-len c).After-from_str-front_info in
-    sym (ap byte_len (kept e) ∙ front_bytes e)
+    sym (ap byte_len (kept e) ∙ front_bytes c.in-Some.ensures)
 
 pub keep-requires-else-at-chars-2-clause-info :
     goal.keep-requires-else-at-chars-2-clause-info
 keep-requires-else-at-chars-2-clause-info c =
     let e = (goal.at.keep-requires-else-at-chars-2-clause-info c).After-from_str-front_info in
-    rw (kept e) (c.from_str-front_info.ensures ∙ ap (λ x. info_of x (f e)) c.line_breaks-breaks.ensures)
+    rw (kept e) (front_info_is e)
 
 pub insert_in_place-requires-else-at-chars-2-clause-within :
     goal.insert_in_place-requires-else-at-chars-2-clause-within
@@ -129,23 +110,23 @@ returns-clause-cut c =
           let k = c.args.at - c.from_str-front_info.result.chars in
           let at_is : length (f e) + k ≡ c.args.at = omega (arith, front_chars e, w.if-at-chars-2.true) in
           let put = takes br _ w.insert_in_place.new.self (b e) s k w.insert_in_place.result behind w.insert_in_place.ensures.leaf w.insert_in_place.ensures.tree w.insert_in_place.ensures.full
-          (omega (arith, back_bytes e, c.in-Some.ensures.room.1, c.len.ensures.value)) in
+          (omega (arith, back_bytes c.in-Some.ensures, c.in-Some.ensures.back_room, c.len.ensures.value)) in
           let within : k ≤ length (b e) = omega (arith, at_is, c.requires.within, ap length (whole e), length-append (f e) (b e)) in
           let apart = back_seam (f e) (b e) s k (omega (arith, w.if-at-chars-2.true)) within c.in-Some.ensures.apart in
           rw (w.self-is, w.leaf-is, w.keep.ensures, kept e, put.0)
-          (two e (f e) (inserted (b e) k s) s (front_tree e) put.1 (in_back (f e) (b e) s k ∙ ap₂ (λ t n. inserted t n s) (whole e) at_is) apart
-          (omega (arith, front_bytes e, c.in-Some.ensures.least.0)) (omega (arith, byte_len-inserted (b e) k s, back_bytes e, c.in-Some.ensures.least.1))
-          (front_some e) (omega (arith, length-inserted (b e) k s, c.requires.some)))
+          (two e (f e) (inserted (b e) k s) s (front_tree c.in-Some.ensures br) put.1 (in_back (f e) (b e) s k ∙ ap₂ (λ t n. inserted t n s) (whole e) at_is) apart
+          (omega (arith, front_bytes c.in-Some.ensures, c.in-Some.ensures.front_least)) (omega (arith, byte_len-inserted (b e) k s, back_bytes c.in-Some.ensures, c.in-Some.ensures.back_least))
+          (half_some c.in-Some.ensures).0 (omega (arith, length-inserted (b e) k s, c.requires.some)))
       | else-at-chars-2 w ↦
           let inside : c.args.at < length (f e) = omega (arith, front_chars e, w.if-at-chars-2.false, c.if-at-chars.false) in
           let here = w.keep-else-at-chars-2.ensures ∙ ap (leaf_tree br) (kept e) in
           let did = w.insert_in_place-else-at-chars-2 in
-          let put = takes br _ did.new.self (f e) s c.args.at did.result here did.ensures.leaf did.ensures.tree did.ensures.full (omega (arith, front_bytes e, c.in-Some.ensures.room.0, c.len.ensures.value)) in
+          let put = takes br _ did.new.self (f e) s c.args.at did.result here did.ensures.leaf did.ensures.tree did.ensures.full (omega (arith, front_bytes c.in-Some.ensures, c.in-Some.ensures.front_room, c.len.ensures.value)) in
           rw (w.self-is, w.leaf-is, behind, put.0)
-          (two e (inserted (f e) c.args.at s) (b e) s put.1 (back_tree e) (in_front (f e) (b e) s c.args.at (omega (arith, inside)) ∙ ap (λ t. inserted t c.args.at s) (whole e))
+          (two e (inserted (f e) c.args.at s) (b e) s put.1 (back_tree c.in-Some.ensures br) (in_front (f e) (b e) s c.args.at (omega (arith, inside)) ∙ ap (λ t. inserted t c.args.at s) (whole e))
           (front_seam (f e) (b e) s c.args.at inside c.in-Some.ensures.apart)
-          (omega (arith, byte_len-inserted (f e) c.args.at s, front_bytes e, c.in-Some.ensures.least.0)) (omega (arith, back_bytes e, c.in-Some.ensures.least.1))
-          (omega (arith, length-inserted (f e) c.args.at s, c.requires.some)) (back_some e))
+          (omega (arith, byte_len-inserted (f e) c.args.at s, front_bytes c.in-Some.ensures, c.in-Some.ensures.front_least)) (omega (arith, back_bytes c.in-Some.ensures, c.in-Some.ensures.back_least))
+          (omega (arith, length-inserted (f e) c.args.at s, c.requires.some)) (half_some c.in-Some.ensures).1)
     ]
 
 pub returns-clause-leaf : goal.returns-clause-leaf
@@ -158,7 +139,7 @@ returns-clause-leaf c =
       | then-at-chars-2 w ↦
           let k = c.args.at - c.from_str-front_info.result.chars in
           let put = takes br _ w.insert_in_place.new.self (b e) s k w.insert_in_place.result behind w.insert_in_place.ensures.leaf w.insert_in_place.ensures.tree w.insert_in_place.ensures.full
-          (omega (arith, back_bytes e, c.in-Some.ensures.room.1, c.len.ensures.value)) in
+          (omega (arith, back_bytes c.in-Some.ensures, c.in-Some.ensures.back_room, c.len.ensures.value)) in
           rw (w.leaf-is, put.0) (record { flat = refl; tree = put.1 })
-      | else-at-chars-2 w ↦ rw (w.leaf-is, behind) (record { flat = refl; tree = back_tree e })
+      | else-at-chars-2 w ↦ rw (w.leaf-is, behind) (record { flat = refl; tree = back_tree c.in-Some.ensures br })
     ]

@@ -2,7 +2,8 @@ use Rattle.std.proofs.Common.{◌≡◌, sym, ap, subst, ◌∙◌, arith}
 use Rattle.rope_text.specs.TextInfo.{info_of, HasPart}
 use Rattle.rope_text.specs.Edit.{inserted}
 use Rattle.rope_tree.proofs.CountLaws.{counts_grow}
-use Rattle.rope_tree.proofs.Infos.{IsLow, low_info, small_info}
+use Rattle.rope_tree.specs.Counted.{AreWithin}
+use Rattle.rope_tree.proofs.Infos.{info_within, small_info}
 use Rattle.rope_tree.proofs.ChangeLaws.{grown_change}
 use Rattle.rope_tree.proofs.NodeLaws.{leaf_text}
 use Rattle.rope_tree.proofs.GrownLaws.{leaf_inserted}
@@ -10,19 +11,13 @@ use Rattle.rope_tree.proofs.leaf.Leaf.insert_in_place.Goals.{After-put_in-after}
 use Rattle.rope_tree.proofs.leaf.Leaf.insert_in_place.Goals as goal
 
 -- the counts of a leaf that took the text
-low : (c : After-put_in-after) → IsLow c.put_in-after.result 984
+low : (c : After-put_in-after) → AreWithin 984 c.put_in-after.result
 low c =
     let now = c.put_in-after.ensures.info ∙ ap (info_of c.old.inside.breaks) (sym c.put_in-after.ensures.text) in
-    subst (λ i. IsLow i 984) (sym now) (low_info c.old.inside.breaks c.put_in-after.new.leaf 984 c.put_in-after.ensures.fits)
+    subst (AreWithin 984) (sym now) (info_within c.old.inside.breaks c.put_in-after.new.leaf 984 c.put_in-after.ensures.fits)
 
-pub new-self-inside-requires-clause-chars : goal.new-self-inside-requires-clause-chars
-new-self-inside-requires-clause-chars c = (low c).chars
-
-pub new-self-inside-requires-clause-surrogates : goal.new-self-inside-requires-clause-surrogates
-new-self-inside-requires-clause-surrogates c = omega (arith, (low c).surrogates)
-
-pub new-self-inside-requires-clause-break_count : goal.new-self-inside-requires-clause-break_count
-new-self-inside-requires-clause-break_count c = (low c).count
+pub new-self-inside-requires : goal.new-self-inside-requires
+new-self-inside-requires c = low c
 
 pub returns-clause-done : goal.returns-clause-done
 returns-clause-done c = λ yes.

@@ -3,7 +3,8 @@ use Rattle.rope_text.specs.Text.{byte_len}
 use Rattle.rope_text.specs.TextInfo.{info_of}
 use Rattle.rope_text.proofs.Measures.{IsMeasure-byte_len}
 use Rattle.rope_tree.specs.Tree.{text, leaf_tree}
-use Rattle.rope_tree.proofs.Infos.{IsLow, low_info}
+use Rattle.rope_tree.specs.Counted.{AreWithin}
+use Rattle.rope_tree.proofs.Infos.{info_within}
 use Rattle.rope_tree.proofs.NodeLaws.{leaf_text}
 use Rattle.rope_tree.proofs.leaf.Leaf.keep.Goals.{After-keep_first}
 use Rattle.rope_tree.proofs.leaf.Leaf.keep.Goals as goal
@@ -18,20 +19,11 @@ fits c =
     let n = c.args.info.chars in
     omega (arith, ap byte_len c.keep_first.ensures.value, IsMeasure-byte_len.joined (take n t) (drop n t), ap byte_len (take-append-drop n t), c.self.invariant.fits)
 
-low : (c : After-keep_first) → IsLow c.args.info 984
-low c = rw (c.requires.info ∙ ap (info_of c.args.self.now.breaks) (stays c)) (low_info c.args.self.now.breaks c.keep_first.new.self 984 (fits c))
+low : (c : After-keep_first) → AreWithin 984 c.args.info
+low c = rw (c.requires.info ∙ ap (info_of c.args.self.now.breaks) (stays c)) (info_within c.args.self.now.breaks c.keep_first.new.self 984 (fits c))
 
-pub new-self-inside-requires-clause-chars : goal.new-self-inside-requires-clause-chars
-new-self-inside-requires-clause-chars c = (low (goal.at.new-self-inside-requires-clause-chars c).After-keep_first).chars
-
-pub new-self-inside-requires-clause-surrogates : goal.new-self-inside-requires-clause-surrogates
-new-self-inside-requires-clause-surrogates c = omega (arith, (low (goal.at.new-self-inside-requires-clause-surrogates c).After-keep_first).surrogates)
-
-pub new-self-inside-requires-clause-break_count : goal.new-self-inside-requires-clause-break_count
-new-self-inside-requires-clause-break_count c = (low (goal.at.new-self-inside-requires-clause-break_count c).After-keep_first).count
-
-pub new-self-inside-requires-clause-bytes : goal.new-self-inside-requires-clause-bytes
-new-self-inside-requires-clause-bytes c = (low (goal.at.new-self-inside-requires-clause-bytes c).After-keep_first).bytes
+pub new-self-inside-requires : goal.new-self-inside-requires
+new-self-inside-requires c = low (goal.at.new-self-inside-requires c).After-keep_first
 
 pub invariant_of-self : goal.invariant_of-self
 invariant_of-self c =

@@ -1,8 +1,9 @@
-use Rattle.std.proofs.Common.{◌≡◌, sym, ap, subst, ◌∙◌, arith}
+use Rattle.std.proofs.Common.{◌≡◌, sym, ap, subst, ◌∙◌}
 use Rattle.rope_text.specs.TextInfo.{info_of, HasPart}
 use Rattle.rope_text.specs.Edit.{removed}
 use Rattle.rope_tree.proofs.CountLaws.{counts_fall}
-use Rattle.rope_tree.proofs.Infos.{IsLow, low_info}
+use Rattle.rope_tree.specs.Counted.{AreWithin}
+use Rattle.rope_tree.proofs.Infos.{info_within}
 use Rattle.rope_tree.proofs.NodeLaws.{leaf_text}
 use Rattle.rope_tree.proofs.ChangeLaws.{fallen_change}
 use Rattle.rope_tree.proofs.RemovalLaws.{leaf_left}
@@ -10,19 +11,13 @@ use Rattle.rope_tree.proofs.leaf.Leaf.remove_in_place.Goals.{In-Some}
 use Rattle.rope_tree.proofs.leaf.Leaf.remove_in_place.Goals as goal
 
 -- the counts of a leaf that lost the characters
-low : (c : In-Some) → IsLow c.in-Some.after 984
+low : (c : In-Some) → AreWithin 984 c.in-Some.after
 low c =
     let now = c.in-Some.ensures.info ∙ ap (info_of c.old.inside.breaks) (sym c.in-Some.ensures.text) in
-    subst (λ i. IsLow i 984) (sym now) (low_info c.old.inside.breaks c.take_out.new.leaf 984 c.in-Some.ensures.fits)
+    subst (AreWithin 984) (sym now) (info_within c.old.inside.breaks c.take_out.new.leaf 984 c.in-Some.ensures.fits)
 
-pub new-self-inside-requires-clause-chars : goal.new-self-inside-requires-clause-chars
-new-self-inside-requires-clause-chars c = (low c).chars
-
-pub new-self-inside-requires-clause-surrogates : goal.new-self-inside-requires-clause-surrogates
-new-self-inside-requires-clause-surrogates c = omega (arith, (low c).surrogates)
-
-pub new-self-inside-requires-clause-break_count : goal.new-self-inside-requires-clause-break_count
-new-self-inside-requires-clause-break_count c = (low c).count
+pub new-self-inside-requires : goal.new-self-inside-requires
+new-self-inside-requires c = low c
 
 pub returns-clause-done : goal.returns-clause-done
 returns-clause-done c = λ yes.

@@ -10,96 +10,104 @@ use Rattle.rope_text.specs.Edit.{inserted}
 use Rattle.rope_tree.specs.Search.{IsSmall}
 use Rattle.rope_tree.specs.Tree.{Tree, text, joined, height_of, breaks_of, AreChildren}
 use Rattle.rope_tree.specs.Totals.{HasTotals}
+use Rattle.rope_tree.specs.Listed.{listed}
 use Rattle.rope_tree.specs.Insert.{IsInserted, AreGrown}
 use Rattle.rope_tree.proofs.Infos.{small_info, small_below, sum_of_small}
 use Rattle.rope_tree.proofs.TreeLaws.{breaks_of_is}
 use Rattle.rope_tree.proofs.NodeLaws.{byte_len-joined, small_totals}
 use Rattle.rope_tree.proofs.Descents.{front_is}
-use Rattle.rope_tree.proofs.InsertDescents.{takes, last_total}
+use Rattle.rope_tree.proofs.InsertDescents.{last_total}
 use Rattle.rope_tree.proofs.InsertTrees.{byte_len-inserted}
-use Rattle.rope_tree.proofs.GrownLaws.{children_grown, grown_by_one}
-use Rattle.rope_tree.proofs.ListedLaws.{seen_at, put_in_place, more_seen, more_listed}
-use Rattle.rope_tree.proofs.ChildLaws.{Finds, read, part, child_fits, may, small, still_narrow, fields_after, all_grown}
+use Rattle.rope_tree.proofs.GrownLaws.{totals_seen, children_grown, grown_by_one}
+use Rattle.rope_tree.proofs.ListedLaws.{put_in_place, more_seen, more_listed}
+use Rattle.rope_tree.proofs.ChildLaws.{Finds, found_at, read, part, child_fits, may, small, still_narrow, fields_after, all_grown}
 use Rattle.rope_tree.proofs.CutLaws.{Cuts, own_first, own_second, small_both, cut_fits, few_bytes, first_narrow, totals_cut}
-use Rattle.rope_tree.proofs.node.Children.part_child.Goals.{After-info-old, After-info-front, After-put_behind}
+use Rattle.rope_tree.proofs.node.Children.part_child.Goals.{After-info-old, After-info-front, After-put_behind, then-count-ge-MAX_CHILDREN-via-then-count-ge-MAX_CHILDREN, then-count-ge-MAX_CHILDREN-via-else-count-ge-MAX_CHILDREN+then-not-has_room_for}
 use Rattle.rope_tree.proofs.node.Children.part_child.Goals as goal
 
--- the child that takes the text
+-- the child that takes the text, before it is cut
+found : (c : After-info-old) → Finds c.self.inside c.args.self.now c.way_in-place.result.0 (get_or c.self.inside.nodes c.way_in-place.result.0 c.index-self-place.result) c.args.at c.way_in-place.result.1 c.args.to_right
+found c =
+    found_at c.self.inside c.args.self.now c.way_in-place.result.0 c.index-self-place.result c.args.at c.way_in-place.result.1 c.args.to_right
+    c.self.view_is c.self.invariant c.requires.children c.way_in-place.ensures.child c.way_in-place.ensures.place c.way_in-place.ensures.goes
+
+-- and then
 abbrev child : After-info-front → Tree
 child c = get_or c.self.inside.nodes c.way_in-place.result.0 c.index-self-place.result
 
-found : (c : After-info-front) → Finds c.self.inside c.args.self.now c.way_in-place.result.0 (child c) c.args.at c.way_in-place.result.1 c.args.to_right
-found c = record {
-  view = c.self.view_is;
-  fields = c.self.invariant;
-  taken = takes c.args.self.now c.way_in-place.result.0 (child c) c.args.at c.way_in-place.result.1 c.args.to_right
-      c.requires.children c.way_in-place.ensures.child (seen_at c.self.inside c.args.self.now c.way_in-place.result.0 c.index-self-place.result c.self.view_is c.way_in-place.ensures.child)
-      c.way_in-place.ensures.place c.way_in-place.ensures.goes;
-}
-
--- the same before it is cut
-abbrev held : After-info-old → Tree
-held c = get_or c.self.inside.nodes c.way_in-place.result.0 c.index-self-place.result
-
-holds : (c : After-info-old) → Finds c.self.inside c.args.self.now c.way_in-place.result.0 (held c) c.args.at c.way_in-place.result.1 c.args.to_right
-holds c = record {
-  view = c.self.view_is;
-  fields = c.self.invariant;
-  taken = takes c.args.self.now c.way_in-place.result.0 (held c) c.args.at c.way_in-place.result.1 c.args.to_right
-      c.requires.children c.way_in-place.ensures.child (seen_at c.self.inside c.args.self.now c.way_in-place.result.0 c.index-self-place.result c.self.view_is c.way_in-place.ensures.child)
-      c.way_in-place.ensures.place c.way_in-place.ensures.goes;
-}
+parted_at : (c : After-info-front) → Finds c.self.inside c.args.self.now c.way_in-place.result.0 (child c) c.args.at c.way_in-place.result.1 c.args.to_right
+parted_at c =
+    found_at c.self.inside c.args.self.now c.way_in-place.result.0 c.index-self-place.result c.args.at c.way_in-place.result.1 c.args.to_right
+    c.self.view_is c.self.invariant c.requires.children c.way_in-place.ensures.child c.way_in-place.ensures.place c.way_in-place.ensures.goes
 
 pub cut-requires-clause-takes : goal.cut-requires-clause-takes
 cut-requires-clause-takes c =
-    let f = holds (goal.at.cut-requires-clause-takes c).After-info-old in
+    let f = found (goal.at.cut-requires-clause-takes c).After-info-old in
     record { within = f.taken.goes.within; some = c.requires.takes.some; short = c.requires.takes.short; fits = child_fits _ _ _ _ _ _ _ f c.args.added.now c.requires.takes.some c.requires.side c.requires.takes.fits }
 
 pub cut-requires-clause-side : goal.cut-requires-clause-side
 cut-requires-clause-side c =
-    may _ _ _ _ _ _ _ (holds (goal.at.cut-requires-clause-side c).After-info-old) c.args.added.now c.requires.takes.some c.requires.side c.requires.takes.fits
+    may _ _ _ _ _ _ _ (found (goal.at.cut-requires-clause-side c).After-info-old) c.args.added.now c.requires.takes.some c.requires.side c.requires.takes.fits
 
 pub returns-in_err-cut-clause-made : goal.returns-in_err-cut-clause-made
-returns-in_err-cut-clause-made c = omega (arith, c.cut.ensures.made, (holds (goal.at.returns-in_err-cut-clause-made c).After-info-old).taken.own.at_height)
+returns-in_err-cut-clause-made c = omega (arith, c.cut.ensures.made, (found (goal.at.returns-in_err-cut-clause-made c).After-info-old).taken.own.at_height)
 
 pub returns-in-Kept-clause-idle_above : goal.returns-in-Kept-clause-idle_above
-returns-in-Kept-clause-idle_above c = λ no above. absurd (omega (arith, above, c.in_ok-cut.ensures.inner c.in-Kept.is, (holds (goal.at.returns-in-Kept-clause-idle_above c).After-info-old).taken.own.at_height))
+returns-in-Kept-clause-idle_above c = λ no above. absurd (omega (arith, above, c.in_ok-cut.ensures.inner c.in-Kept.is, (found (goal.at.returns-in-Kept-clause-idle_above c).After-info-old).taken.own.at_height))
+
+pub returns-in-Kept-clause-full : goal.returns-in-Kept-clause-full
+returns-in-Kept-clause-full c = λ no above few. absurd (omega (arith, above, c.in_ok-cut.ensures.inner c.in-Kept.is, (found (goal.at.returns-in-Kept-clause-full c).After-info-old).taken.own.at_height))
+
+-- the list is full, or the text would be too long for its totals
+pub returns-then-count-ge-MAX_CHILDREN-clause-full :
+    goal.returns-then-count-ge-MAX_CHILDREN-clause-full
+returns-then-count-ge-MAX_CHILDREN-clause-full c = λ no above few.
+    let ts = c.args.self.now in
+    elim c.then-count-ge-MAX_CHILDREN.branch [
+      | then-count-ge-MAX_CHILDREN-via-then-count-ge-MAX_CHILDREN w ↦
+          absurd (omega (arith, few, w.if-count-ge-MAX_CHILDREN.true, c.len-count.ensures, c.self.invariant.totals_right.as_many, ap length c.self.view_is))
+      | then-count-ge-MAX_CHILDREN-via-else-count-ge-MAX_CHILDREN+then-not-has_room_for w ↦
+          let d = info_of (breaks_of ts) [] in
+          let t = totals_seen (listed c.self.inside) ts c.self.inside.totals c.self.inside.totals c.self.view_is refl c.self.invariant.totals_right in
+          let last = last_total (breaks_of ts) c.self.inside.totals ts t (omega (arith, c.requires.children.at_least_two)) d in
+          omega (arith, w.has_room_for.ensures.none w.if-not-has_room_for.true d, ap (λ x. x.bytes) last, w.len.ensures.value)
+    ]
 
 pub returns-clause-made : goal.returns-clause-made
-returns-clause-made c = omega (arith, c.cut.ensures.made, (holds (goal.at.returns-clause-made c).After-info-old).taken.own.at_height)
+returns-clause-made c = omega (arith, c.cut.ensures.made, (found (goal.at.returns-clause-made c).After-info-old).taken.own.at_height)
 
 -- a child that took the text
 pub retotal-requires-clause-small : goal.retotal-requires-clause-small
 retotal-requires-clause-small c =
-    let f = holds (goal.at.retotal-requires-clause-small c).After-info-old in
+    let f = found (goal.at.retotal-requires-clause-small c).After-info-old in
     small_totals (breaks_of c.args.self.now) c.self.inside.totals c.args.self.now (read _ _ _ _ _ _ _ f c.self.inside.totals refl) c.requires.children.fits
 
 pub retotal-requires-clause-part : goal.retotal-requires-clause-part
 retotal-requires-clause-part c =
-    part _ _ _ _ _ _ _ (holds (goal.at.retotal-requires-clause-part c).After-info-old) c.self.inside.totals refl c.info-old.result c.info-old.ensures.value
+    part _ _ _ _ _ _ _ (found (goal.at.retotal-requires-clause-part c).After-info-old) c.self.inside.totals refl c.info-old.result c.info-old.ensures.value
 
 pub retotal-requires-clause-new : goal.retotal-requires-clause-new
 retotal-requires-clause-new c =
     small_below c.info-new.result
-    (small _ _ _ _ _ _ _ (holds (goal.at.retotal-requires-clause-new c).After-info-old) c.args.added.now c.requires.takes.some c.requires.side c.requires.takes.fits c.cut.new.self (c.in_ok-cut.ensures.grown c.in-Grown.is) c.info-new.result c.info-new.ensures.value)
+    (small _ _ _ _ _ _ _ (found (goal.at.retotal-requires-clause-new c).After-info-old) c.args.added.now c.requires.takes.some c.requires.side c.requires.takes.fits c.cut.new.self (rw c.in-Grown.is at c.in_ok-cut.ensures.cut) c.info-new.result c.info-new.ensures.value)
 
 pub retotal-requires-clause-fits : goal.retotal-requires-clause-fits
 retotal-requires-clause-fits c =
-    still_narrow _ _ _ _ _ _ _ (holds (goal.at.retotal-requires-clause-fits c).After-info-old) c.args.added.now c.requires.takes.some c.requires.side c.requires.takes.fits c.cut.new.self (c.in_ok-cut.ensures.grown c.in-Grown.is)
-    c.self.inside.totals refl (rw c.len.ensures.value at c.has_room_for.ensures c.if-not-has_room_for.false) c.info-old.result c.info-new.result c.info-old.ensures.value c.info-new.ensures.value
+    still_narrow _ _ _ _ _ _ _ (found (goal.at.retotal-requires-clause-fits c).After-info-old) c.args.added.now c.requires.takes.some c.requires.side c.requires.takes.fits c.cut.new.self (rw c.in-Grown.is at c.in_ok-cut.ensures.cut)
+    c.self.inside.totals refl (rw c.len.ensures.value at c.has_room_for.ensures.room c.if-not-has_room_for.false) c.info-old.result c.info-new.result c.info-old.ensures.value c.info-new.ensures.value
 
 pub invariant_of-self-in-Grown : goal.invariant_of-self-in-Grown
 invariant_of-self-in-Grown c =
-    fields_after _ _ _ _ _ _ _ (holds (goal.at.invariant_of-self-in-Grown c).After-info-old) c.args.added.now c.requires.takes.some c.requires.side c.requires.takes.fits c.cut.new.self (c.in_ok-cut.ensures.grown c.in-Grown.is)
+    fields_after _ _ _ _ _ _ _ (found (goal.at.invariant_of-self-in-Grown c).After-info-old) c.args.added.now c.requires.takes.some c.requires.side c.requires.takes.fits c.cut.new.self (rw c.in-Grown.is at c.in_ok-cut.ensures.cut)
     _ refl refl refl c.self.inside.totals c.retotal.new.self c.info-old.result c.info-new.result refl c.info-old.ensures.value c.info-new.ensures.value c.retotal.ensures.len c.retotal.ensures.before c.retotal.ensures.after refl
 
 pub returns-in-Grown-clause-made : goal.returns-in-Grown-clause-made
-returns-in-Grown-clause-made c = omega (arith, c.cut.ensures.made, (holds (goal.at.returns-in-Grown-clause-made c).After-info-old).taken.own.at_height)
+returns-in-Grown-clause-made c = omega (arith, c.cut.ensures.made, (found (goal.at.returns-in-Grown-clause-made c).After-info-old).taken.own.at_height)
 
 pub returns-in-Grown-clause-tried : goal.returns-in-Grown-clause-tried
 returns-in-Grown-clause-tried c = record {
   done = λ yes.
-      all_grown _ _ _ _ _ _ _ (holds (goal.at.returns-in-Grown-clause-tried c).After-info-old) c.args.added.now c.requires.takes.some c.requires.side c.requires.takes.fits c.cut.new.self (c.in_ok-cut.ensures.grown c.in-Grown.is)
+      all_grown _ _ _ _ _ _ _ (found (goal.at.returns-in-Grown-clause-tried c).After-info-old) c.args.added.now c.requires.takes.some c.requires.side c.requires.takes.fits c.cut.new.self (rw c.in-Grown.is at c.in_ok-cut.ensures.cut)
       (record { height = _; breaks = _; last = c.self.inside.last; totals = _; nodes = _ }) refl refl refl c.self.inside.totals c.retotal.new.self c.info-old.result c.info-new.result refl c.info-old.ensures.value c.info-new.ensures.value c.retotal.ensures.len c.retotal.ensures.before c.retotal.ensures.after refl;
   kept = λ no. cc;
   err = tt;
@@ -114,10 +122,10 @@ parted c =
     let ts = c.args.self.now in
     let k = c.way_in-place.result.0 in
     let u = c.cut.new.self in
-    let d = (found c).taken in
+    let d = (parted_at c).taken in
     let g = d.goes in
     let new = inserted (text (child c)) c.way_in-place.result.1 c.args.added.now in
-    let done : IsInserted (child c) (u ∷ c.in-Parted.back ∷ []) new = c.in_ok-cut.ensures.parted c.in-Parted.back c.in-Parted.is in
+    let done : IsInserted (child c) (u ∷ c.in-Parted.back ∷ []) new = rw c.in-Parted.is at c.in_ok-cut.ensures.cut in
     let few : length ts < 24 = omega (arith, c.if-count-ge-MAX_CHILDREN.false, c.len-count.ensures, c.self.invariant.totals_right.as_many, ap length c.self.view_is) in
     grown_by_one (breaks_of ts) (height_of ts) ts k (child c) u c.in-Parted.back d.children d.within d.child_is c.args.at c.way_in-place.result.1 c.args.added.now c.requires.takes.some
     d.place g.within c.args.to_right g.inside g.outside c.requires.side done c.requires.takes.fits refl refl few
@@ -126,14 +134,14 @@ children : (c : After-info-front) → AreChildren (breaks_of c.args.self.now) (h
 children c = children_grown c.args.self.now (parts c) _ c.requires.children (parted c)
 
 cut : (c : After-info-front) → Cuts c.args.self.now (parts c) c.way_in-place.result.0 (child c) c.cut.new.self c.in-Parted.back
-cut c = record { children = c.requires.children; within = c.way_in-place.ensures.child; child_is = (found c).taken.child_is; after = children c; is = refl }
+cut c = record { children = c.requires.children; within = c.way_in-place.ensures.child; child_is = (parted_at c).taken.child_is; after = children c; is = refl }
 
 totals : (c : After-info-front) → HasTotals (breaks_of c.args.self.now) c.self.inside.totals c.args.self.now
-totals c = read _ _ _ _ _ _ _ (found c) c.self.inside.totals refl
+totals c = read _ _ _ _ _ _ _ (parted_at c) c.self.inside.totals refl
 
 -- the counts that the code reads
 old_is : (c : After-info-front) → c.info-old.result ≡ info_of (breaks_of c.args.self.now) (text (child c))
-old_is c = c.info-old.ensures.value ∙ ap (λ b. info_of b (text (child c))) (found c).taken.own.same_breaks
+old_is c = c.info-old.ensures.value ∙ ap (λ b. info_of b (text (child c))) (parted_at c).taken.own.same_breaks
 
 front_counts : (c : After-info-front) → c.info-front.result ≡ info_of (breaks_of c.args.self.now) (text c.cut.new.self)
 front_counts c = c.info-front.ensures.value ∙ ap (λ b. info_of b (text c.cut.new.self)) (own_first _ _ _ _ _ _ (cut c)).same_breaks
@@ -187,7 +195,7 @@ retotal-requires-2-clause-small c =
 
 pub retotal-requires-2-clause-part : goal.retotal-requires-2-clause-part
 retotal-requires-2-clause-part c =
-    part _ _ _ _ _ _ _ (found (goal.at.retotal-requires-2-clause-part c).After-info-front) c.self.inside.totals refl c.info-old.result c.info-old.ensures.value
+    part _ _ _ _ _ _ _ (parted_at (goal.at.retotal-requires-2-clause-part c).After-info-front) c.self.inside.totals refl c.info-old.result c.info-old.ensures.value
 
 pub retotal-requires-2-clause-new : goal.retotal-requires-2-clause-new
 retotal-requires-2-clause-new c =
@@ -201,7 +209,7 @@ retotal-requires-2-clause-fits c = λ narrow j d from within.
     let t = totals f in
     let inside : j < length ts = omega (arith, t.as_many, within) in
     let last = last_total (breaks_of ts) c.self.inside.totals ts t (omega (arith, c.requires.children.at_least_two)) d in
-    let room = rw c.len.ensures.value at (c.has_room_for.ensures c.if-not-has_room_for.false narrow d) in
+    let room = rw c.len.ensures.value at (c.has_room_for.ensures.room c.if-not-has_room_for.false narrow d) in
     let few : byte_len (joined (parts f)) < 2 ^ 32 = omega (arith, room, ap (λ x. x.bytes) last, ap byte_len (parted f).text_is, byte_len-inserted (joined ts) c.args.at c.args.added.now) in
     rw (t.total_at j d inside, old_is f, both_are f c.info.result c.plus.result c.info.ensures.value c.plus.ensures.sum) (cut_fits _ _ _ _ _ _ (cut f) few j from inside)
 

@@ -14,10 +14,10 @@ pub overflow_cast-total-2 : goal.overflow_cast-total-2
 overflow_cast-total-2 c = omega (arith, (narrow (goal.at.overflow_cast-total-2 c).After-self).chars)
 
 pub overflow_cast-total-3 : goal.overflow_cast-total-3
-overflow_cast-total-3 c = omega (arith, (narrow (goal.at.overflow_cast-total-3 c).After-self).surrogates)
+overflow_cast-total-3 c = omega (arith, (narrow (goal.at.overflow_cast-total-3 c).After-self).pairs)
 
 pub overflow_cast-total-4 : goal.overflow_cast-total-4
-overflow_cast-total-4 c = omega (arith, (narrow (goal.at.overflow_cast-total-4 c).After-self).count)
+overflow_cast-total-4 c = omega (arith, (narrow (goal.at.overflow_cast-total-4 c).After-self).breaks)
 
 pub put_in-requires : goal.put_in-requires
 put_in-requires c = omega (arith, c.requires.within, c.requires.room, c.self.invariant.bytes, many c.self.inside c.args.self.now c.self.view_is)

@@ -1,7 +1,7 @@
 use Rattle.std.proofs.Common.{sym}
 use Rattle.rope_tree.specs.Tree.{text}
 use Rattle.rope_tree.proofs.InsertRoots.{begins_at}
-use Rattle.rope_tree.proofs.edit.is_lf.Goals as goal
+use Rattle.rope_tree.proofs.short_edits.is_lf.Goals as goal
 
 pub returns-then-at-info-clause-value : goal.returns-then-at-info-clause-value
 returns-then-at-info-clause-value c = sym (begins_at (text c.args.node.now) c.args.at c.char_at.result c.char_at.ensures.value)

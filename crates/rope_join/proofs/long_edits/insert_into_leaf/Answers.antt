@@ -12,8 +12,8 @@ use Rattle.rope_tree.proofs.InsertLeaves.{text_of_leaf}
 use Rattle.rope_tree.proofs.InsertTrees.{inserted_is}
 use Rattle.rope_tree.proofs.LastCalls.{both_ok}
 use Rattle.rope_join.proofs.Cuts.{byte_len-parts}
-use Rattle.rope_join.proofs.edit.insert_into_leaf.Goals.{After-range, After-range_from, In_ok-append-3}
-use Rattle.rope_join.proofs.edit.insert_into_leaf.Goals as goal
+use Rattle.rope_join.proofs.long_edits.insert_into_leaf.Goals.{After-range, After-range_from, In_ok-append-3}
+use Rattle.rope_join.proofs.long_edits.insert_into_leaf.Goals as goal
 
 front : (c : After-range) → chars c.range.result.now ≡ take c.args.at c.args.leaf.now
 front c = chars_front c.as_str-text.result.now c.range.result.now c.args.leaf.now c.args.at c.char_to_byte_idx-place.result c.as_str-text.utf8 c.as_str-text.ensures.chars

@@ -1,4 +1,5 @@
-//! Edits of whole trees: inserts of short texts, and removals of characters that lie in one leaf.
+//! Edits of whole trees that change one leaf: short inserts, and removals of characters that lie in
+//! one leaf.
 ghost use Rattle.std.specs.Prelude.{◌≡◌, ◌+◌, ◌-◌, ◌*◌, ◌<◌, ◌≤◌, ◌^◌, true, length, drop, IfOk, OnOk, OnErr};
 ghost use Rattle.std.specs.Str.{chars};
 ghost use Rattle.rope_text.specs.declared.TheConstants.{MAX_BYTES, MAX_SHORT_BYTES};
@@ -16,7 +17,7 @@ use crate::node::anew::insert;
 use crate::{Made, Maker, Node, ShortText, char_at, root_of};
 use rope_text::{Steps, TextInfo};
 
-/// Whether an LF stands at a place.
+/// Whether the character at an index is LF. None is at the end.
 pub fn is_lf(node: &Node, at: usize) -> bool
     requires { at ≤ length (text node.now) }
     ensures value { result ≡ begins_with_lf (drop at (text node.now)) }
@@ -25,9 +26,14 @@ pub fn is_lf(node: &Node, at: usize) -> bool
     at < node.info().chars && char_at(node, at, &mut Steps::new()) == '\n'
 }
 
-/// Puts a text of 1 to 981 bytes before the character `at`: where the nodes stand, if the leaf has room, or is cut into two below
-/// a node that has room for one more, which takes memory for copies of shared nodes and for the second part alone; and else in a
-/// tree that takes the old one's place last of all.
+/// Puts a text of 1 to 981 bytes before the character `at`, by the first of three ways that can:
+///
+/// 1. Where the nodes stand, if the leaf has room, or can be cut into two, since the list that it is
+///    in has room for one more. It takes memory for copies of shared nodes, and for a second leaf.
+/// 2. By a second descent (`Node::insert_parting`), if that list is full, but one above it isn't:
+///    each full list below that one becomes two new ones.
+/// 3. Else, as where all lists up to the root are full, by a new tree, which shares the nodes off the
+///    way. It takes the old one's place last of all, so that a refusal leaves the tree as it was.
 pub fn insert_at(maker: &mut Maker, root: &mut Node, at: usize, added: &str) -> Made<()>
     requires within { at ≤ length (text root.old) }
     requires some { 1 ≤ length added.now }
@@ -40,13 +46,13 @@ pub fn insert_at(maker: &mut Maker, root: &mut Node, at: usize, added: &str) -> 
     ensures made { maker.new.made ≤ maker.old.made + 3 * root.old.height + 5 }
 {
     let added = ShortText::new(added);
-    // At a seam it goes to the right where it ends in CR, so that it can't part that CR from an LF there. No CR stands before the LF
-    // across a seam.
+    // At a seam between leaves, a text that ends in CR goes to the right if an LF stands there: so
+    // the two come to lie in one leaf.
     let to_right = ends_in_cr(added.as_str()) && is_lf(root, at);
     if root.insert_in_place(maker, at, &added, to_right, true, &mut TextInfo::new())? {
         return Ok(());
     }
-    // The first try made the nodes on the way the tree's own.
+    // The first try made the nodes on the way the tree's own, so this one needn't copy any.
     if root.insert_parting(maker, at, &added, to_right)? {
         return Ok(());
     }
@@ -55,12 +61,13 @@ pub fn insert_at(maker: &mut Maker, root: &mut Node, at: usize, added: &str) -> 
     Ok(())
 }
 
-/// At the ends of a tree nothing stands beside a leaf, and it may be as short as it will.
+/// At a tree's ends no other leaf stands, so the first leaf and the last may have any length.
 const ANY: Least = Least { first: 0, last: 0 };
 
-/// Takes the characters from `start` up to `end` out where they lie in one leaf that may do without them: it has others, no LF comes
-/// first in it that wasn't, and no CR last. So no CR LF can lie across two leaves. Returns whether it did.
-/// Nodes on the way that are shared are copied; where none is, that takes no memory.
+/// Removes the characters from `start` up to `end`, if they lie in one leaf that may do without
+/// them: it has others, no LF comes first in it that didn't, and no CR last. So no CR LF comes to
+/// lie in two leaves. Returns whether it did. Shared nodes on the way are copied; where there are
+/// none, it takes no memory.
 pub fn remove_at(maker: &mut Maker, root: &mut Node, start: usize, end: usize) -> Made<bool>
     requires ordered { start < end }
     requires within { end ≤ length (text root.old) }

@@ -4,8 +4,8 @@ use Rattle.std.proofs.lemmas.Result.{IfOk-weaker}
 use Rattle.rope_text.specs.Text.{byte_len}
 use Rattle.rope_tree.specs.Tree.{text, leaf_tree}
 use Rattle.rope_join.proofs.Seams.{Meets, meets, pair_first, pair_second, pair_joined, chars_crlf}
-use Rattle.rope_join.proofs.edit.join_parts.Goals.{After-meets, In_ok-pair}
-use Rattle.rope_join.proofs.edit.join_parts.Goals as goal
+use Rattle.rope_join.proofs.long_edits.join_parts.Goals.{After-meets, In_ok-pair}
+use Rattle.rope_join.proofs.long_edits.join_parts.Goals as goal
 
 -- where the CR and the LF meet
 meet : (c : After-meets) → c.meets.result ≡ true → Meets (text c.args.left.now) (text c.args.right.now) c.args.end c.args.start

@@ -12,8 +12,8 @@ use Rattle.rope_tree.proofs.Descents.{Descends, descends}
 use Rattle.rope_tree.proofs.TreeLaws.{low_tree}
 use Rattle.rope_join.proofs.Cuts.{CutsAt, cuts_at}
 use Rattle.rope_join.proofs.OneWay.{inserted_some, inserted_chars, end_within, before_inserted, behind_inserted, inserted_fits, around_inserted, can_put_inserted, put_inserted}
-use Rattle.rope_join.proofs.edit.+insert.Goals.{After-total_before, After-get}
-use Rattle.rope_join.proofs.edit.+insert.Goals as goal
+use Rattle.rope_join.proofs.long_edits.+insert.Goals.{After-total_before, After-get}
+use Rattle.rope_join.proofs.long_edits.+insert.Goals as goal
 
 down : (t : ℕ) (c : After-total_before t) → Descends (breaks_of c.in-Inner.children.now) Char c.args.at c.in-Inner.children.now c.place_of-place.result c.index-children-place.result c.total_before.result
 down t c =

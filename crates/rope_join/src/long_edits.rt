@@ -1,6 +1,6 @@
-//! Trees with a part taken out or put in, and put one behind the other. Where a CR and an LF would
-//! meet at a seam, the two become a leaf of their own between what stands before and what follows,
-//! so that no CR LF lies across two leaves.
+//! Edits that change more than one leaf: trees with a part removed or put in, and trees joined.
+//! Where a CR and an LF would meet at a seam, the two become a leaf of their own between what
+//! stands before and what follows, so that no CR LF lies in two leaves.
 ghost use Rattle.std.specs.Prelude.{◌≡◌, ◌+◌, ◌*◌, ◌/◌, ◌<◌, ◌≤◌, ◌^◌, ◌++◌, true, length, take, drop, max, IfOk, OnOk, OnErr};
 ghost use Rattle.std.specs.Str.{chars};
 ghost use Rattle.rope_text.specs.declared.TheConstants.{MIN_CUT_BYTES};
@@ -20,8 +20,8 @@ use rope_tree::{
     place_of, remove_at, total_before,
 };
 
-/// Whether a CR at the end of the first `end` characters of the one tree meets an LF behind the
-/// first `start` of the other.
+/// Whether a CR at the end of the first `end` characters of one tree meets an LF behind the first
+/// `start` of another.
 fn meets(left: &Node, end: usize, right: &Node, start: usize) -> bool
     requires tree { IsTree left.now }
     requires end { end ≤ length (text left.now) }
@@ -32,8 +32,8 @@ fn meets(left: &Node, end: usize, right: &Node, start: usize) -> bool
     end > 0 && char_at(left, end - 1, &mut Steps::new()) == '\r' && is_lf(right, start)
 }
 
-/// The first `end` characters of the one tree, and behind them what follows the first `start` of
-/// the other.
+/// The first `end` characters of one tree, and behind them what follows the first `start` of
+/// another.
 fn join_parts(maker: &mut Maker, left: &Node, end: usize, right: &Node, start: usize) -> Made<Node>
     requires tree { IsTree left.now }
     requires end { end ≤ length (text left.now) }
@@ -58,7 +58,7 @@ fn join_parts(maker: &mut Maker, left: &Node, end: usize, right: &Node, start: u
     join(maker, &ended, &second)
 }
 
-/// The text of the one tree and then that of the other.
+/// The text of one tree and then that of another.
 fn append(maker: &mut Maker, left: &Node, right: &Node) -> Made<Node>
     requires same_breaks { right.now.breaks ≡ left.now.breaks }
     requires fits { byte_len (text left.now) + byte_len (text right.now) < 2 ^ 63 }
@@ -71,9 +71,8 @@ fn append(maker: &mut Maker, left: &Node, right: &Node) -> Made<Node>
     join_parts(maker, left, left.info().chars, right, 0)
 }
 
-/// Puts the text of another tree behind that of a tree. A short one that is a leaf goes into the
-/// last leaf where that stands, as an insert does; for any other a tree of both takes the old one's
-/// place last of all.
+/// Appends the text of another tree. If that is a leaf, and short, its text is inserted into the
+/// last leaf, where that stands; else a tree of both takes the old one's place last of all.
 pub fn append_to(maker: &mut Maker, root: &mut Node, other: &Node) -> Made<()>
     requires same_breaks { other.now.breaks ≡ root.old.breaks }
     requires fits { byte_len (text root.old) + byte_len (text other.now) < 2 ^ 63 }
@@ -111,9 +110,9 @@ fn removed_from(maker: &mut Maker, root: &Node, start: usize, end: usize) -> Mad
     without(maker, root, start, end)
 }
 
-/// Takes the characters from `start` up to `end` out, at least one: where they lie in one leaf that
-/// may do without them, in that leaf alone, which isn't tried with more of them than a leaf has
-/// bytes; else by a tree without them. It takes the old one's place last of all.
+/// Removes the characters from `start` up to `end`, at least one: from one leaf, if they lie in one
+/// that may do without them; else by a tree without them, which takes the old one's place last of
+/// all. No leaf is tried with as many characters as a leaf has bytes.
 pub fn remove(maker: &mut Maker, root: &mut Node, start: usize, end: usize) -> Made<()>
     requires ordered { start < end }
     requires within { end ≤ length (text root.old) }
@@ -131,8 +130,8 @@ pub fn remove(maker: &mut Maker, root: &mut Node, start: usize, end: usize) -> M
 }
 
 /// The tree with a text of any length before its character `at`: it is split, and the text goes
-/// between as a tree of its own. What is made of the old tree are its parts, so it costs what the
-/// new text and the height do. An append makes at most 299 nodes, since no tree is higher than 18.
+/// between as a tree of its own. It makes nodes for the new text, and for each level of the old
+/// tree.
 fn insert_apart(maker: &mut Maker, node: &Node, at: usize, added: &str) -> Made<Node>
     requires within { at ≤ length (text node.now) }
     requires fits { byte_len (text node.now) + length added.now < 2 ^ 63 }
@@ -149,7 +148,8 @@ fn insert_apart(maker: &mut Maker, node: &Node, at: usize, added: &str) -> Made<
     append(maker, &first, &back)
 }
 
-/// A leaf with a text of any length before its character `at`, as a tree that is built anew.
+/// A leaf with a text of any length before its character `at`, as a tree that is built from the
+/// three parts.
 fn insert_into_leaf(
     maker: &mut Maker,
     node: &Node,
@@ -174,8 +174,8 @@ fn insert_into_leaf(
     builder.finish(maker)
 }
 
-/// What stands before the character `start` of a tree, then another tree, and then what stands from
-/// its character `end` on.
+/// What stands before the character `start` of a tree, then another tree, and then what follows
+/// from the character `end` on.
 fn join_around(maker: &mut Maker, node: &Node, start: usize, part: &Node, end: usize) -> Made<Node>
     requires start { start ≤ length (text node.now) }
     requires end { end ≤ length (text node.now) }
@@ -198,15 +198,14 @@ fn join_around(maker: &mut Maker, node: &Node, start: usize, part: &Node, end: u
     join(maker, &first, &back)
 }
 
-/// A longer text goes between two parts of the tree. So many bytes and a leaf's make a node over
-/// leaves at the most.
+/// A longer text goes between two parts of the tree. Up to this length it fills, with the leaf that
+/// it goes into, at most one list of leaves.
 const MAX_AMONG_BYTES: usize = 20 * MAX_BYTES;
 
 /// The tree with a text of any length before its character `at`. A text of some leaves is built
-/// into the leaf that holds the character, and the leaves that this gives are put in its place, on
-/// one way down; where they can't be, at the ends of a node or for a longer text, the tree is
-/// split. It costs what the new text and the height do: at most two nodes for each 981 bytes of the
-/// text, 298 for each level and 603 more.
+/// into the leaf that holds the character, and the leaves that this gives take its place, in one
+/// descent. A longer text, or one at the end of a node, is put between two parts of the split tree.
+/// It makes at most two nodes for each 981 bytes of the text, 298 for each level and 603 more.
 pub fn insert(maker: &mut Maker, node: &Node, at: usize, added: &str) -> Made<Node>
     requires within { at ≤ length (text node.now) }
     requires fits { byte_len (text node.now) + length added.now < 2 ^ 63 }

@@ -6,7 +6,7 @@ use Rattle.rope_text.proofs.Walks.{byte_len-chars}
 use Rattle.rope_tree.specs.Tree.{text}
 use Rattle.rope_tree.proofs.TreeLaws.{low_tree}
 use Rattle.rope_join.proofs.Cuts.{byte_len-parts}
-use Rattle.rope_join.proofs.edit.insert_apart.Goals as goal
+use Rattle.rope_join.proofs.long_edits.insert_apart.Goals as goal
 
 -- the parts and the new text together
 pub append-requires-clause-fits : goal.append-requires-clause-fits

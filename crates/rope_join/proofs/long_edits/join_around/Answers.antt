@@ -7,8 +7,8 @@ use Rattle.rope_tree.specs.Leaves.{IsSeam}
 use Rattle.rope_tree.specs.Tree.{text}
 use Rattle.rope_tree.proofs.InsertLaws.{seam_ends}
 use Rattle.rope_join.proofs.Seams.{can_join, join_text}
-use Rattle.rope_join.proofs.edit.join_around.Goals.{In_ok-first}
-use Rattle.rope_join.proofs.edit.join_around.Goals as goal
+use Rattle.rope_join.proofs.long_edits.join_around.Goals.{In_ok-first}
+use Rattle.rope_join.proofs.long_edits.join_around.Goals as goal
 
 first_text : (c : In_ok-first) → text c.in_ok-first.first ≡ take c.args.start (text c.args.node.now) ++ text c.args.part.now
 first_text c = join_text _ _ c.in_ok-first.first c.in_ok-first.ensures.join ∙ ap (λ z. z ++ text c.args.part.now) c.in_ok-front.ensures.front.text_is

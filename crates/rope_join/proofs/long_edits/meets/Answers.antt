@@ -3,8 +3,8 @@ use Rattle.rope_text.specs.Breaks.{ends_in_cr}
 use Rattle.rope_tree.specs.Tree.{text}
 use Rattle.rope_tree.proofs.TreeLaws.{low_tree}
 use Rattle.rope_join.proofs.Seams.{ends_at}
-use Rattle.rope_join.proofs.edit.meets.Goals.{then-end-gt0, else-end-gt0}
-use Rattle.rope_join.proofs.edit.meets.Goals as goal
+use Rattle.rope_join.proofs.long_edits.meets.Goals.{then-end-gt0, else-end-gt0}
+use Rattle.rope_join.proofs.long_edits.meets.Goals as goal
 
 apart : false ≡ true → ⊥
 apart e = cc

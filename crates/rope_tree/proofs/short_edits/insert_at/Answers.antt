@@ -5,8 +5,8 @@ use Rattle.rope_text.specs.Edit.{inserted}
 use Rattle.rope_tree.specs.Tree.{text}
 use Rattle.rope_tree.proofs.InsertRoots.{root_children, root_text, root_breaks, root_tree}
 use Rattle.rope_tree.proofs.InsertTrees.{byte_len-inserted}
-use Rattle.rope_tree.proofs.edit.insert_at.Goals.{In_ok-nodes}
-use Rattle.rope_tree.proofs.edit.insert_at.Goals as goal
+use Rattle.rope_tree.proofs.short_edits.insert_at.Goals.{In_ok-nodes}
+use Rattle.rope_tree.proofs.short_edits.insert_at.Goals as goal
 
 kept : (c : In_ok-nodes) → c.insert_parting.new.self ≡ c.args.root.now
 kept c = c.in_ok-insert_parting.ensures.tried.kept c.if-branch-2.false ∙ c.in_ok-insert_in_place.ensures.tried.kept c.if-branch.false
