@@ -6,19 +6,16 @@
 #![tactic(auto, using(crate::proofs::Blocks::begins_le, crate::proofs::Blocks::pairs_le, crate::proofs::Blocks::byte_break_count_le))]
 
 ghost use Rattle.std.specs.Prelude.{◌≡◌, ◌+◌, ◌<◌, ◌≤◌, length, count_by, drop, take, IsTrue};
-ghost use Rattle.rope_text.specs.Bytes.{begins_char, begins_pair};
+ghost use Rattle.rope_text.specs.Bytes.{begins_char};
 ghost use Rattle.rope_text.specs.ByteBreaks.{byte_break_count, char_width, IsUnitPlaceOf, breaks_at};
 ghost use Rattle.rope_text.specs.Marks.{IsPlaceOf, IsPassed};
 ghost use Rattle.std.specs.Str.{chars};
-ghost use Rattle.rope_text.specs.Breaks.{break_count};
 ghost use Rattle.rope_text.specs.Conversions.{line_to_byte, line_to_char};
-ghost use Rattle.rope_text.specs.Lines.{line_start};
-ghost use Rattle.rope_text.specs.TextInfo.{info_of};
 ghost use Rattle.rope_text.specs.Scan.{IsFront};
 
 use crate::bits::{first_mark, ones_before, ones_between, place_of_mark};
 use crate::lanes::{Mark, ahead, is_mark, known_mask, marks_between, marks_in, mask, masks_of};
-use crate::{LineBreaks, TextInfo, known_set};
+use crate::{LineBreaks, known_set};
 
 // The byte with which the mark `n` begins, counted from the byte `from` on, byte by byte.
 fn find(bytes: &[u8], from: usize, n: usize, mark: Mark) -> usize
@@ -162,27 +159,31 @@ pub(crate) fn line_of_char(bytes: &[u8], n: usize, breaks: LineBreaks) -> (usize
     (to, break_count + more)
 }
 
-// The whole blocks before the break `n`: which break it is from their end on, and what they count but for breaks.
-fn skip_known(bytes: &[u8], n: usize, breaks: LineBreaks) -> (usize, TextInfo)
-    ensures passed { IsPassed (Mark.Break breaks) bytes.now n result.1.bytes result.0 }
+/// The whole blocks before some break: their end and their characters, and which break it is from there on.
+#[derive(Clone, Copy)]
+struct Blocks {
+    end: usize,
+    chars: usize,
+    left: usize,
+}
+
+// The whole blocks before the break `n`.
+fn skip_known(bytes: &[u8], n: usize, breaks: LineBreaks) -> Blocks
+    ensures passed { IsPassed (Mark.Break breaks) bytes.now n result.end result.left }
     ensures chars { count_by begins_char bytes.now
-        ≡ result.1.chars + count_by begins_char (drop result.1.bytes bytes.now) }
-    ensures pairs { count_by begins_pair bytes.now
-        ≡ result.1.utf16_surrogates + count_by begins_pair (drop result.1.bytes bytes.now) }
+        ≡ result.chars + count_by begins_char (drop result.end bytes.now) }
 {
-    let (mut left, mut counts) = (n, TextInfo::new());
-    while bytes.len() - counts.bytes >= 34 {
-        let at = counts.bytes;
-        let passed = marks_in(bytes, at, Mark::Break(breaks));
+    let (mut end, mut chars, mut left) = (0, 0, n);
+    while bytes.len() - end >= 34 {
+        let passed = marks_in(bytes, end, Mark::Break(breaks));
         if left < passed {
-            return (left, counts);
+            return Blocks { end, chars, left };
         }
         left -= passed;
-        counts.chars += marks_in(bytes, at, Mark::Char);
-        counts.utf16_surrogates += marks_in(bytes, at, Mark::Pair);
-        counts.bytes += 32;
+        chars += marks_in(bytes, end, Mark::Char);
+        end += 32;
     }
-    (left, counts)
+    Blocks { end, chars, left }
 }
 
 /// The byte with which the break `n` begins, where it is known how many breaks there are: from the
@@ -194,8 +195,8 @@ pub(crate) fn find_break(bytes: &[u8], n: usize, break_count: usize, breaks: Lin
     ensures { IsPlaceOf (Mark.Break breaks) bytes.now 0 n result }
 {
     let (from, left) = if n < break_count / 2 {
-        let (left, counts) = skip_known(bytes, n, breaks);
-        (counts.bytes, left)
+        let blocks = skip_known(bytes, n, breaks);
+        (blocks.end, blocks.left)
     } else {
         skip_breaks_back(bytes, n, break_count, breaks)
     };
@@ -214,32 +215,24 @@ pub(crate) fn width_of(byte: u8) -> usize
     }
 }
 
-/// What the text before the line `line_idx` counts, or all of it where no line has that number. Inlined, so that what a caller makes
-/// no use of isn't counted.
+/// The bytes and the characters before the line `line_idx`, or all of them where no line has that number. Inlined, so that what a
+/// caller makes no use of isn't counted.
 #[inline(always)]
-pub(crate) fn front_of_line(text: &str, line_idx: usize, breaks: LineBreaks) -> TextInfo
-    ensures bytes { result.bytes ≡ line_to_byte breaks (chars text.now) line_idx }
-    ensures chars { result.chars ≡ line_to_char breaks (chars text.now) line_idx }
-    ensures counts { 0 < line_idx → line_idx ≤ break_count breaks (chars text.now)
-        → result
-        ≡ info_of breaks (take (line_start breaks (chars text.now) line_idx) (chars text.now)) }
+pub(crate) fn front_of_line(text: &str, line_idx: usize, breaks: LineBreaks) -> (usize, usize)
+    ensures bytes { result.0 ≡ line_to_byte breaks (chars text.now) line_idx }
+    ensures chars { result.1 ≡ line_to_char breaks (chars text.now) line_idx }
 {
     if line_idx == 0 {
-        return TextInfo::new();
+        return (0, 0);
     }
     let bytes = text.as_bytes();
-    let (left, mut counts) = known_set!(breaks => skip_known(bytes, line_idx - 1, breaks));
-    let from = counts.bytes;
-    let to = find_from(bytes, from, left, Mark::Break(breaks));
-    counts.chars += marks_between(bytes, from, to, Mark::Char);
-    counts.utf16_surrogates += marks_between(bytes, from, to, Mark::Pair);
-    counts.bytes = to;
-    counts.break_count = line_idx;
+    let blocks = known_set!(breaks => skip_known(bytes, line_idx - 1, breaks));
+    let to = find_from(bytes, blocks.end, blocks.left, Mark::Break(breaks));
+    let chars = blocks.chars + marks_between(bytes, blocks.end, to, Mark::Char);
     if to < bytes.len() {
-        counts.bytes += width_of(bytes[to]);
-        counts.chars += 1;
+        return (to + width_of(bytes[to]), chars + 1);
     }
-    counts
+    (to, chars)
 }
 
 /// The bytes before a place, with no line break among them, and what they count.
