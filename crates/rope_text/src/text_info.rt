@@ -119,12 +119,7 @@ impl TextInfo {
     /// The counts of the text before the line `line_idx`, which is not the first, by the line breaks of the set, of a text whose
     /// counts are known. Reads the side of that line that has fewer line breaks, and counts no characters where there are as many of
     /// them as bytes; takes no memory.
-    pub fn before_line(
-        text: &str,
-        info: TextInfo,
-        line_idx: usize,
-        breaks: LineBreaks,
-    ) -> TextInfo
+    pub fn before_line(text: &str, info: TextInfo, line_idx: usize, breaks: LineBreaks) -> TextInfo
         requires later { 0 < line_idx }
         requires within { line_idx ≤ break_count breaks (chars text.now) }
         requires info { info ≡ info_of breaks (chars text.now) }

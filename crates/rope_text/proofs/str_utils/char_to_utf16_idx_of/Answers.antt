@@ -24,10 +24,11 @@ front c =
     let size : before ≡ min c.args.char_idx (length text) = c.min-before.ensures ∙ ap (min c.args.char_idx) c.requires.chars in
     let same : take before text ≡ take c.args.char_idx text = ap (λ n. take n text) size ∙ take_min c.args.char_idx text in
     let place = c.char_to_byte_idx_of-place.ensures.value in
-    let back : byte_to_char text c.char_to_byte_idx_of-place.result ≡ before = ap (byte_to_char text) place ∙ byte_to_char-char_to_byte text before (omega (arith, size)) in
-    (c.byte_to_surrogates_of.ensures ∙ ap (λ n. surrogate_count (take n text)) back ∙ ap surrogate_count same,
+    let back : byte_to_char text c.char_to_byte_idx_of-place.result ≡ before = ap (byte_to_char text) place ∙ byte_to_char-char_to_byte text before (omega (arith, size)) in (
+      c.byte_to_surrogates_of.ensures ∙ ap (λ n. surrogate_count (take n text)) back ∙ ap surrogate_count same,
       place ∙ ap byte_len same,
-      size ∙ sym (length-take c.args.char_idx text))
+      size ∙ sym (length-take c.args.char_idx text),
+    )
 
 pub overflow_add-result : goal.overflow_add-result
 overflow_add-result c =
