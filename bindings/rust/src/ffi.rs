@@ -620,7 +620,7 @@ impl<'a> Window<'a> {
     /// The same lines from one on, but not many, for a cursor that may soon be dropped.
     pub(crate) fn few(&self, line_idx: usize) -> Window<'a> {
         let list = self.list.iter().skip(self.place(line_idx)).take(2).copied().collect();
-        Window { list, first: line_idx, ..*self }
+        Window { list, first: line_idx, room: 1, ..*self }
     }
 
     #[inline(never)]
