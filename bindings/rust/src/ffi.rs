@@ -581,8 +581,8 @@ impl Drop for Window<'_> {
 
 impl<'a> Window<'a> {
     #[inline]
-    pub(crate) fn new(before: Option<Counts>, is_whole: bool) -> Window<'a> {
-        let room = if is_whole { LINES } else { 1 };
+    pub(crate) fn new(before: Option<Counts>, are_many: bool) -> Window<'a> {
+        let room = if are_many { LINES } else { 1 };
         Window { list: Vec::new(), first: 0, is_back: false, room, before, text: PhantomData }
     }
 
@@ -620,7 +620,7 @@ impl<'a> Window<'a> {
     /// The same lines from one on, but not many, for a cursor that may soon be dropped.
     pub(crate) fn few(&self, line_idx: usize) -> Window<'a> {
         let list = self.list.iter().skip(self.place(line_idx)).take(2).copied().collect();
-        Window { list, first: line_idx, ..*self }
+        Window { list, first: line_idx, room: 1, ..*self }
     }
 
     #[inline(never)]
@@ -647,7 +647,7 @@ impl<'a> Window<'a> {
     }
 }
 
-/// How many lines are fetched at once: as many as a screen has. In a slice it is one at first.
+/// How many lines are fetched at once: as many as a screen has. In the midst of a slice it is one at first.
 const LINES: usize = 50;
 
 /// Conversions in a text, by the set of line breaks where it is given. An index past the end stands for the end.

@@ -3,7 +3,7 @@
 //! A cursor stands between two items, or at an end of the text. `next` passes the item ahead of it, and `prev` the one
 //! behind it, so that either takes back what the other did; at an end both answer none, and may be called again. Turned
 //! round by `reverse`, a cursor goes back on `next`, from where it stands. It fetches chunks or lines some at a time, for
-//! which it takes at most 6 KB of memory.
+//! which it takes at most 6 KB of memory. Of that a thread keeps 2.4 KB for its next cursor over lines.
 //!
 //! ```
 //! use ropey::Rope;
