@@ -58,8 +58,8 @@ pub(crate) fn stands(children: &[Node], first: usize, past: usize, part: &Node) 
     requires ordered { first < past }
     requires some_behind { past < length children.now }
     requires some { 1 ≤ length part.now.leaves }
-    ensures near { result ≡ true
-        → IsDenseBehind (last_bytes MIN_TWO_LEAVES_BYTES (leaves_before children.now first)) part.now.leaves }
+    ensures near { result ≡ true → IsDenseBehind
+        (last_bytes MIN_TWO_LEAVES_BYTES (leaves_before children.now first)) part.now.leaves }
     ensures next { result ≡ true → IsDenseBehind (last_bytes MIN_TWO_LEAVES_BYTES part.now.leaves)
         (leaves_of (drop past children.now)) }
 {
