@@ -1,6 +1,7 @@
 -- The first leaf and the last of a tree's leaves, and two sides joined.
-use Rattle.std.proofs.Common.{◌≡◌, ℕ, ◌+◌, ◌<◌, ◌≤◌, List, [], ◌∷◌, ◌++◌, length, take, drop, get_or, sym, ap, ap₂, subst, ◌∙◌, arith}
+use Rattle.std.proofs.Common.{◌≡◌, ℕ, ◌+◌, ◌<◌, ◌≤◌, inl, inr, List, [], ◌∷◌, ◌++◌, length, take, drop, get_or, sym, ap, ap₂, subst, ◌∙◌, arith}
 use Rattle.std.specs.List.{concat, All}
+use Rattle.std.proofs.lemmas.Bool.{cases_lt}
 use Rattle.std.proofs.lemmas.List.{length-append, take-append-drop, length-take-le, length-drop}
 use Rattle.std.proofs.lemmas.List.Elements.{All-head, All-tail}
 use Rattle.rope_text.proofs.CuttingLaws.{concat-append}
@@ -35,6 +36,16 @@ first_some (l ∷ ls) some each = (All-head IsLeafText l ls each).some
 last_some : (n : ℕ) (ls : List (List ℕ)) → 1 ≤ n → All IsLeafText ls → 1 ≤ last_chars n ls
 last_some n [] some each = some
 last_some n (l ∷ ls) some each = last_some (length l) ls (All-head IsLeafText l ls each).some (All-tail IsLeafText l ls each)
+
+lone_first : (ls : List (List ℕ)) → 1 ≤ length ls → length ls ≤ 1 → first_chars ls ≡ length (concat ls)
+lone_first [] some one = absurd (omega arith)
+lone_first (l ∷ []) some one = omega (arith, length-append l [])
+lone_first (l ∷ m ∷ ls) some one = absurd (omega arith)
+
+lone_last : (ls : List (List ℕ)) → 1 ≤ length ls → length ls ≤ 1 → last_chars 0 ls ≡ length (concat ls)
+lone_last [] some one = absurd (omega arith)
+lone_last (l ∷ []) some one = omega (arith, length-append l [])
+lone_last (l ∷ m ∷ ls) some one = absurd (omega arith)
 
 -- the leaves below the first children and those behind them
 module _ (n : Tree) (ts : List Tree) (k at : ℕ) (is : n ≡ tree_over ts) (a : AreChildren (breaks_of ts) (height_of ts) ts) where
@@ -73,15 +84,41 @@ module _ (n : Tree) (ts : List Tree) (k at : ℕ) (is : n ≡ tree_over ts) (a :
       let first = ap (λ u. first_chars u.leaves) is ∙ ap first_chars whole ∙ first_chars-append t.leaves (leaves_of (drop 1 ts)) own.some in
       record { some = omega (arith, s.some, first); past = omega (arith, s.past, first) }
 
-  pub last_child_spares : (t : Tree) (i : ℕ) → k + 1 ≡ length ts → get_or ts k t ≡ t → at ≡ length (concat (leaves_of (take k ts))) + i → SparesLast i t → SparesLast at n
-  last_child_spares t i e here place s =
+  pub first_child_cuts : (t : Tree) → get_or ts 0 t ≡ t → at < length (concat (leaves_of (take 1 ts))) → (1 ≤ t.height → at < first_chars t.leaves) → at < first_chars n.leaves
+  first_child_cuts t here inside deeper =
+      let some : 0 < length ts = omega (arith, a.at_least_two) in
+      let whole = subst (λ u. leaves_of ts ≡ u.leaves ++ leaves_of (drop 1 ts)) here (leaves_at ts 0 t some) in
+      let own = child_at (breaks_of ts) (height_of ts) ts 0 t a some here in
+      let first = ap (λ u. first_chars u.leaves) is ∙ ap first_chars whole ∙ first_chars-append t.leaves (leaves_of (drop 1 ts)) own.some in
+      let only : leaves_of (take 1 ts) ≡ t.leaves = ap leaves_of (take_more ts 0 t some ∙ ap (λ u. u ∷ []) here) ∙ append-nil t.leaves in
+      elim (cases_lt 0 t.height) [
+        | inl above ↦ omega (arith, first, deeper above)
+        | inr flat ↦ omega (arith, first, lone_first t.leaves own.some (own.tree.lone (omega (arith, flat))), inside, ap (λ ls. length (concat ls)) only)
+      ]
+
+  -- the last leaf is that of the last child
+  last_child : (t : Tree) → k + 1 ≡ length ts → get_or ts k t ≡ t → (last_chars 0 n.leaves ≡ last_chars 0 t.leaves) × (length (text n) ≡ length (concat (leaves_of (take k ts))) + length (text t))
+  last_child t e here =
       let whole = subst (λ u. leaves_of ts ≡ leaves_of (take k ts) ++ (u.leaves ++ leaves_of (drop (k + 1) ts))) here (leaves_at ts k t (omega (arith, e))) in
       let own = child_at (breaks_of ts) (height_of ts) ts k t a (omega (arith, e)) here in
       let none : drop (k + 1) ts ≡ [] = drop_all (k + 1) ts (omega (arith, e)) in
       let all : n.leaves ≡ leaves_of (take k ts) ++ t.leaves = ap (λ u. u.leaves) is ∙ whole ∙ ap (λ us. leaves_of (take k ts) ++ (t.leaves ++ leaves_of us)) none ∙ ap (λ ls. leaves_of (take k ts) ++ ls) (append-nil t.leaves) in
       let last = ap (last_chars 0) all ∙ last_chars-append 0 (leaves_of (take k ts)) t.leaves ∙ last_chars-some (last_chars 0 (leaves_of (take k ts))) 0 t.leaves own.some in
-      let sizes = ap (λ ls. length (concat ls)) all ∙ ap length (concat-append (leaves_of (take k ts)) t.leaves) ∙ length-append (concat (leaves_of (take k ts))) (text t) in
-      record { some = omega (arith, s.some, last); before = omega (arith, s.before, last, place, sizes) }
+      (last, ap (λ ls. length (concat ls)) all ∙ ap length (concat-append (leaves_of (take k ts)) t.leaves) ∙ length-append (concat (leaves_of (take k ts))) (text t))
+
+  pub last_child_spares : (t : Tree) (i : ℕ) → k + 1 ≡ length ts → get_or ts k t ≡ t → at ≡ length (concat (leaves_of (take k ts))) + i → SparesLast i t → SparesLast at n
+  last_child_spares t i e here place s =
+      let l = last_child t e here in
+      record { some = omega (arith, s.some, l.0); before = omega (arith, s.before, l.0, l.1, place) }
+
+  pub last_child_cuts : (t : Tree) (i : ℕ) → k + 1 ≡ length ts → get_or ts k t ≡ t → at ≡ length (concat (leaves_of (take k ts))) + i → 1 ≤ i → (1 ≤ t.height → length (text t) < i + last_chars 0 t.leaves) → length (text n) < at + last_chars 0 n.leaves
+  last_child_cuts t i e here place inside deeper =
+      let l = last_child t e here in
+      let own = child_at (breaks_of ts) (height_of ts) ts k t a (omega (arith, e)) here in
+      elim (cases_lt 0 t.height) [
+        | inl above ↦ omega (arith, l.0, l.1, place, deeper above)
+        | inr flat ↦ omega (arith, l.0, l.1, place, inside, lone_last t.leaves own.some (own.tree.lone (omega (arith, flat))))
+      ]
 
   -- the leaves next to where a tree is put
   pub near_child : (t part : Tree) (m : ℕ) → k < length ts → get_or ts k t ≡ t → ((j : ℕ) → m ≡ last_bytes j t.leaves) → IsDenseBehind m part.leaves → IsDenseBehind (last_bytes 492 (leaves_of (take (k + 1) ts))) part.leaves

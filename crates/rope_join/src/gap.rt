@@ -1,7 +1,7 @@
 //! Removals over several leaves, in one descent to the node where the two ends of what goes lie in
 //! different children. There both ends are cut, and on the way back each list is made once, with
 //! what is left of the children that were cut.
-ghost use Rattle.std.specs.Prelude.{◌≡◌, ◌+◌, ◌*◌, ◌<◌, ◌≤◌, ◌^◌, true, length, take, drop, max, IfOk};
+ghost use Rattle.std.specs.Prelude.{◌≡◌, ◌+◌, ◌*◌, ◌<◌, ◌≤◌, ◌^◌, true, false, length, take, drop, max, IfOk};
 ghost use Rattle.rope_text.specs.declared.TheConstants.{MIN_TWO_LEAVES_BYTES};
 ghost use Rattle.rope_text.specs.Dense.{IsDenseBehind, last_bytes};
 ghost use Rattle.rope_text.specs.Text.{byte_len};
@@ -9,7 +9,7 @@ ghost use Rattle.rope_tree.specs.Leaves.{IsSeam};
 ghost use Rattle.rope_tree.specs.Siblings.{gathered};
 ghost use Rattle.rope_tree.specs.Totals.{HasTotals};
 ghost use Rattle.rope_tree.specs.Tree.{text, leaves_of, height_of, breaks_of, IsTree, AreFamily};
-ghost use Rattle.rope_join.specs.Cut.{SparesFirst, SparesLast, IsSides};
+ghost use Rattle.rope_join.specs.Cut.{first_chars, last_chars, SparesFirst, SparesLast, IsSides};
 ghost use Rattle.rope_join.specs.Put.{CanPut, CanPutAtEnd, IsPut, IsPutAtEnd, leaves_before};
 
 use crate::cut::{back, front};
@@ -26,7 +26,8 @@ const MAX_ONE_WAY: usize = 6;
 
 /// Whether a cut before a character leaves the first leaf whole, and the tree has others.
 fn spares_first(node: &Node, at: usize) -> bool
-    ensures { result ≡ true → SparesFirst at node.now }
+    ensures spares { result ≡ true → SparesFirst at node.now }
+    ensures cuts { result ≡ false → 1 ≤ node.now.height → at < first_chars node.now.leaves }
 {
     match node.view() {
         View::Leaf(_) => false,
@@ -38,7 +39,9 @@ fn spares_first(node: &Node, at: usize) -> bool
 
 /// Whether a cut before a character leaves the last leaf whole, and the tree has others.
 fn spares_last(node: &Node, at: usize) -> bool
-    ensures { result ≡ true → SparesLast at node.now }
+    ensures spares { result ≡ true → SparesLast at node.now }
+    ensures cuts { result ≡ false → 1 ≤ node.now.height
+        → length (text node.now) < at + last_chars 0 node.now.leaves }
 {
     match node.view() {
         View::Leaf(_) => false,
@@ -58,8 +61,8 @@ pub(crate) fn stands(children: &[Node], first: usize, past: usize, part: &Node) 
     requires ordered { first < past }
     requires some_behind { past < length children.now }
     requires some { 1 ≤ length part.now.leaves }
-    ensures near { result ≡ true
-        → IsDenseBehind (last_bytes MIN_TWO_LEAVES_BYTES (leaves_before children.now first)) part.now.leaves }
+    ensures near { result ≡ true → IsDenseBehind
+        (last_bytes MIN_TWO_LEAVES_BYTES (leaves_before children.now first)) part.now.leaves }
     ensures next { result ≡ true → IsDenseBehind (last_bytes MIN_TWO_LEAVES_BYTES part.now.leaves)
         (leaves_of (drop past children.now)) }
 {

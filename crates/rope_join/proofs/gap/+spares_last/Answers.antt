@@ -1,7 +1,7 @@
 use Rattle.std.proofs.Common.{◌≡◌, ℕ, ◌+◌, ◌-◌, ◌<◌, take, length, sym, ap, ◌∙◌, arith}
 use Rattle.std.specs.List.{concat}
 use Rattle.rope_tree.specs.Tree.{leaves_of}
-use Rattle.rope_join.proofs.Gaps.{spares_last_at, last_child_spares}
+use Rattle.rope_join.proofs.Gaps.{spares_last_at, last_child_spares, last_child_cuts}
 use Rattle.rope_join.proofs.gap.+spares_last.Goals.{After-total_before-before}
 use Rattle.rope_join.proofs.gap.+spares_last.Goals as goal
 
@@ -17,15 +17,22 @@ before t c =
     let more : k - 1 + 1 ≡ k = omega (arith, some) in
     total ∙ right ∙ ap (λ n. length (concat (leaves_of (take n ts)))) more
 
-pub returns-then-at-before : goal.returns-then-at-before
-returns-then-at-before t c e =
+pub returns-then-at-before-clause-spares : goal.returns-then-at-before-clause-spares
+returns-then-at-before-clause-spares t c e =
     let ts = c.in-Inner.children.now in
     let i = c.in-Inner.ensures in
-    spares_last_at c.args.node.now ts (length ts - 1) c.args.at i.is i.children (omega (arith, i.children.at_least_two)) (omega (arith, c.if-at-before.true, before t (goal.at.returns-then-at-before t c).After-total_before-before))
+    spares_last_at c.args.node.now ts (length ts - 1) c.args.at i.is i.children (omega (arith, i.children.at_least_two)) (omega (arith, c.if-at-before.true, before t (goal.at.returns-then-at-before-clause-spares t c).After-total_before-before))
 
-pub returns-else-at-before : goal.returns-else-at-before
-returns-else-at-before t c e =
+pub returns-else-at-before-clause-spares : goal.returns-else-at-before-clause-spares
+returns-else-at-before-clause-spares t c e =
     let ts = c.in-Inner.children.now in
     let i = c.in-Inner.ensures in
     last_child_spares c.args.node.now ts (length ts - 1) c.args.at i.is i.children c.index-children-last.result (c.args.at - c.total_before-before.result.chars) (omega (arith, i.children.at_least_two)) (sym c.index-children-last.is)
-    (omega (arith, c.if-at-before.false, before t (goal.at.returns-else-at-before t c).After-total_before-before)) (c.spares_last.ensures e)
+    (omega (arith, c.if-at-before.false, before t (goal.at.returns-else-at-before-clause-spares t c).After-total_before-before)) (c.spares_last.ensures.spares e)
+
+pub returns-else-at-before-clause-cuts : goal.returns-else-at-before-clause-cuts
+returns-else-at-before-clause-cuts t c fails above =
+    let ts = c.in-Inner.children.now in
+    let i = c.in-Inner.ensures in
+    last_child_cuts c.args.node.now ts (length ts - 1) c.args.at i.is i.children c.index-children-last.result (c.args.at - c.total_before-before.result.chars) (omega (arith, i.children.at_least_two)) (sym c.index-children-last.is)
+    (omega (arith, c.if-at-before.false, before t (goal.at.returns-else-at-before-clause-cuts t c).After-total_before-before)) (omega (arith, c.if-at-before.false)) (c.spares_last.ensures.cuts fails)

@@ -159,8 +159,8 @@ pub put-requires-then-spares_last-clause-put : goal.put-requires-then-spares_las
 put-requires-then-spares_last-clause-put t c =
     let e = (goal.at.put-requires-then-spares_last-clause-put t c).After-total_before-2 in
     let is = part_is t (goal.at.put-requires-then-spares_last-clause-put t c).Joined-first-last in
-    let first = c.spares_first.ensures c.if-spares_first.true in
-    let last = c.spares_last.ensures c.if-spares_last.true in
+    let first = c.spares_first.ensures.spares c.if-spares_first.true in
+    let last = c.spares_last.ensures.spares c.if-spares_last.true in
     can_put c.args.node.now c.in-Inner.children.now c.place_of-first.result c.place_of-last.result (c.args.start - c.total_before.result.chars) (c.args.end - c.total_before-2.result.chars) c.args.start c.args.end c.index-children-first.result c.index-children-last.result
     (first_cut t e) (last_cut t e) (at_start t e) (at_end t e) (in_first t e) (in_last t e) (omega (arith, c.requires.ordered)) (whole t e) c.if-first-last.part c.in-Inner.ensures.children c.in-Inner.ensures.is is.0 c.requires.seam
     (next_by c.args.node.now c.in-Inner.children.now c.place_of-first.result c.place_of-last.result (c.args.start - c.total_before.result.chars) (c.args.end - c.total_before-2.result.chars) c.args.start c.args.end c.index-children-first.result c.index-children-last.result
