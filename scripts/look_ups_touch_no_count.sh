@@ -15,7 +15,7 @@ set -euo pipefail
 cd "$(dirname "$0")/.."
 through=(
     crates/rope_tree/src/lookup.rt crates/rope_tree/src/conversions.rt crates/rope_tree/src/search.rt crates/rope_tree/src/search
-    crates/rope_part/src crates/rope_cursor/src crates/rope_compare/src crates/rope_slice/src crates/rope_position/src
+    crates/rope_slice/src crates/rope_position/src
     crates/ropey/src/lookups.rt crates/ropey/src/slices.rt crates/ropey/src/iter.rt crates/ropey/src/compare.rt
     crates/ropey_c/src/chunks.rt crates/ropey_c/src/compare.rt crates/ropey_c/src/conversions.rt crates/ropey_c/src/copies.rt
     crates/ropey_c/src/counts.rt crates/ropey_c/src/lengths.rt crates/ropey_c/src/lent.rt crates/ropey_c/src/lookups.rt

@@ -2,13 +2,12 @@
 ghost use Rattle.std.specs.Prelude.{◌≡◌, ◌↔◌, true, false, OnOk, OnErr, IsErr, None};
 ghost use Rattle.std.specs.Io.KnownBytes.{Appends};
 ghost use Rattle.std.specs.Str.{encode_utf8_all};
-ghost use Rattle.rope_part.specs.Part.{text_of};
+ghost use Rattle.rope_slice.specs.Slice.{text_of};
 ghost use Rattle.rope_io.specs.Failing.{failure_of, IsCounted};
 ghost use Rattle.rope_io.specs.Writing.{AppendsFront};
 
 use crate::device::Sink;
-use rope_cursor::all_chunks;
-use rope_part::Part;
+use rope_slice::RopeSlice;
 use std::io::{self, ErrorKind};
 
 // Writes all the bytes, in as many writes as it takes.
@@ -39,17 +38,17 @@ fn write_bytes<S: Sink>(sink: &mut S, bytes: &[u8]) -> io::Result<()>
 ///
 /// An error of the sink is answered at once, an interrupted write's too, and a write that takes none of the bytes that are
 /// left is an error of the kind `WriteZero`. Then a beginning of the text has been written, and the sink is not called again.
-pub fn write_part<S: Sink>(part: &Part<'_>, sink: &mut S) -> io::Result<()>
+pub fn write_slice<S: Sink>(slice: &RopeSlice<'_>, sink: &mut S) -> io::Result<()>
     ensures ok { OnOk result
-        (Appends (S.contents sink.old) (S.contents sink.new) (encode_utf8_all (text_of part.now))) }
+        (Appends (S.contents sink.old) (S.contents sink.new) (encode_utf8_all (text_of slice.now))) }
     ensures front { AppendsFront (S.contents sink.old) (S.contents sink.new)
-        (encode_utf8_all (text_of part.now)) }
+        (encode_utf8_all (text_of slice.now)) }
     ensures failed { IsErr result ↔ (S.marked sink.new ≡ true) }
     ensures failure { IsCounted (failure_of result) (S.failure sink.new)
         (S.failures sink.old) (S.failures sink.new) }
 {
     sink.clear();
-    for chunk in all_chunks(part) {
+    for chunk in slice.chunks() {
         write_bytes(sink, chunk.as_bytes())?;
     }
     Ok(())

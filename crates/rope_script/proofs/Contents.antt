@@ -9,7 +9,7 @@ use Rattle.rope_text.specs.Content.{Content}
 use Rattle.rope_text.specs.Content as of_content_specs
 use Rattle.rope_text.specs.Cutting.{IsChunkSize}
 use Rattle.rope_text.specs.Text.{byte_len}
-use Rattle.rope_part.proofs.Clips.{whole_part, whole_clip}
+use Rattle.rope_slice.proofs.Clips.{whole_part, whole_clip}
 use Rattle.rope_slice.specs.Sliced.{IsSlice}
 use Rattle.rope_text.specs.Edit.{IsRefusal, char_index_error, append_error}
 use Rattle.ropey.specs.View.{RopeView, IsRope, HasFewChunks, content}

@@ -12,7 +12,7 @@ use Rattle.rope_text.specs.Lines.{line, line_count}
 use Rattle.rope_text.specs.Lookup.{FoundChunk, found_chunk, chunk_index_at_byte, chunk_index_at_char, chunk_index_at_line_break, chunk_place_at_byte, chunk_place_at_char, chunk_place_at_line_break}
 use Rattle.rope_text.specs.Position.{char_to_column, position_to_char, position_error}
 use Rattle.rope_text.specs.Text.{byte_len, utf16_len}
-use Rattle.rope_part.specs.Found.{IsFoundChunk}
+use Rattle.rope_slice.specs.Found.{IsFoundChunk}
 use Rattle.rope_script.specs.declared.script.Conv.{Conv}
 use Rattle.rope_script.specs.declared.script.Conv.TheVariants.{ByteToChar, ByteToLine, CharToByte, CharToLine, CharToUtf16, Utf16ToChar, LineToByte, LineToChar}
 use Rattle.rope_script.specs.declared.script.At.{At}

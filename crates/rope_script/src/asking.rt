@@ -10,7 +10,7 @@ ghost use Rattle.rope_text.specs.Lines.{line_count};
 ghost use Rattle.rope_text.specs.Lookup.{found_chunk};
 ghost use Rattle.rope_text.specs.Position.{char_to_column, position_error, position_to_char};
 ghost use Rattle.rope_text.specs.Text.{byte_len, utf16_len};
-ghost use Rattle.rope_part.specs.Found.{IsFoundChunk};
+ghost use Rattle.rope_slice.specs.Found.{IsFoundChunk};
 ghost use Rattle.rope_text.specs.Answer.{checked};
 ghost use Rattle.rope_slice.specs.Slice.{content_of, text_of, breaks_of, chunks_of};
 ghost use Rattle.ropey.specs.View.{content};

@@ -6,12 +6,15 @@ use Rattle.rope_text.specs.Cutting.{single_chunk}
 use Rattle.std.specs.Hash.{HashWrites}
 use Rattle.std.specs.Str.{encode_utf8_all}
 use Rattle.rope_text.specs.Compare.{hash_writes}
-use Rattle.rope_part.specs.Part as of_part
 use Rattle.rope_slice.specs.declared.slice.RopeSlice.{RopeSlice}
+use Rattle.rope_slice.specs.declared.slice.RopeSlice.TheVariants.{InTree, Alone}
+use Rattle.rope_slice.specs.Excerpt as of_excerpt
+use Rattle.rope_slice.specs.Plain as of_plain
 
--- its text, its chunks and its set of line breaks
+-- its text, its chunks and its set of line breaks: the text and the leaves of a tree, clipped; a plain text as one chunk, or none
 abbrev pub content_of : RopeSlice → Content
-content_of slice = of_part.content_of slice.part
+content_of (InTree excerpt) = of_excerpt.content_of excerpt
+content_of (Alone plain) = of_plain.content_of plain
 
 -- what a plain text with these line breaks shows: itself, as one chunk or none
 abbrev pub plain_content : LineBreaks → List ℕ → Content

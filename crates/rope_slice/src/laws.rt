@@ -1,9 +1,13 @@
-//! Laws: what equality, order and hash of slices say of their texts.
-ghost use Rattle.std.specs.Prelude.{◌≡◌, IsTrue, ◌↔◌};
+//! Laws: what equality, order and hash of slices say of their texts; each cursor steps as one in the list of its items.
+ghost use Rattle.std.specs.Prelude.{◌≡◌, IsTrue, ◌↔◌, ℕ, List};
 ghost use Rattle.std.specs.Cmp.{IsTotalOrder};
 ghost use Rattle.std.specs.declared.cmp.Ordering.TheVariants.{Equal};
 ghost use Rattle.rope_slice.specs.declared.slice.RopeSlice.{RopeSlice};
-ghost use Rattle.rope_slice.specs.Slice.{text_of};
+ghost use Rattle.rope_slice.specs.Slice.{content_of, text_of};
+ghost use Rattle.std.specs.Borrow.{Bor};
+ghost use Rattle.std.specs.Str.{chars};
+ghost use Rattle.rope_text.specs.Content.{Content};
+ghost use Rattle.rope_text.specs.Laws.{StepsUndo, StepsAreCursors, StartsCount};
 
 use crate::slice::RopeSlice;
 use std::hash::Hash;
@@ -19,4 +23,19 @@ pub fn texts_are_compared()
         ↔ IsTrue (⟦<RopeSlice<'static> as PartialEq>⟧.eq a b)) }
     ensures hash { (a b : RopeSlice) → IsTrue (⟦<RopeSlice<'static> as PartialEq>⟧.eq a b) →
         ⟦<RopeSlice<'static> as Hash>⟧.hash_input a ≡ ⟦<RopeSlice<'static> as Hash>⟧.hash_input b }
+{}
+
+/// It does nothing; its contract is the law, of `Bytes` and `Chars` in the lists of the slice's bytes and characters, of `Chunks` in
+/// that of its chunks, by the text of each, and of `Lines` in that of its lines, by what each shows: a step back undoes a step, the
+/// two sides are a cursor, and what is ahead is as many items as are left.
+pub fn steps_are_of_cursors()
+    ensures undo { StepsUndo ℕ }
+    ensures steps { StepsAreCursors (λ (x : ℕ). x) }
+    ensures starts { StartsCount ℕ }
+    ensures chunks_undo { StepsUndo (List ℕ) }
+    ensures chunks_step { StepsAreCursors (λ (x : Bor (List ℕ)). chars x.now) }
+    ensures chunks_start { StartsCount (List ℕ) }
+    ensures lines_undo { StepsUndo Content }
+    ensures lines_step { StepsAreCursors (λ (x : RopeSlice). content_of x) }
+    ensures lines_start { StartsCount Content }
 {}

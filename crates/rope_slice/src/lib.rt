@@ -7,20 +7,42 @@
 //!     let slice = RopeSlice::from("one\ntwo");
 //!     let second = slice.line(1);  // "two"
 //!
+//! A cursor stands between two items. Over the characters of the slice `1..3` of `"abcd"`, `chars()` gives `b`,
+//! then `c`, then none.
+//!
 //! Modules, lowest first:
-//! - `slice`: slices, their lengths, slices of slices
-//! - `lookups`: bytes, characters, chunks and conversions
-//! - `cursors`: lines by number, and cursors
-//! - `text`: comparing, copying, display
-//! - `laws`: equality, order and hash
+//! - `plain`, `excerpt`: a plain text; one character or more of a tree's text
+//! - `slice`: either of them, its lengths, and slices of it
+//! - `lookups`: bytes, characters and chunks by their index, and conversions
+//! - `path`, `span`, `point`: a leaf of a tree, a chunk of a slice, and a step over one character of it
+//! - `bytes`, `chars`, `chunks`, `lines`: the four cursors, and lines by their number
+//! - `pieces`: the bytes of a slice, forward only
+//! - `order`, `hashing`, `text_out`: texts compared, hashed, copied and shown
+//! - `laws`: equality, order and hash; each cursor steps through the list of its items
 #![tactic(auto)]
 
-mod cursors;
+mod bytes;
+mod chars;
+mod chunks;
+mod excerpt;
+mod hashing;
 pub mod laws;
+mod lines;
 mod lookups;
+mod order;
+mod path;
+mod pieces;
+mod plain;
+mod point;
 mod slice;
-mod text;
+mod span;
+mod text_out;
 
-pub use cursors::{ChunksAt, Lines};
+pub use bytes::Bytes;
+pub use chars::Chars;
+pub use chunks::{Chunks, ChunksAt};
+pub use excerpt::Excerpt;
+pub use lines::Lines;
 pub use lookups::ChunkAt;
-pub use slice::{RopeSlice, part_of};
+pub use plain::Plain;
+pub use slice::RopeSlice;

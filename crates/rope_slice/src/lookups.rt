@@ -10,15 +10,17 @@ ghost use Rattle.rope_text.specs.Lines.{line_count};
 ghost use Rattle.rope_text.specs.Edit.{byte_index_error, char_index_error, line_index_error, utf16_index_error};
 ghost use Rattle.rope_text.specs.Lookup.{chunk_index_at_byte, chunk_index_at_char, chunk_index_at_line_break};
 ghost use Rattle.rope_slice.specs.Slice.{content_of, text_of, chunks_of, breaks_of};
-ghost use Rattle.rope_slice.specs.Found.{GivesWithin, ShowsChunk};
+ghost use Rattle.rope_slice.specs.Found.{GivesWithin, MayHold, ShowsChunk, chunk_index};
 ghost use Rattle.rope_text.specs.Conversions.{byte_to_char, byte_to_line, char_to_byte, char_to_line, char_to_utf16, line_to_byte, line_to_char, utf16_to_char};
 ghost use Rattle.rope_text.specs.Answer.{checked};
 ghost use Rattle.rope_tree.specs.Conversions.{end_index, are_converted, converted};
 ghost use Rattle.rope_slice.specs.Refusals.{index_error};
 
+use crate::excerpt::Before;
 use crate::slice::{RopeSlice, within};
-use rope_text::{Error, Result};
-use rope_tree::{Unit, count, first_sought};
+use rope_text::str_utils::{byte_len_of, char_to_byte_idx, first_char};
+use rope_text::{Error, Result, Steps};
+use rope_tree::{Unit, byte_at, char_at, convert, convert_in, count, first_sought, leaf_at};
 
 /// A chunk, and how many bytes, characters and line breaks stand before it.
 pub type ChunkAt<'a> = (&'a str, usize, usize, usize);
@@ -31,7 +33,16 @@ impl<'a> RopeSlice<'a> {
         requires { byte_idx < byte_len (text_of self.now) }
         ensures { slice_get (encode_utf8_all (text_of self.now)) byte_idx ≡ Some result }
     {
-        self.part.byte(byte_idx)
+        match self {
+            RopeSlice::InTree(excerpt) => {
+                let place = excerpt.place(Unit::Byte, byte_idx);
+                byte_at(excerpt.node, place, &mut Steps::new())
+            }
+            RopeSlice::Alone(plain) => {
+                let bytes = plain.as_str().as_bytes();
+                bytes[byte_idx]
+            }
+        }
     }
 
     /// The character `char_idx`, counted from 0.
@@ -41,7 +52,57 @@ impl<'a> RopeSlice<'a> {
         requires { char_idx < length (text_of self.now) }
         ensures { slice_get (text_of self.now) char_idx ≡ Some result }
     {
-        self.part.char(char_idx)
+        match self {
+            RopeSlice::InTree(excerpt) => {
+                let place = excerpt.place(Unit::Char, char_idx);
+                char_at(excerpt.node, place, &mut Steps::new())
+            }
+            RopeSlice::Alone(plain) => {
+                let text = plain.as_str();
+                first_char(&text[char_to_byte_idx(text, char_idx)..])
+            }
+        }
+    }
+
+    // The chunk that holds a byte or a character; at the end of the text the last chunk. Or the one that holds the last character
+    // of a line break, counted from 0. With it the bytes, the characters and the line breaks that end before it. With no chunk it
+    // is the empty text, with nothing before it.
+    // Inlined: the unit is a constant at most calls, and a search for one kind of count has no test for it.
+    #[inline(always)]
+    fn chunk_at(&self, unit: Unit, idx: usize) -> ChunkAt<'a>
+        requires { MayHold unit (breaks_of self.now) (text_of self.now) idx }
+        ensures { ShowsChunk (content_of self.now)
+            (chunk_index unit (breaks_of self.now) (chunks_of self.now) idx) result }
+    {
+        match self {
+            RopeSlice::InTree(excerpt) => {
+                let place = excerpt.place(unit, idx).min(count(excerpt.end, unit) - 1);
+                let found = leaf_at(excerpt.node, unit, place, &mut Steps::new());
+                let leaf = found.leaf.as_str();
+                let before = found.before;
+                let start = excerpt.start;
+                let from = start.bytes.saturating_sub(before.bytes);
+                let to = (excerpt.end.bytes - before.bytes).min(leaf.len());
+                let passed = Before::since(before, start);
+                (
+                    &leaf[from..to],
+                    passed.bytes,
+                    passed.chars,
+                    passed.break_count,
+                )
+            }
+            RopeSlice::Alone(plain) => (plain.text, 0, 0, 0),
+        }
+    }
+
+    // The same, for callers that are small.
+    #[inline(never)]
+    fn chunk_apart(&self, unit: Unit, idx: usize) -> ChunkAt<'a>
+        requires { MayHold unit (breaks_of self.now) (text_of self.now) idx }
+        ensures { ShowsChunk (content_of self.now)
+            (chunk_index unit (breaks_of self.now) (chunks_of self.now) idx) result }
+    {
+        self.chunk_at(unit, idx)
     }
 
     /// The chunk that holds the byte `byte_idx`, and at the end of the text the last chunk. With it the numbers of
@@ -54,8 +115,7 @@ impl<'a> RopeSlice<'a> {
         ensures { ShowsChunk (content_of self.now)
             (chunk_index_at_byte (chunks_of self.now) byte_idx) result }
     {
-        let (chunk, before) = self.part.chunk_at(Unit::Byte, byte_idx);
-        (chunk, before.bytes, before.chars, before.break_count)
+        self.chunk_at(Unit::Byte, byte_idx)
     }
 
     /// The chunk that holds the character `char_idx`, and at the end of the text the last chunk. With it the
@@ -69,8 +129,7 @@ impl<'a> RopeSlice<'a> {
         ensures { ShowsChunk (content_of self.now)
             (chunk_index_at_char (chunks_of self.now) char_idx) result }
     {
-        let (chunk, before) = self.part.chunk_at(Unit::Char, char_idx);
-        (chunk, before.bytes, before.chars, before.break_count)
+        self.chunk_at(Unit::Char, char_idx)
     }
 
     /// The first chunk by whose end `line_break_idx` line breaks have ended, or else the last chunk. With it the
@@ -84,8 +143,14 @@ impl<'a> RopeSlice<'a> {
             (chunk_index_at_line_break (breaks_of self.now) (chunks_of self.now) line_break_idx)
             result }
     {
-        let (chunk, before) = self.part.chunk_at_line_break(line_break_idx);
-        (chunk, before.bytes, before.chars, before.break_count)
+        let info = self.info();
+        if line_break_idx == 0 {
+            return self.chunk_apart(Unit::Char, 0);
+        }
+        if line_break_idx > info.break_count {
+            return self.chunk_apart(Unit::Char, info.chars.saturating_sub(1));
+        }
+        self.chunk_apart(Unit::LineBreak, line_break_idx - 1)
     }
 
     /// The whole text, exactly where the slice has at most one chunk, and else `None`. Costs at most two look-ups;
@@ -95,7 +160,12 @@ impl<'a> RopeSlice<'a> {
         ensures more { IfNone result (1 < length (chunks_of self.now)) }
         ensures value { IfSome result (λ s. chars s.now ≡ text_of self.now) }
     {
-        self.part.as_str()
+        if let RopeSlice::Alone(plain) = self {
+            return Some(plain.text);
+        }
+        let len = self.info().bytes;
+        let (chunk, ..) = self.chunk_apart(Unit::Char, 0);
+        (byte_len_of(chunk) == len).then_some(chunk)
     }
 
     /// The byte `byte_idx`, counted from 0, or `None` exactly where the index is `len_bytes()` or past it. Costs
@@ -152,6 +222,37 @@ impl<'a> RopeSlice<'a> {
         Some(self.chunk_at_line_break(within(line_break_idx, self.len_lines())?))
     }
 
+    // The index in the unit `to` of the place that an index in the unit `from` names: the character that holds the byte or
+    // the code unit, the line on which the place lies, or the place at which the line starts. The index may be that of the
+    // end, which of lines is the one past the last.
+    #[inline(always)]
+    fn convert(&self, from: Unit, to: Unit, idx: usize) -> usize
+        requires units { are_converted from to ≡ true }
+        requires within { idx ≤ end_index from (breaks_of self.now) (text_of self.now) }
+        ensures { result ≡ converted from to (breaks_of self.now) (text_of self.now) idx }
+    {
+        match self {
+            // The tree's answer, less what lies before the start. Where a slice ends between CR and LF, its last line starts at that
+            // end, while the tree's line starts behind the LF: so the answer is cut at the end.
+            RopeSlice::InTree(excerpt) => {
+                let first = first_sought(from);
+                if idx < first {
+                    return 0;
+                }
+                let place = excerpt.place(from, idx);
+                let start = count(excerpt.start, to);
+                let end = count(excerpt.end, to);
+                if place - first == count(excerpt.end, from) {
+                    return end - start;
+                }
+                convert(excerpt.node, from, to, place, &mut Steps::new()).min(end) - start
+            }
+            RopeSlice::Alone(plain) => {
+                convert_in(plain.as_str(), plain.info, plain.breaks, from, to, idx)
+            }
+        }
+    }
+
     // The index in the unit `to` of the place that any index in the unit `from` names, or the refusal of the index.
     #[inline(always)]
     fn try_convert(&self, from: Unit, to: Unit, idx: usize) -> Result<usize>
@@ -160,14 +261,14 @@ impl<'a> RopeSlice<'a> {
             (index_error from idx (end_index from (breaks_of self.now) (text_of self.now)))
             (converted from to (breaks_of self.now) (text_of self.now) idx) }
     {
-        let len = count(self.part.info(), from) + first_sought(from);
+        let len = count(self.info(), from) + first_sought(from);
         let error = match from {
             Unit::Byte => Error::ByteIndexOutOfBounds(idx, len),
             Unit::Char => Error::CharIndexOutOfBounds(idx, len),
             Unit::CodeUnit => Error::Utf16IndexOutOfBounds(idx, len),
             Unit::LineBreak => Error::LineIndexOutOfBounds(idx, len),
         };
-        Ok(self.part.convert(from, to, within(idx, len).ok_or(error)?))
+        Ok(self.convert(from, to, within(idx, len).ok_or(error)?))
     }
 
     /// The character, counted from 0, that holds the byte `byte_idx`, also where the byte is inside the character;
@@ -178,7 +279,7 @@ impl<'a> RopeSlice<'a> {
         requires { byte_idx ≤ byte_len (text_of self.now) }
         ensures { result ≡ byte_to_char (text_of self.now) byte_idx }
     {
-        self.part.convert(Unit::Byte, Unit::Char, byte_idx)
+        self.convert(Unit::Byte, Unit::Char, byte_idx)
     }
 
     /// As `byte_to_char`, for any index. Costs one or two look-ups; takes no memory.
@@ -202,7 +303,7 @@ impl<'a> RopeSlice<'a> {
         requires { byte_idx ≤ byte_len (text_of self.now) }
         ensures { result ≡ byte_to_line (breaks_of self.now) (text_of self.now) byte_idx }
     {
-        self.part.convert(Unit::Byte, Unit::LineBreak, byte_idx)
+        self.convert(Unit::Byte, Unit::LineBreak, byte_idx)
     }
 
     /// As `byte_to_line`, for any index. Costs one or two look-ups; takes no memory.
@@ -226,7 +327,7 @@ impl<'a> RopeSlice<'a> {
         requires { char_idx ≤ length (text_of self.now) }
         ensures { result ≡ char_to_byte (text_of self.now) char_idx }
     {
-        self.part.convert(Unit::Char, Unit::Byte, char_idx)
+        self.convert(Unit::Char, Unit::Byte, char_idx)
     }
 
     /// As `char_to_byte`, for any index. Costs one or two look-ups; takes no memory.
@@ -250,7 +351,7 @@ impl<'a> RopeSlice<'a> {
         requires { char_idx ≤ length (text_of self.now) }
         ensures { result ≡ char_to_line (breaks_of self.now) (text_of self.now) char_idx }
     {
-        self.part.convert(Unit::Char, Unit::LineBreak, char_idx)
+        self.convert(Unit::Char, Unit::LineBreak, char_idx)
     }
 
     /// As `char_to_line`, for any index. Costs one or two look-ups; takes no memory.
@@ -274,7 +375,7 @@ impl<'a> RopeSlice<'a> {
         requires { char_idx ≤ length (text_of self.now) }
         ensures { result ≡ char_to_utf16 (text_of self.now) char_idx }
     {
-        self.part.convert(Unit::Char, Unit::CodeUnit, char_idx)
+        self.convert(Unit::Char, Unit::CodeUnit, char_idx)
     }
 
     /// As `char_to_utf16_cu`, for any index. Costs one or two look-ups; takes no memory.
@@ -298,7 +399,7 @@ impl<'a> RopeSlice<'a> {
         requires { utf16_cu_idx ≤ utf16_len (text_of self.now) }
         ensures { result ≡ utf16_to_char (text_of self.now) utf16_cu_idx }
     {
-        self.part.convert(Unit::CodeUnit, Unit::Char, utf16_cu_idx)
+        self.convert(Unit::CodeUnit, Unit::Char, utf16_cu_idx)
     }
 
     /// As `utf16_cu_to_char`, for any index. Costs one or two look-ups; takes no memory.
@@ -321,7 +422,7 @@ impl<'a> RopeSlice<'a> {
         requires { line_idx ≤ line_count (breaks_of self.now) (text_of self.now) }
         ensures { result ≡ line_to_byte (breaks_of self.now) (text_of self.now) line_idx }
     {
-        self.part.convert(Unit::LineBreak, Unit::Byte, line_idx)
+        self.convert(Unit::LineBreak, Unit::Byte, line_idx)
     }
 
     /// As `line_to_byte`, for any index. Costs one or two look-ups; takes no memory.
@@ -345,7 +446,7 @@ impl<'a> RopeSlice<'a> {
         requires { line_idx ≤ line_count (breaks_of self.now) (text_of self.now) }
         ensures { result ≡ line_to_char (breaks_of self.now) (text_of self.now) line_idx }
     {
-        self.part.convert(Unit::LineBreak, Unit::Char, line_idx)
+        self.convert(Unit::LineBreak, Unit::Char, line_idx)
     }
 
     /// As `line_to_char`, for any index. Costs one or two look-ups; takes no memory.

@@ -2,22 +2,28 @@
 //!
 //! `RopeSlice::from("one\ntwo")` is a slice of a plain text: it has 7 characters, 2 lines and one chunk. The slice `2..9`
 //! of `"hello world"` is `"llo wor"`, and of that the slice `1..4` is `"lo "`. No call takes memory.
-ghost use Rattle.std.specs.Prelude.{◌≡◌, length, None, Some, Ok, Err, IfOk, IfErr};
+ghost use Rattle.std.specs.Prelude.{◌≡◌, ◌≤◌, length, true, ◌↔◌, None, Some, Ok, Err, IfOk, IfErr, IfSome, IsSome};
+ghost use Rattle.std.specs.List.{slice_range};
 ghost use Rattle.std.specs.Str.{chars};
 ghost use Rattle.rope_text.specs.declared.line_breaks.LineBreaks.TheVariants.{Unicode};
 ghost use Rattle.rope_text.specs.Text.{byte_len, utf16_len};
+ghost use Rattle.rope_text.specs.TextInfo.{info_of};
 ghost use Rattle.rope_text.specs.Lines.{line_count};
-ghost use Rattle.rope_text.specs.Cutting.{single_chunk};
-ghost use Rattle.rope_part.specs.Kept.{IsPart};
-ghost use Rattle.rope_part.specs.Part.{content_of as part_content};
-ghost use Rattle.rope_slice.specs.Slice.{content_of};
+ghost use Rattle.rope_text.specs.Conversions.{byte_to_char};
+ghost use Rattle.rope_text.specs.Cutting.{clip, single_chunk};
+ghost use Rattle.rope_text.specs.LineParts.{part_between};
+ghost use Rattle.rope_text.specs.Edit.{given, byte_range_error, is_char_boundary};
+ghost use Rattle.rope_tree.specs.Tree.{text};
+ghost use Rattle.rope_slice.specs.Kept.{IsPart};
 ghost use Rattle.rope_slice.specs.Found.{GivesWithin};
-ghost use Rattle.rope_text.specs.Edit.{given, byte_range_error};
 ghost use Rattle.rope_slice.specs.Sliced.{HasCharRange, HasByteRange, IsCharRange, IsByteRange};
 
-use rope_part::Part;
+use crate::excerpt::Excerpt;
+use crate::plain::Plain;
 use rope_text::range::char_bounds;
-use rope_text::{Error, IndexRange, LineBreaks, Result};
+use rope_text::str_utils::char_to_byte_idx;
+use rope_text::{Error, IndexRange, LineBreaks, MAX_BYTES, Result, TextInfo};
+use rope_tree::Node;
 
 /// The index, or none where it is past the end.
 pub(crate) fn within(idx: usize, len: usize) -> Option<usize>
@@ -32,16 +38,14 @@ pub(crate) fn within(idx: usize, len: usize) -> Option<usize>
 /// at the LF has that LF, where they are breaks of its set. Its chunks are the rope's, clipped to it, and empty
 /// ones dropped; a plain text is one chunk of any length, or none. Copying a slice takes constant time and no
 /// memory.
+///
+/// Which of the two it is says nothing about its text, and only tells a rope that is made of it whether there are nodes to share.
 #[derive(Clone, Copy)]
-pub struct RopeSlice<'a> {
-    pub(crate) part: Part<'a>,
-}
-
-/// What a slice shows: a part of a tree's text, or a plain text. It is no method, so that it reaches no caller of `RopeSlice` alone.
-pub fn part_of<'a>(slice: RopeSlice<'a>) -> Part<'a>
-    ensures { part_content result ≡ content_of slice.entry }
-{
-    slice.part
+pub enum RopeSlice<'a> {
+    /// One character or more of a rope's text.
+    InTree(Excerpt<'a>),
+    /// A plain text.
+    Alone(Plain<'a>),
 }
 
 impl<'a> RopeSlice<'a> {
@@ -55,15 +59,49 @@ impl<'a> RopeSlice<'a> {
         ensures chunks { chunks_of result ≡ single_chunk (chars text.now) }
         ensures breaks { breaks_of result ≡ breaks }
     {
-        let part = Part::from_str_with(text, breaks);
-        RopeSlice { part }
+        let info = TextInfo::from_str(text, breaks);
+        RopeSlice::Alone(Plain { text, info, breaks })
+    }
+
+    /// The whole text of a tree.
+    // Inlined: a call would answer it through memory, in words that are loaded again as vectors.
+    #[inline(always)]
+    pub fn of_node(node: &'a Node) -> RopeSlice<'a>
+        ensures text { text_of result ≡ text node.now }
+        ensures chunks { chunks_of result ≡ node.now.leaves }
+        ensures breaks { breaks_of result ≡ node.now.breaks }
+    {
+        let end = node.info();
+        if end.chars == 0 {
+            return RopeSlice::from_str_with("", node.line_breaks());
+        }
+        let start = TextInfo::new();
+        RopeSlice::InTree(Excerpt { node, start, end })
     }
 
     /// The set of line breaks by which lines are counted. Takes constant time and no memory.
     pub fn line_breaks(&self) -> LineBreaks
         ensures { result ≡ breaks_of self.now }
     {
-        self.part.line_breaks()
+        match self {
+            RopeSlice::InTree(excerpt) => excerpt.node.line_breaks(),
+            RopeSlice::Alone(plain) => plain.breaks,
+        }
+    }
+
+    /// The counts of the text, of which nothing is read.
+    pub(crate) fn info(&self) -> TextInfo
+        ensures value { result ≡ info_of (breaks_of self.now) (text_of self.now) }
+        ensures kept { IsPart (content_of self.now) }
+    {
+        match self {
+            RopeSlice::InTree(excerpt) => excerpt.info(),
+            RopeSlice::Alone(plain) => {
+                // For the proof: `as_bytes` says that a text in memory has at most `isize::MAX` bytes, as a slice must.
+                let _ = plain.as_str().as_bytes();
+                plain.info
+            }
+        }
     }
 
     /// The length in bytes. Takes constant time and no memory.
@@ -71,29 +109,96 @@ impl<'a> RopeSlice<'a> {
         ensures value { result ≡ byte_len (text_of self.now) }
         ensures kept { IsPart (content_of self.now) }
     {
-        self.part.info().bytes
+        self.info().bytes
     }
 
     /// The length in characters. Takes constant time and no memory.
     pub fn len_chars(&self) -> usize
         ensures { result ≡ length (text_of self.now) }
     {
-        self.part.info().chars
+        self.info().chars
     }
 
     /// The number of lines: one more than there are line breaks. Takes constant time and no memory.
     pub fn len_lines(&self) -> usize
         ensures { result ≡ line_count (breaks_of self.now) (text_of self.now) }
     {
-        self.part.info().break_count + 1
+        self.info().break_count + 1
     }
 
     /// The length in UTF-16 code units. Takes constant time and no memory.
     pub fn len_utf16_cu(&self) -> usize
         ensures { result ≡ utf16_len (text_of self.now) }
     {
-        let info = self.part.info();
+        let info = self.info();
         info.chars + info.utf16_surrogates
+    }
+
+    // The characters from `start` up to `end`: their text, and the chunks clipped to them.
+    fn char_range(&self, start: usize, end: usize) -> RopeSlice<'a>
+        requires ordered { start ≤ end }
+        requires within { end ≤ length (text_of self.now) }
+        ensures text { text_of result ≡ slice_range (text_of self.now) start end }
+        ensures chunks { chunks_of result ≡ clip (chunks_of self.now) start end }
+        ensures breaks { breaks_of result ≡ breaks_of self.now }
+    {
+        if start == end {
+            return RopeSlice::from_str_with("", self.line_breaks());
+        }
+        match self {
+            RopeSlice::InTree(excerpt) => {
+                if end - start <= MAX_BYTES {
+                    if let Some(text) = excerpt.in_one_leaf(start, end) {
+                        return RopeSlice::from_str_with(text, excerpt.node.line_breaks());
+                    }
+                }
+                RopeSlice::InTree(Excerpt {
+                    node: excerpt.node,
+                    start: excerpt.start_of(start),
+                    end: excerpt.end_of(end),
+                })
+            }
+            RopeSlice::Alone(plain) => {
+                let text = plain.as_str();
+                let rest = &text[char_to_byte_idx(text, start)..];
+                let len = char_to_byte_idx(rest, end - start);
+                RopeSlice::from_str_with(&rest[..len], plain.breaks)
+            }
+        }
+    }
+
+    // The bytes from `from` up to `to`; none exactly where one of the two lies inside a character.
+    fn byte_range(&self, from: usize, to: usize) -> Option<RopeSlice<'a>>
+        requires ordered { from ≤ to }
+        requires within { to ≤ byte_len (text_of self.now) }
+        ensures some { IfSome result (λ slice. content_of slice
+            ≡ part_between (content_of self.now) (byte_to_char (text_of self.now) from)
+            (byte_to_char (text_of self.now) to)) }
+        ensures whole { IsSome result ↔ ((is_char_boundary (text_of self.now) from ≡ true)
+            × (is_char_boundary (text_of self.now) to ≡ true)) }
+    {
+        match self {
+            RopeSlice::InTree(excerpt) => {
+                if from == to {
+                    excerpt.end_of_byte(to)?;
+                    return Some(RopeSlice::from_str_with("", excerpt.node.line_breaks()));
+                }
+                let start = excerpt.start_of_byte(from)?;
+                let end = excerpt.end_of_byte(to)?;
+                let node = excerpt.node;
+                Some(RopeSlice::InTree(Excerpt { node, start, end }))
+            }
+            RopeSlice::Alone(plain) => {
+                let text = plain.as_str();
+                if !text.is_char_boundary(from) {
+                    return None;
+                }
+                if !text.is_char_boundary(to) {
+                    return None;
+                }
+                Some(RopeSlice::from_str_with(&text[from..to], plain.breaks))
+            }
+        }
     }
 
     /// The characters of a range, as a slice that borrows them: their text, the chunks clipped to them, and the
@@ -116,8 +221,7 @@ impl<'a> RopeSlice<'a> {
             result }
     {
         let (start, end) = char_bounds(&range, self.len_chars()).ok()?;
-        let part = self.part.char_range(start, end);
-        Some(RopeSlice { part })
+        Some(self.char_range(start, end))
     }
 
     /// As `byte_slice`, for any range. Costs a few look-ups, or a count of the text where it is plain; takes no
@@ -144,8 +248,8 @@ impl<'a> RopeSlice<'a> {
         if from.max(to) > len {
             return Err(Error::ByteRangeOutOfBounds(start, end, len));
         }
-        match self.part.byte_range(from, to) {
-            Some(part) => Ok(RopeSlice { part }),
+        match self.byte_range(from, to) {
+            Some(slice) => Ok(slice),
             None => Err(Error::ByteRangeNotCharBoundary(start, end)),
         }
     }

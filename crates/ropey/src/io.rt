@@ -18,9 +18,9 @@ ghost use Rattle.ropey.specs.View.{IsBuilt, text_of};
 use crate::rope::Rope;
 use rope_io::ReadResult;
 use rope_io::reading::read_tree;
-use rope_io::writing::write_part;
+use rope_io::writing::write_slice;
 pub use rope_io::{Mark, ReadError, Sink, Source, Watched};
-use rope_part::Part;
+use rope_slice::RopeSlice;
 use rope_text::LineBreaks;
 use std::alloc::Global;
 use std::io::{self, Read, Write};
@@ -134,6 +134,6 @@ impl Rope {
         ensures failure { IsCounted (failure_of result) (S.failure sink.new)
             (S.failures sink.old) (S.failures sink.new) }
     {
-        write_part(&Part::of_node(&self.root), sink)
+        write_slice(&RopeSlice::of_node(&self.root), sink)
     }
 }

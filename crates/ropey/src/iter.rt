@@ -1,4 +1,3 @@
-//! Cursors over the parts of ropes and slices, which step both ways.
+//! Cursors over ropes and slices, which step both ways.
 
-pub use rope_cursor::{Bytes, Chars, Chunks};
-pub use rope_slice::Lines;
+pub use rope_slice::{Bytes, Chars, Chunks, Lines};

@@ -20,11 +20,8 @@ ghost use Rattle.rope_text.specs.Lookup.{chunk_place_at_byte, chunk_place_at_cha
 ghost use Rattle.rope_text.specs.Sides.{at_start, at_place};
 
 use crate::rope::Rope;
-use rope_cursor::lines::OfPart;
-use rope_cursor::{Bytes, Chars};
 use rope_join::cut::between;
-use rope_part::{Excerpt, Part};
-use rope_slice::{ChunksAt, Lines, RopeSlice, part_of};
+use rope_slice::{Bytes, Chars, ChunksAt, Excerpt, Lines, RopeSlice};
 use rope_text::{IndexRange, Result};
 use rope_tree::Maker;
 use std::alloc::Global;
@@ -35,7 +32,7 @@ impl Rope {
         ensures content { content_of result ≡ content self.now }
         ensures few { length self.now.chunks < 2 ^ 63 }
     {
-        RopeSlice::of_part(Part::of_node(&self.root))
+        RopeSlice::of_node(&self.root)
     }
 
     /// The characters of a range, as a slice that borrows them: their text, the chunks clipped to them, and the
@@ -109,12 +106,12 @@ impl Rope {
         ensures kept { IfOk result IsRope }
         ensures err { IfErr result (λ e. e ≡ OutOfMemory) }
     {
-        match part_of(slice) {
-            Part::InTree(Excerpt { node, start, end }) => {
+        match slice {
+            RopeSlice::InTree(Excerpt { node, start, end }) => {
                 let root = between(&mut Maker::new(alloc), node, start.chars, end.chars)?;
                 Ok(Rope { root, alloc })
             }
-            Part::Alone(plain) => Rope::from_str_with(alloc, plain.text, plain.breaks),
+            RopeSlice::Alone(plain) => Rope::from_str_with(alloc, plain.text, plain.breaks),
         }
     }
 

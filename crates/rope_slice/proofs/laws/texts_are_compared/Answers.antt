@@ -1,6 +1,6 @@
 use Rattle.std.specs.Cmp.{on_total}
 use Rattle.rope_text.proofs.CompareLaws.{text_cmp_total, same_from_text_cmp, text_cmp_same}
-use Rattle.rope_compare.proofs.Comparing.{bytes_tell}
+use Rattle.rope_slice.proofs.Comparing.{bytes_tell}
 use Rattle.rope_slice.specs.Slice.{text_of}
 use Rattle.rope_slice.proofs.laws.texts_are_compared.Goals as goal
 

@@ -1,13 +1,13 @@
 use Rattle.std.proofs.Common.{◌≡◌, ℕ, length, ap, ◌∙◌, subst, arith}
 use Rattle.rope_text.specs.Lookup.{StandsAt, found_chunk, chunk_index_at_line_break, chunk_place_at_line_break, chunk_place_at_char}
 use Rattle.rope_slice.specs.Slice.{text_of, chunks_of, breaks_of}
-use Rattle.rope_cursor.proofs.ChunkStarts.{front_le, line_break_start, line_break_end}
-use Rattle.rope_slice.proofs.slice.RopeSlice.chunks_at_line_break.Goals.{After-chunks_at-chunks, then-line_break_idx-info, else-line_break_idx-info}
+use Rattle.rope_slice.proofs.ChunkStarts.{front_le, line_break_start, line_break_end}
+use Rattle.rope_slice.proofs.slice.RopeSlice.chunks_at_line_break.Goals.{After-chunks_from, then-line_break_idx-info, else-line_break_idx-info}
 use Rattle.rope_slice.proofs.slice.RopeSlice.chunks_at_line_break.Goals as goal
 
-pub chunks_at-chunks-requires-clause-within : goal.chunks_at-chunks-requires-clause-within
+pub chunks_from-requires-clause-within : goal.chunks_from-requires-clause-within
 unfolding found_chunk
-chunks_at-chunks-requires-clause-within c =
+chunks_from-requires-clause-within c =
     let part = c.args.self.now in
     let cut = c.info-info.ensures.kept.cut in
     elim c.if-line_break_idx-info.branch [
@@ -21,7 +21,7 @@ chunks_at-chunks-requires-clause-within c =
       )
     ]
 
-place_is : (c : After-chunks_at-chunks) → chunk_place_at_char (chunks_of c.args.self.now) c.if-line_break_idx-info.char_idx ≡ chunk_place_at_line_break (breaks_of c.args.self.now) (chunks_of c.args.self.now) c.args.line_break_idx
+place_is : (c : After-chunks_from) → chunk_place_at_char (chunks_of c.args.self.now) c.if-line_break_idx-info.char_idx ≡ chunk_place_at_line_break (breaks_of c.args.self.now) (chunks_of c.args.self.now) c.args.line_break_idx
 unfolding found_chunk
 place_is c =
     let part = c.args.self.now in
@@ -35,4 +35,4 @@ place_is c =
 pub returns : goal.returns
 returns c =
     let part = c.args.self.now in
-    subst (λ (n : ℕ). StandsAt (breaks_of part) (chunks_of part) n c.chunks_at-chunks.result.0 c.chunks_at-chunks.result.1.bytes c.chunks_at-chunks.result.1.chars c.chunks_at-chunks.result.1.break_count) (place_is (goal.at.returns c).After-chunks_at-chunks) c.chunks_at-chunks.ensures.stands
+    subst (λ (n : ℕ). StandsAt (breaks_of part) (chunks_of part) n c.chunks_from.result.0 c.chunks_from.result.1 c.chunks_from.result.2 c.chunks_from.result.3) (place_is (goal.at.returns c).After-chunks_from) c.chunks_from.ensures.stands

@@ -4,7 +4,7 @@ use Rattle.std.specs.Str.{chars, encode_utf8_all}
 use Rattle.std.proofs.lemmas.Bool.Decides.{nat_tests}
 use Rattle.std.proofs.lemmas.Str.{encodes-chars}
 use Rattle.rope_slice.specs.Slice.{text_of}
-use Rattle.rope_compare.proofs.Comparing.{ties_tell}
+use Rattle.rope_slice.proofs.Comparing.{ties_tell}
 use Rattle.rope_slice.proofs.slice.RopeSlice.eq_str.Goals as goal
 
 pub returns-then-len_bytes-other : goal.returns-then-len_bytes-other

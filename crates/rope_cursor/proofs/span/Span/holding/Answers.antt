@@ -1,6 +1,0 @@
-use Rattle.std.specs.Str.{chars}
-use Rattle.rope_cursor.proofs.LeafStarts.{holds_alone}
-use Rattle.rope_cursor.proofs.span.Span.holding.Goals as goal
-
-pub returns-in-Alone : goal.returns-in-Alone
-returns-in-Alone c = rw (c.in-Alone.is, c.none.ensures) (holds_alone c.in-Alone.plain.breaks (chars c.in-Alone.plain.text.now) c.args.idx c.args.unit c.requires.unit (rw c.in-Alone.is at c.requires.within))

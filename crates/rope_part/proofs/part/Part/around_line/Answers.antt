@@ -1,6 +1,0 @@
-use Rattle.rope_part.proofs.InChunks.{in_single}
-use Rattle.rope_part.specs.Plain.{text_of}
-use Rattle.rope_part.proofs.part.Part.around_line.Goals as goal
-
-pub returns-in-Alone-clause-held : goal.returns-in-Alone-clause-held
-returns-in-Alone-clause-held c = rw c.in-Alone.is (in_single (text_of c.in-Alone.plain) _ _ c.around_line-in-Alone.ensures.held)

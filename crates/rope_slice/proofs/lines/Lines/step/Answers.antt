@@ -1,0 +1,133 @@
+use Rattle.std.proofs.Common.{◌<◌, ◌-◌, ◌∙◌, refl, arith}
+use Rattle.rope_text.specs.Content.{Content}
+use Rattle.rope_slice.specs.Slice.{content_of}
+use Rattle.rope_slice.specs.Lines.{at_line}
+use Rattle.rope_slice.proofs.Points.{stays_put}
+use Rattle.rope_slice.proofs.LineSteps.{left_of_line, right_of_line, no_line}
+use Rattle.rope_slice.proofs.PartsBetween.{line_from, line_to, line_apart, line_is}
+use Rattle.std.specs.Str.{chars}
+use Rattle.rope_slice.proofs.LineMoves.{line_held, start_apart, breaks_enough, inside_back, before_sum, before_up, start_is, prev_start, inside, after_is, next_start, next_small}
+use Rattle.rope_slice.proofs.lines.Lines.step.Goals.{Then-is_left, Else-is_left}
+use Rattle.rope_tree.proofs.Infos.{sum_of_small}
+use Rattle.rope_text.proofs.InfoLaws.{rest_of_sum}
+use Rattle.rope_slice.proofs.lines.Lines.step.Goals as goal
+
+not_first : (c : Then-is_left) → 0 < c.self.inside.line
+not_first c = omega (arith, c.if-self-end_of.false, rw c.if-is_left.true at c.end_of.ensures)
+
+not_last : (c : Else-is_left) → c.self.inside.line < c.self.inside.total
+not_last c = omega (arith, c.self.invariant.within, c.if-self-end_of.false, rw c.if-is_left.false at c.end_of.ensures)
+
+pub returns-then-self-end_of : goal.returns-then-self-end_of
+returns-then-self-end_of c =
+    let s = c.self.inside in
+    let lines = at_line (content_of s.slice) s.line s.is_backward in
+    rw (← c.self.view_is) (stays_put c.args.is_left lines lines refl (no_line c.args.is_left (content_of s.slice) s.caret s.before s.line s.total s.is_backward c.self.invariant (c.if-self-end_of.true ∙ c.end_of.ensures)) (λ (x : Content). x))
+
+pub overflow_sub-here : goal.overflow_sub-here
+overflow_sub-here c = breaks_enough (content_of c.self.inside.slice) c.self.inside.caret c.self.inside.before c.self.inside.line c.self.inside.total c.self.invariant
+
+pub minus-self-inside-requires : goal.minus-self-inside-requires
+minus-self-inside-requires c =
+    let sum = before_sum (content_of c.self.inside.slice) c.self.inside.caret c.pass_line_back.new.self c.self.inside.before c.pass_line_back.result.0 c.self.inside.line c.self.inside.total
+    (c.self.inside.before.break_count - (c.self.inside.line - 1)) c.line_breaks-breaks.result c.self.invariant (not_first (goal.at.minus-self-inside-requires c).Then-is_left) c.line_breaks-breaks.ensures refl
+    c.pass_line_back.ensures.front c.pass_line_back.ensures.back c.pass_line_back.ensures.counts in
+    rest_of_sum _ _ _ sum
+
+pub between-requires-clause-from_is : goal.between-requires-clause-from_is
+between-requires-clause-from_is c =
+    line_from (content_of c.self.inside.slice) (c.self.inside.line - 1) (inside_back (content_of c.self.inside.slice) c.self.inside.caret c.pass_line_back.new.self c.self.inside.before c.pass_line_back.result.0 c.self.inside.line c.self.inside.total
+    (c.self.inside.before.break_count - (c.self.inside.line - 1)) c.line_breaks-breaks.result c.self.invariant (not_first (goal.at.between-requires-clause-from_is c).Then-is_left) c.line_breaks-breaks.ensures refl
+    c.pass_line_back.ensures.front c.pass_line_back.ensures.back c.pass_line_back.ensures.counts) c.minus-self-inside.result c.self.inside.before
+    (start_is (content_of c.self.inside.slice) c.self.inside.caret c.pass_line_back.new.self c.self.inside.before c.pass_line_back.result.0 c.self.inside.line c.self.inside.total
+    (c.self.inside.before.break_count - (c.self.inside.line - 1)) c.line_breaks-breaks.result c.self.invariant (not_first (goal.at.between-requires-clause-from_is c).Then-is_left) c.line_breaks-breaks.ensures refl
+    c.pass_line_back.ensures.front c.pass_line_back.ensures.back c.pass_line_back.ensures.counts c.minus-self-inside.result c.minus-self-inside.ensures.sum)
+    (before_up (content_of c.self.inside.slice) c.self.inside.caret c.pass_line_back.new.self c.self.inside.before c.pass_line_back.result.0 c.self.inside.line c.self.inside.total
+    (c.self.inside.before.break_count - (c.self.inside.line - 1)) c.line_breaks-breaks.result c.self.invariant (not_first (goal.at.between-requires-clause-from_is c).Then-is_left) c.line_breaks-breaks.ensures refl
+    c.pass_line_back.ensures.front c.pass_line_back.ensures.back c.pass_line_back.ensures.counts)
+
+pub between-requires-clause-apart : goal.between-requires-clause-apart
+between-requires-clause-apart c =
+    line_apart (content_of c.self.inside.slice) (c.self.inside.line - 1) (inside_back (content_of c.self.inside.slice) c.self.inside.caret c.pass_line_back.new.self c.self.inside.before c.pass_line_back.result.0 c.self.inside.line c.self.inside.total
+    (c.self.inside.before.break_count - (c.self.inside.line - 1)) c.line_breaks-breaks.result c.self.invariant (not_first (goal.at.between-requires-clause-apart c).Then-is_left) c.line_breaks-breaks.ensures refl
+    c.pass_line_back.ensures.front c.pass_line_back.ensures.back c.pass_line_back.ensures.counts) c.minus-self-inside.result c.self.inside.before
+    (start_is (content_of c.self.inside.slice) c.self.inside.caret c.pass_line_back.new.self c.self.inside.before c.pass_line_back.result.0 c.self.inside.line c.self.inside.total
+    (c.self.inside.before.break_count - (c.self.inside.line - 1)) c.line_breaks-breaks.result c.self.invariant (not_first (goal.at.between-requires-clause-apart c).Then-is_left) c.line_breaks-breaks.ensures refl
+    c.pass_line_back.ensures.front c.pass_line_back.ensures.back c.pass_line_back.ensures.counts c.minus-self-inside.result c.minus-self-inside.ensures.sum)
+    (before_up (content_of c.self.inside.slice) c.self.inside.caret c.pass_line_back.new.self c.self.inside.before c.pass_line_back.result.0 c.self.inside.line c.self.inside.total
+    (c.self.inside.before.break_count - (c.self.inside.line - 1)) c.line_breaks-breaks.result c.self.invariant (not_first (goal.at.between-requires-clause-apart c).Then-is_left) c.line_breaks-breaks.ensures refl
+    c.pass_line_back.ensures.front c.pass_line_back.ensures.back c.pass_line_back.ensures.counts)
+
+pub invariant_of-self : goal.invariant_of-self
+invariant_of-self c =
+    prev_start (content_of c.self.inside.slice) c.self.inside.caret c.pass_line_back.new.self c.self.inside.before c.pass_line_back.result.0 c.self.inside.line c.self.inside.total
+    (c.self.inside.before.break_count - (c.self.inside.line - 1)) c.line_breaks-breaks.result c.self.invariant (not_first (goal.at.invariant_of-self c).Then-is_left) c.line_breaks-breaks.ensures refl
+    c.pass_line_back.ensures.front c.pass_line_back.ensures.back c.pass_line_back.ensures.counts c.pass_line_back.ensures.chunks c.minus-self-inside.result c.minus-self-inside.ensures.sum
+
+pub returns-then-is_left : goal.returns-then-is_left
+returns-then-is_left c =
+    let s = c.self.inside in
+    let step = left_of_line (content_of s.slice) s.line s.is_backward (not_first (goal.at.returns-then-is_left c).Then-is_left) (omega (arith, c.self.invariant.within, c.self.invariant.total_is)) in
+    let item = c.between.ensures ∙ line_is (content_of c.self.inside.slice) (c.self.inside.line - 1) (inside_back (content_of c.self.inside.slice) c.self.inside.caret c.pass_line_back.new.self c.self.inside.before c.pass_line_back.result.0 c.self.inside.line c.self.inside.total
+    (c.self.inside.before.break_count - (c.self.inside.line - 1)) c.line_breaks-breaks.result c.self.invariant (not_first (goal.at.returns-then-is_left c).Then-is_left) c.line_breaks-breaks.ensures refl
+    c.pass_line_back.ensures.front c.pass_line_back.ensures.back c.pass_line_back.ensures.counts) c.minus-self-inside.result c.self.inside.before
+    (start_is (content_of c.self.inside.slice) c.self.inside.caret c.pass_line_back.new.self c.self.inside.before c.pass_line_back.result.0 c.self.inside.line c.self.inside.total
+    (c.self.inside.before.break_count - (c.self.inside.line - 1)) c.line_breaks-breaks.result c.self.invariant (not_first (goal.at.returns-then-is_left c).Then-is_left) c.line_breaks-breaks.ensures refl
+    c.pass_line_back.ensures.front c.pass_line_back.ensures.back c.pass_line_back.ensures.counts c.minus-self-inside.result c.minus-self-inside.ensures.sum)
+    (before_up (content_of c.self.inside.slice) c.self.inside.caret c.pass_line_back.new.self c.self.inside.before c.pass_line_back.result.0 c.self.inside.line c.self.inside.total
+    (c.self.inside.before.break_count - (c.self.inside.line - 1)) c.line_breaks-breaks.result c.self.invariant (not_first (goal.at.returns-then-is_left c).Then-is_left) c.line_breaks-breaks.ensures refl
+    c.pass_line_back.ensures.front c.pass_line_back.ensures.back c.pass_line_back.ensures.counts) in
+    rw (c.if-is_left.true, ← c.self.view_is, item) (step.0, step.1, refl)
+
+pub pass_line_back-requires : goal.pass_line_back-requires
+pass_line_back-requires c = start_apart (content_of c.self.inside.slice) c.self.inside.caret c.self.inside.before c.self.inside.line c.self.inside.total c.self.invariant
+
+pub plus-self-inside-requires : goal.plus-self-inside-requires
+plus-self-inside-requires c =
+    let small = next_small (content_of c.self.inside.slice) c.self.inside.caret c.pass_line.new.self c.self.inside.before c.pass_line.result.0 c.self.inside.line c.self.inside.total c.line_breaks-breaks.result c.self.invariant
+    (not_last (goal.at.plus-self-inside-requires c).Else-is_left) c.line_breaks-breaks.ensures c.pass_line.ensures.front c.pass_line.ensures.back c.pass_line.ensures.counts in
+    sum_of_small _ _ small.0 small.1
+
+pub between-requires-2-clause-to_is : goal.between-requires-2-clause-to_is
+between-requires-2-clause-to_is c =
+    line_to (content_of c.self.inside.slice) c.self.inside.line (inside (content_of c.self.inside.slice) c.self.inside.caret c.pass_line.new.self c.self.inside.before c.pass_line.result.0 c.self.inside.line c.self.inside.total c.line_breaks-breaks.result c.self.invariant
+    (not_last (goal.at.between-requires-2-clause-to_is c).Else-is_left) c.line_breaks-breaks.ensures c.pass_line.ensures.front c.pass_line.ensures.back c.pass_line.ensures.counts) c.self.inside.before c.plus-self-inside.result c.self.invariant.before_is
+    (after_is (content_of c.self.inside.slice) c.self.inside.caret c.pass_line.new.self c.self.inside.before c.pass_line.result.0 c.self.inside.line c.self.inside.total c.line_breaks-breaks.result c.self.invariant
+    (not_last (goal.at.between-requires-2-clause-to_is c).Else-is_left) c.line_breaks-breaks.ensures c.pass_line.ensures.front c.pass_line.ensures.back c.pass_line.ensures.counts c.plus-self-inside.result c.plus-self-inside.ensures.sum)
+
+pub between-requires-2-clause-apart : goal.between-requires-2-clause-apart
+between-requires-2-clause-apart c =
+    line_apart (content_of c.self.inside.slice) c.self.inside.line (inside (content_of c.self.inside.slice) c.self.inside.caret c.pass_line.new.self c.self.inside.before c.pass_line.result.0 c.self.inside.line c.self.inside.total c.line_breaks-breaks.result c.self.invariant
+    (not_last (goal.at.between-requires-2-clause-apart c).Else-is_left) c.line_breaks-breaks.ensures c.pass_line.ensures.front c.pass_line.ensures.back c.pass_line.ensures.counts) c.self.inside.before c.plus-self-inside.result c.self.invariant.before_is
+    (after_is (content_of c.self.inside.slice) c.self.inside.caret c.pass_line.new.self c.self.inside.before c.pass_line.result.0 c.self.inside.line c.self.inside.total c.line_breaks-breaks.result c.self.invariant
+    (not_last (goal.at.between-requires-2-clause-apart c).Else-is_left) c.line_breaks-breaks.ensures c.pass_line.ensures.front c.pass_line.ensures.back c.pass_line.ensures.counts c.plus-self-inside.result c.plus-self-inside.ensures.sum)
+
+pub invariant_of-self-2 : goal.invariant_of-self-2
+invariant_of-self-2 c =
+    next_start (content_of c.self.inside.slice) c.self.inside.caret c.pass_line.new.self c.self.inside.before c.pass_line.result.0 c.self.inside.line c.self.inside.total c.line_breaks-breaks.result c.self.invariant
+    (not_last (goal.at.invariant_of-self-2 c).Else-is_left) c.line_breaks-breaks.ensures c.pass_line.ensures.front c.pass_line.ensures.back c.pass_line.ensures.counts c.pass_line.ensures.chunks c.plus-self-inside.result c.plus-self-inside.ensures.sum
+
+pub returns : goal.returns
+returns c =
+    let s = c.self.inside in
+    let step = right_of_line (content_of s.slice) s.line s.is_backward (inside (content_of c.self.inside.slice) c.self.inside.caret c.pass_line.new.self c.self.inside.before c.pass_line.result.0 c.self.inside.line c.self.inside.total c.line_breaks-breaks.result c.self.invariant
+    (not_last (goal.at.returns c).Else-is_left) c.line_breaks-breaks.ensures c.pass_line.ensures.front c.pass_line.ensures.back c.pass_line.ensures.counts) in
+    let item = c.between-2.ensures ∙ line_is (content_of c.self.inside.slice) c.self.inside.line (inside (content_of c.self.inside.slice) c.self.inside.caret c.pass_line.new.self c.self.inside.before c.pass_line.result.0 c.self.inside.line c.self.inside.total c.line_breaks-breaks.result c.self.invariant
+    (not_last (goal.at.returns c).Else-is_left) c.line_breaks-breaks.ensures c.pass_line.ensures.front c.pass_line.ensures.back c.pass_line.ensures.counts) c.self.inside.before c.plus-self-inside.result c.self.invariant.before_is
+    (after_is (content_of c.self.inside.slice) c.self.inside.caret c.pass_line.new.self c.self.inside.before c.pass_line.result.0 c.self.inside.line c.self.inside.total c.line_breaks-breaks.result c.self.invariant
+    (not_last (goal.at.returns c).Else-is_left) c.line_breaks-breaks.ensures c.pass_line.ensures.front c.pass_line.ensures.back c.pass_line.ensures.counts c.plus-self-inside.result c.plus-self-inside.ensures.sum) in
+    rw (c.if-is_left.false, ← c.self.view_is, item) (step.0, step.1, refl)
+
+pub between-requires-clause-held : goal.between-requires-clause-held
+between-requires-clause-held c =
+    let s = c.self.inside in
+    line_held (content_of s.slice) c.pass_line_back.new.self c.minus-self-inside.result (s.line - 1) s.total (chars c.pass_line_back.result.1.now)
+    (prev_start (content_of s.slice) s.caret c.pass_line_back.new.self s.before c.pass_line_back.result.0 s.line s.total
+    (s.before.break_count - (s.line - 1)) c.line_breaks-breaks.result c.self.invariant (not_first (goal.at.between-requires-clause-held c).Then-is_left) c.line_breaks-breaks.ensures refl
+    c.pass_line_back.ensures.front c.pass_line_back.ensures.back c.pass_line_back.ensures.counts c.pass_line_back.ensures.chunks c.minus-self-inside.result c.minus-self-inside.ensures.sum)
+    c.pass_line_back.ensures.held
+
+pub between-requires-2-clause-held : goal.between-requires-2-clause-held
+between-requires-2-clause-held c =
+    let s = c.self.inside in
+    line_held (content_of s.slice) s.caret s.before s.line s.total (chars c.pass_line.result.1.now) c.self.invariant c.pass_line.ensures.held

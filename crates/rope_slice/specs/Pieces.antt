@@ -1,0 +1,8 @@
+-- The leaves whose bytes are still to come.
+use Rattle.std.specs.Prelude.{ℕ, Option, None, Some, List, []}
+use Rattle.rope_slice.specs.Path.{Place}
+
+-- the leaves after a path; none after a text in no tree
+abbrev pub after_way : Option Place → List (List ℕ)
+after_way None = []
+after_way (Some p) = p.after

@@ -1,0 +1,48 @@
+-- Where a cursor over chunks starts.
+use Rattle.std.specs.Prelude.{◌≡◌, ⊤, ℕ, ◌+◌, ◌<◌, ◌≤◌, List, length}
+use Rattle.std.specs.List.{concat}
+use Rattle.rope_text.specs.declared.line_breaks.LineBreaks.{LineBreaks}
+use Rattle.rope_text.specs.Text.{byte_len}
+use Rattle.rope_text.specs.Content.{Content}
+use Rattle.rope_text.specs.Conversions.{char_to_line}
+use Rattle.rope_text.specs.Lookup.{chunk_place_at_byte, chunk_place_at_char}
+use Rattle.rope_tree.specs.declared.search.Unit.{Unit}
+use Rattle.rope_tree.specs.declared.search.Unit.TheVariants.{Byte, Char, CodeUnit, LineBreak}
+use Rattle.rope_slice.specs.Path.{Place, leaves}
+
+-- a byte or a character
+abbrev pub IsItem : Unit → Type 0
+IsItem Byte = ⊤
+IsItem Char = ⊤
+IsItem CodeUnit = ⊥
+IsItem LineBreak = ⊥
+
+-- how many of them a text has
+abbrev pub size_in : Unit → List ℕ → ℕ
+size_in Byte text = byte_len text
+size_in Char text = length text
+size_in CodeUnit text = 0
+size_in LineBreak text = 0
+
+-- before which chunk a cursor starts: the one that holds the byte or the character, and at the end past the last
+abbrev pub chunk_place : Unit → List (List ℕ) → ℕ → ℕ
+chunk_place Byte chunks idx = chunk_place_at_byte chunks idx
+chunk_place Char chunks idx = chunk_place_at_char chunks idx
+chunk_place CodeUnit chunks idx = 0
+chunk_place LineBreak chunks idx = 0
+
+-- the bytes, the characters and the line breaks of a text that lie in its first chunks; only breaks that end there are counted
+pub record AreBefore (breaks : LineBreaks) (text : List ℕ) (chunks : List (List ℕ)) (bytes chars count : ℕ) : Type 0 where
+  pub bytes_are : bytes ≡ byte_len (concat chunks)
+  pub chars_are : chars ≡ length (concat chunks)
+  pub count_is : count ≡ char_to_line breaks text chars
+
+-- the chunk at a place holds a byte or a character of a slice, or its end; with the bytes, the characters and the line breaks that
+-- lie before it. A slice with no chunk has the empty text there
+pub record IsHolding (unit : Unit) (idx : ℕ) (c : Content) (p : Place) (bytes chars count : ℕ) : Type 0 where
+  pub text : concat (leaves p) ≡ c.text
+  pub chunks : 0 < length c.text → leaves p ≡ c.chunks
+  pub before : AreBefore c.breaks c.text p.before bytes chars count
+  pub starts : size_in unit (concat p.before) ≤ idx
+  pub within : idx ≤ size_in unit (concat p.before) + size_in unit p.here
+  pub inside : idx < size_in unit c.text → idx < size_in unit (concat p.before) + size_in unit p.here

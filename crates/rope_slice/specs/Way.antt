@@ -1,0 +1,35 @@
+-- How a path keeps its leaf: by the byte at which that starts, and by the list in which it stands.
+use Rattle.std.specs.Prelude.{◌≡◌, ℕ, ◌+◌, ◌-◌, ◌<◌, ◌≤◌, List, [], ◌∷◌, length, take, drop, get_or, All}
+use Rattle.std.specs.List.{concat}
+use Rattle.rope_text.specs.declared.TheConstants.{MAX_CHILDREN}
+use Rattle.rope_text.specs.Text.{byte_len}
+use Rattle.rope_text.specs.Lookup.{chunk_index_at_byte}
+use Rattle.rope_tree.specs.Tree.{Tree, IsTree}
+use Rattle.rope_slice.specs.Path.{Place}
+
+-- the place among the leaves of the one that starts at a byte
+abbrev pub place_at : List (List ℕ) → List ℕ → ℕ → Place
+place_at leaves leaf start = record { before = take (chunk_index_at_byte leaves start) leaves; here = leaf; after = drop (chunk_index_at_byte leaves start + 1) leaves }
+
+-- a leaf with a text
+pub record IsLow (t : Tree) : Type 0 where
+  pub levels : t.height ≤ 0
+  pub some : 0 < length t.leaves
+
+-- these nodes are leaves that follow each other, of which the one at `at` has the number `index` among all
+pub record AreInList (leaves : List (List ℕ)) (index : ℕ) (nodes : List Tree) (at : ℕ) : Type 0 where
+  pub here : 0 < at + length nodes → at < length nodes
+  pub few : length nodes ≤ MAX_CHILDREN
+  pub first : at ≤ index
+  pub last : (index - at) + length nodes ≤ length leaves
+  pub low : All IsLow nodes
+  pub each : (i : ℕ) (d : Tree) → i < length nodes → (get_or nodes i d).leaves ≡ get_or leaves ((index - at) + i) [] ∷ []
+
+-- the leaf of a tree that starts at a byte, in its list of leaves; a tree that is one leaf has no list
+pub record IsWay (t : Tree) (nodes : List Tree) (at : ℕ) (leaf : List ℕ) (start : ℕ) : Type 0 where
+  pub tree : IsTree t
+  pub index : ℕ
+  pub within : index < length t.leaves
+  pub leaf_is : leaf ≡ get_or t.leaves index []
+  pub start_is : start ≡ byte_len (concat (take index t.leaves))
+  pub list : AreInList t.leaves index nodes at

@@ -1,0 +1,187 @@
+//! A cursor over the bytes of a slice.
+ghost use Rattle.std.specs.Prelude.{◌≡◌, ℕ, ◌≤◌, ⊤};
+ghost use Rattle.std.specs.Bool.{MatchBool};
+ghost use Rattle.std.specs.Str.{encode_utf8_all};
+ghost use Rattle.std.specs.Iterator.{YieldsFirstBy, item_count};
+ghost use Rattle.rope_text.specs.Text.{byte_len};
+ghost use Rattle.rope_slice.specs.Found.{GivesWithin};
+ghost use Rattle.rope_text.specs.Sides.{ahead, at_start, at_place, turned, GoesRight, GoesLeft, GoesAhead, StepsBack};
+ghost use Rattle.rope_slice.specs.Slice.{text_of};
+ghost use Rattle.rope_slice.specs.Hints.{CountsAhead};
+
+use crate::point::{end_of, step_chunk};
+use crate::slice::{RopeSlice, within};
+use crate::span::Span;
+use rope_tree::Unit;
+use std::alloc::AllocError;
+use std::iter::ExactSizeIterator;
+use std::marker::Model;
+
+/// A cursor over the bytes of a slice, between two of them. It takes no memory.
+///
+/// As `Debug` it shows where it stands and which way it faces, and no text.
+#[derive(Drop)]
+#[derive_where(Debug)]
+pub struct Bytes<'a> {
+    #[derive_where(skip)]
+    span: Span<'a>,
+    // the span's chunk, kept here so that a step within it is one read
+    #[derive_where(skip)]
+    chunk: &'a str,
+    // the bytes before the chunk, those of the chunk behind the cursor, and all of them
+    before: usize,
+    at: usize,
+    total: usize,
+    is_backward: bool,
+}
+
+impl<'a> Model for Bytes<'a> {
+    ghost use Rattle.std.specs.Prelude.{ℕ};
+    ghost use Rattle.rope_text.specs.Sides.{Sides};
+    ghost use Rattle.rope_slice.specs.Bytes.{at_byte, IsByteCursor};
+
+    ghost Value = { Sides ℕ };
+
+    ghost view = { λ a. at_byte a.span a.chunk.now a.at a.is_backward };
+
+    ghost invariant = { λ a. IsByteCursor a.span a.chunk.now a.at a.before a.total };
+}
+
+impl<'a> RopeSlice<'a> {
+    /// A cursor over the bytes, before the first, facing forward. Costs one or two look-ups; takes no memory.
+    pub fn bytes(&self) -> Bytes<'a>
+        ensures { result ≡ at_start (encode_utf8_all (text_of self.now)) }
+    {
+        self.bytes_at(0)
+    }
+
+    /// A cursor over the bytes, before the byte `byte_idx`, counted from 0, facing forward; for `len_bytes()` it
+    /// stands past the last one.
+    ///
+    /// The index is at most `len_bytes()`. Costs one or two look-ups; takes no memory.
+    pub fn bytes_at(&self, byte_idx: usize) -> Bytes<'a>
+        requires { byte_idx ≤ byte_len (text_of self.now) }
+        ensures { result ≡ at_place (encode_utf8_all (text_of self.now)) byte_idx }
+    {
+        let total = self.info().bytes;
+        let (span, start) = Span::holding(self, Unit::Byte, byte_idx);
+        let chunk = span.chunk();
+        Bytes {
+            span,
+            chunk,
+            at: byte_idx - start.bytes,
+            before: start.bytes,
+            total,
+            is_backward: false,
+        }
+    }
+
+    /// As `bytes_at`, or `None` exactly where the index is past `len_bytes()`. Costs one or two look-ups; takes no
+    /// memory.
+    pub fn get_bytes_at(&self, byte_idx: usize) -> Option<Bytes<'a>>
+        ensures { GivesWithin byte_idx (byte_len (text_of self.now)) result
+            (λ bytes. bytes ≡ at_place (encode_utf8_all (text_of self.now)) byte_idx) }
+    {
+        Some(self.bytes_at(within(byte_idx, self.len_bytes())?))
+    }
+}
+
+impl<'a> Bytes<'a> {
+    // One byte to the left, or to the right.
+    fn step(&mut self, is_left: bool) -> Option<u8>
+        ensures { MatchBool is_left (GoesLeft (λ x. x) self.old result self.new)
+            (GoesRight (λ x. x) self.old result self.new) }
+    {
+        if self.at == end_of(self.chunk.len(), is_left) {
+            if end_of(self.total, is_left) == self.before + self.at {
+                return None;
+            }
+            let (chunk, at) = step_chunk(&mut self.span, is_left)?;
+            self.chunk = chunk;
+            self.before = self.before + self.at - at;
+            self.at = at;
+        }
+        let at = self.at;
+        if is_left {
+            self.at = at - 1;
+            return Some(self.chunk.as_bytes()[at - 1]);
+        }
+        self.at = at + 1;
+        Some(self.chunk.as_bytes()[at])
+    }
+
+    /// The byte behind, to which it steps back; or none at that end, where it stays.
+    #[inline(always)]
+    pub fn prev(&mut self) -> Option<u8>
+        ensures { StepsBack (λ x. x) self.old result self.new }
+    {
+        if self.is_backward {
+            self.step(false)
+        } else {
+            self.step(true)
+        }
+    }
+
+    /// Turns it round where it stands: `next` and `prev` change places.
+    pub fn reverse(&mut self)
+        ensures { self.new ≡ turned self.old }
+    {
+        self.is_backward = !self.is_backward;
+    }
+
+    /// The same cursor turned round.
+    pub fn reversed(mut self) -> Bytes<'a>
+        ensures { result ≡ turned self.entry }
+    {
+        self.reverse();
+        self
+    }
+}
+
+impl<'a> Iterator for Bytes<'a> {
+    type Item = u8;
+
+    ghost next_gives = { YieldsFirstBy (λ x. x) ahead };
+
+    ghost remaining = { item_count ahead };
+
+    /// The next byte, or none at the end, where it stays.
+    #[inline(always)]
+    fn next(&mut self) -> Option<u8>
+        ensures steps { YieldsFirstBy (λ x. x) ahead self.old result self.new }
+        ensures goes { GoesAhead (λ x. x) self.old result self.new }
+    {
+        if self.is_backward {
+            self.step(true)
+        } else {
+            self.step(false)
+        }
+    }
+
+    /// How many bytes it still gives, which is exact.
+    fn size_hint(&self) -> (usize, Option<usize>)
+        ensures { CountsAhead self.now result.0 result.1 }
+    {
+        (self.len(), Some(self.len()))
+    }
+}
+
+impl<'a> ExactSizeIterator for Bytes<'a> {
+    /// How many bytes it still gives.
+    fn len(&self) -> usize {
+        let left = self.total - self.before - self.at;
+        let passed = self.total - left;
+        if self.is_backward { passed } else { left }
+    }
+}
+
+impl<'a> Clone for Bytes<'a> {
+    ghost is_clone = { λ a b. b ≡ a };
+
+    ghost is_infallible = { λ _. ⊤ };
+
+    fn clone(&self) -> Result<Bytes<'a>, AllocError> {
+        let span = self.span.copy();
+        Ok(Bytes { span, ..*self })
+    }
+}

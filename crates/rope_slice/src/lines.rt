@@ -1,0 +1,391 @@
+//! Lines of a slice by their number, and a cursor over them. No call takes memory.
+//!
+//! The slice of all of `"a\nb\n"` has the lines `"a\n"`, `"b\n"` and `""`.
+ghost use Rattle.std.specs.Prelude.{◌≡◌, ◌≤◌, ◌<◌, ◌+◌, ◌++◌, ⊤, false, take, drop, length, MatchOption};
+ghost use Rattle.std.specs.Bool.{MatchBool};
+ghost use Rattle.std.specs.Iterator.{YieldsFirstBy, item_count};
+ghost use Rattle.std.specs.List.{concat};
+ghost use Rattle.std.specs.Str.{chars};
+ghost use Rattle.rope_text.specs.Cutting.{parts_crlf};
+ghost use Rattle.rope_text.specs.Lines.{line_count};
+ghost use Rattle.rope_text.specs.LineParts.{part_between, line_of, lines_of, first_line, last_start};
+ghost use Rattle.rope_text.specs.Sides.{ahead, at_start, at_place, turned, GoesRight, GoesLeft, GoesAhead, StepsBack};
+ghost use Rattle.rope_text.specs.TextInfo.{info_of};
+ghost use Rattle.rope_slice.specs.Slice.{content_of, text_of, chunks_of, breaks_of};
+ghost use Rattle.rope_slice.specs.Caret.{AreChunks, HoldsAhead, PassesLine, PassesBack};
+ghost use Rattle.rope_slice.specs.Path.{leaves};
+ghost use Rattle.rope_slice.specs.Hints.{CountsAhead};
+ghost use Rattle.rope_slice.specs.Edge.{line_info};
+ghost use Rattle.rope_slice.specs.Found.{GivesWithin};
+ghost use Rattle.rope_slice.specs.InChunk.{IsInChunk};
+
+use crate::excerpt::Excerpt;
+use crate::plain::{LinePlace, Plain};
+use crate::point::end_of;
+use crate::slice::{RopeSlice, within};
+use crate::span::Span;
+use rope_text::str_utils::byte_len_of;
+use rope_text::{LineBreaks, TextInfo};
+use std::alloc::AllocError;
+use std::iter::ExactSizeIterator;
+use std::marker::Model;
+
+/// A cursor over the lines of a slice, each with its break. It takes no memory.
+///
+/// A slice has one line more than it has line breaks: after a break at its end there is an empty line.
+///
+/// As `Debug` it shows where it stands and which way it faces, and no text.
+#[derive(Drop)]
+#[derive_where(Debug)]
+pub struct Lines<'a> {
+    #[derive_where(skip)]
+    slice: RopeSlice<'a>,
+    #[derive_where(skip)]
+    caret: Caret<'a>,
+    // the counts of the text before the line
+    #[derive_where(skip)]
+    before: TextInfo,
+    line: usize,
+    total: usize,
+    is_backward: bool,
+}
+
+impl<'a> Model for Lines<'a> {
+    ghost use Rattle.rope_text.specs.Content.{Content};
+    ghost use Rattle.rope_text.specs.Sides.{Sides};
+    ghost use Rattle.rope_slice.specs.Slice.{content_of};
+    ghost use Rattle.rope_slice.specs.Lines.{at_line, IsLineStart};
+
+    ghost Value = { Sides Content };
+
+    ghost view = { λ a. at_line (content_of a.slice) a.line a.is_backward };
+
+    ghost invariant = { λ a. IsLineStart (content_of a.slice) a.caret a.before a.line a.total };
+}
+
+impl<'a> RopeSlice<'a> {
+    // The counts of the text before a line; past the last line those of all of it.
+    fn before_line(&self, line_idx: usize) -> TextInfo
+        requires { line_idx ≤ line_count (breaks_of self.now) (text_of self.now) }
+        ensures { result ≡ line_info (breaks_of self.now) (text_of self.now) line_idx }
+    {
+        match self {
+            RopeSlice::InTree(excerpt) => excerpt.before_line(line_idx),
+            RopeSlice::Alone(plain) => plain.before_line(line_idx),
+        }
+    }
+
+    // The counts of the text before a line, and before the next one; past the last line those of all of it. And what the chunk
+    // in which the line starts has from there on.
+    fn around_line(&self, line_idx: usize) -> LinePlace<'a>
+        requires { line_idx < line_count (breaks_of self.now) (text_of self.now) }
+        ensures start { result.start ≡ line_info (breaks_of self.now) (text_of self.now) line_idx }
+        ensures end { result.end
+            ≡ line_info (breaks_of self.now) (text_of self.now) (line_idx + 1) }
+        ensures held { IsInChunk (text_of self.now) (chunks_of self.now) result.start.chars
+            (chars result.held.now) }
+    {
+        // For the proof: `info` says that a slice has at most `isize::MAX` bytes, so the counts up to the next line fit.
+        let _ = self.info();
+        match self {
+            RopeSlice::InTree(excerpt) => excerpt.around_line(line_idx),
+            RopeSlice::Alone(plain) => plain.around_line(line_idx),
+        }
+    }
+
+    // The slice between two places, by the counts of the text up to them. The first lies in no CR LF. `held` is what a
+    // chunk has from there on: a slice that ends in it is its text, of which nothing is looked up again.
+    #[inline(always)]
+    fn between(&self, from: TextInfo, to: TextInfo, held: &'a str) -> RopeSlice<'a>
+        requires from_is { from
+            ≡ info_of (breaks_of self.now) (take from.chars (text_of self.now)) }
+        requires to_is { to ≡ info_of (breaks_of self.now) (take to.chars (text_of self.now)) }
+        requires ordered { from.chars ≤ to.chars }
+        requires within { to.chars ≤ length (text_of self.now) }
+        requires apart { parts_crlf (take from.chars (text_of self.now))
+            (drop from.chars (text_of self.now)) ≡ false }
+        requires held { IsInChunk (text_of self.now) (chunks_of self.now) from.chars
+            (chars held.now) }
+        ensures { content_of result ≡ part_between (content_of self.now) from.chars to.chars }
+    {
+        let info = to.minus(from);
+        if info.bytes <= held.len() {
+            let text = &held[..info.bytes];
+            let breaks = self.line_breaks();
+            return RopeSlice::Alone(Plain { text, info, breaks });
+        }
+        match self {
+            RopeSlice::InTree(excerpt) => {
+                let node = excerpt.node;
+                let start = excerpt.start.plus(from);
+                let end = excerpt.start.plus(to);
+                RopeSlice::InTree(Excerpt { node, start, end })
+            }
+            RopeSlice::Alone(plain) => {
+                let text = &plain.as_str()[from.bytes..to.bytes];
+                let breaks = plain.breaks;
+                RopeSlice::Alone(Plain { text, info, breaks })
+            }
+        }
+    }
+
+    /// The line `line_idx`, counted from 0, with its line break, as a slice.
+    ///
+    /// The index is below `len_lines()`. Costs a few look-ups, and counts the line; takes no memory.
+    pub fn line(&self, line_idx: usize) -> RopeSlice<'a>
+        requires { line_idx < line_count (breaks_of self.now) (text_of self.now) }
+        ensures { content_of result ≡ line_of (content_of self.now) line_idx }
+    {
+        let line = self.around_line(line_idx);
+        self.between(line.start, line.end, line.held)
+    }
+
+    /// The line `line_idx`, counted from 0, with its line break, or `None` exactly where the index is `len_lines()`
+    /// or past it. Costs a few look-ups, and counts the line; takes no memory.
+    pub fn get_line(&self, line_idx: usize) -> Option<RopeSlice<'a>>
+        ensures { MatchOption result (line_count (breaks_of self.now) (text_of self.now) ≤ line_idx)
+            (λ slice. (line_idx < line_count (breaks_of self.now) (text_of self.now))
+            × (content_of slice ≡ line_of (content_of self.now) line_idx)) }
+    {
+        Some(self.line(within(line_idx, self.len_lines() - 1)?))
+    }
+
+    /// A cursor over the lines, before the first, facing forward. Costs one or two look-ups; takes no memory.
+    pub fn lines(&self) -> Lines<'a>
+        ensures { result ≡ at_start (lines_of (content_of self.now)) }
+    {
+        self.lines_at(0)
+    }
+
+    /// A cursor over the lines, before the line `line_idx`, counted from 0, facing forward; for `len_lines()` it
+    /// stands past the last line.
+    ///
+    /// The index is at most `len_lines()`. Costs one or two look-ups; takes no memory.
+    pub fn lines_at(&self, line_idx: usize) -> Lines<'a>
+        requires { line_idx ≤ line_count (breaks_of self.now) (text_of self.now) }
+        ensures { result ≡ at_place (lines_of (content_of self.now)) line_idx }
+    {
+        let info = self.info();
+        let before = self.before_line(line_idx);
+        let (span, inside) = Span::at(self, info, before.chars);
+        Lines {
+            slice: *self,
+            caret: Caret { span, inside },
+            before,
+            line: line_idx,
+            total: info.break_count + 1,
+            is_backward: false,
+        }
+    }
+
+    /// As `lines_at`, or `None` exactly where the index is past `len_lines()`. Costs one or two look-ups; takes no
+    /// memory.
+    pub fn get_lines_at(&self, line_idx: usize) -> Option<Lines<'a>>
+        ensures { GivesWithin line_idx (line_count (breaks_of self.now) (text_of self.now)) result
+            (λ lines. lines ≡ at_place (lines_of (content_of self.now)) line_idx) }
+    {
+        Some(self.lines_at(within(line_idx, self.len_lines())?))
+    }
+}
+
+impl<'a> Lines<'a> {
+    // One line to the left, or to the right. Inlined, so that of the slice only what the caller asks for is worked out; the text is
+    // read in a call.
+    #[inline(always)]
+    fn step(&mut self, is_left: bool) -> Option<RopeSlice<'a>>
+        ensures { MatchBool is_left (GoesLeft (λ x. content_of x) self.old result self.new)
+            (GoesRight (λ x. content_of x) self.old result self.new) }
+    {
+        if self.line == end_of(self.total, is_left) {
+            return None;
+        }
+        let breaks = self.slice.line_breaks();
+        let here = self.before;
+        if is_left {
+            let line = self.line - 1;
+            let (passed, held) = self.caret.pass_line_back(here.break_count - line, breaks);
+            self.before = here.minus(passed);
+            self.line = line;
+            return Some(self.slice.between(self.before, here, held));
+        }
+        let (passed, held) = self.caret.pass_line(breaks);
+        self.before = here.plus(passed);
+        self.line += 1;
+        Some(self.slice.between(here, self.before, held))
+    }
+
+    /// The line behind, to which it steps back; or none at that end, where it stays. Takes no memory.
+    pub fn prev(&mut self) -> Option<RopeSlice<'a>>
+        ensures { StepsBack (λ x. content_of x) self.old result self.new }
+    {
+        self.step(!self.is_backward)
+    }
+
+    /// Turns it round where it stands: `next` and `prev` change places.
+    pub fn reverse(&mut self)
+        ensures { self.new ≡ turned self.old }
+    {
+        self.is_backward = !self.is_backward;
+    }
+
+    /// The same cursor turned round.
+    pub fn reversed(mut self) -> Lines<'a>
+        ensures { result ≡ turned self.entry }
+    {
+        self.reverse();
+        self
+    }
+}
+
+impl<'a> Iterator for Lines<'a> {
+    type Item = RopeSlice<'a>;
+
+    ghost next_gives = { YieldsFirstBy (λ x. content_of x) ahead };
+
+    ghost remaining = { item_count ahead };
+
+    /// The next line, or none at the end, where it stays.
+    fn next(&mut self) -> Option<RopeSlice<'a>>
+        ensures steps { YieldsFirstBy (λ x. content_of x) ahead self.old result self.new }
+        ensures goes { GoesAhead (λ x. content_of x) self.old result self.new }
+    {
+        self.step(self.is_backward)
+    }
+
+    /// How many lines it still gives, which is exact.
+    fn size_hint(&self) -> (usize, Option<usize>)
+        ensures { CountsAhead self.now result.0 result.1 }
+    {
+        (self.len(), Some(self.len()))
+    }
+}
+
+impl<'a> ExactSizeIterator for Lines<'a> {
+    /// How many lines it still gives.
+    fn len(&self) -> usize {
+        let left = self.total - self.line;
+        if self.is_backward { self.line } else { left }
+    }
+}
+
+impl<'a> Clone for Lines<'a> {
+    ghost is_clone = { λ a b. b ≡ a };
+
+    ghost is_infallible = { λ _. ⊤ };
+
+    fn clone(&self) -> Result<Lines<'a>, AllocError> {
+        let span = self.caret.span.copy();
+        let caret = Caret {
+            span,
+            inside: self.caret.inside,
+        };
+        Ok(Lines { caret, ..*self })
+    }
+}
+
+// A place between two characters of a slice, which goes from line to line: a byte of a chunk.
+#[derive(Drop)]
+struct Caret<'a> {
+    span: Span<'a>,
+    inside: usize,
+}
+
+impl<'a> Model for Caret<'a> {
+    ghost use Rattle.rope_slice.specs.Caret.{Halves, halves_at, IsCaret};
+
+    ghost Value = { Halves };
+
+    ghost view = { λ a. halves_at a.span a.inside };
+
+    ghost invariant = { λ a. IsCaret a.span a.inside };
+}
+
+// From the end of a chunk to the end of a line: the place in the last chunk, and the counts of what was passed. Never
+// inlined, so that a step within one chunk is kept short.
+#[inline(never)]
+fn pass_chunks(span: &mut Span<'_>, breaks: LineBreaks) -> (usize, TextInfo)
+    requires { AreChunks span.old }
+    ensures passes { PassesLine breaks (concat span.old.before ++ span.old.here)
+        (concat span.old.after) span.new result.0 result.1 }
+    ensures same { leaves span.new ≡ leaves span.old }
+{
+    let mut passed = TextInfo::new();
+    while span.step(false) {
+        let more = TextInfo::of_first_line(span.chunk(), breaks);
+        passed = passed.plus(more);
+        if more.break_count > 0 {
+            return (more.bytes, passed);
+        }
+    }
+    (byte_len_of(span.chunk()), passed)
+}
+
+// From the start of a chunk back to the start of a line: the place in the last chunk, and the counts of what was passed.
+fn pass_chunks_back(span: &mut Span<'_>, skip: usize, breaks: LineBreaks) -> (usize, TextInfo)
+    requires { AreChunks span.old }
+    ensures passes { PassesBack breaks skip (concat span.old.before)
+        (span.old.here ++ concat span.old.after) span.new result.0 result.1 }
+    ensures same { leaves span.new ≡ leaves span.old }
+{
+    let mut passed = TextInfo::new();
+    let mut left = skip;
+    while span.step(true) {
+        let chunk = span.chunk();
+        let end = byte_len_of(chunk);
+        let (start, more) = TextInfo::of_last_line(chunk, end, left, breaks);
+        passed = more.plus(passed);
+        if start > 0 {
+            return (start, passed);
+        }
+        left -= more.break_count;
+    }
+    (0, passed)
+}
+
+impl<'a> Caret<'a> {
+    // Goes on past the next line break, or to the end. Answers the counts of what it passed, and what the chunk in which that
+    // starts has from there on.
+    #[inline(never)]
+    fn pass_line(&mut self, breaks: LineBreaks) -> (TextInfo, &'a str)
+        ensures front { self.new.front ≡ self.old.front ++ first_line breaks self.old.back }
+        ensures back { self.old.back ≡ first_line breaks self.old.back ++ self.new.back }
+        ensures chunks { self.new.chunks ≡ self.old.chunks }
+        ensures counts { result.0 ≡ info_of breaks (first_line breaks self.old.back) }
+        ensures held { HoldsAhead self.old (chars result.1.now) }
+    {
+        let held = &self.span.chunk()[self.inside..];
+        let first = TextInfo::of_first_line(held, breaks);
+        if first.break_count > 0 {
+            self.inside += first.bytes;
+            return (first, held);
+        }
+        let (inside, more) = pass_chunks(&mut self.span, breaks);
+        self.inside = inside;
+        (first.plus(more), held)
+    }
+
+    // Goes back past `skip` line breaks, and on to the end of the one before them, or to the start. Answers the counts of what it
+    // passed, and what the chunk has from the new place on. The place is in no CR LF.
+    #[inline(never)]
+    fn pass_line_back(&mut self, skip: usize, breaks: LineBreaks) -> (TextInfo, &'a str)
+        requires { parts_crlf self.old.front self.old.back ≡ false }
+        ensures front { self.new.front
+            ≡ take (last_start breaks self.old.front skip) self.old.front }
+        ensures back { self.new.back
+            ≡ drop (last_start breaks self.old.front skip) self.old.front ++ self.old.back }
+        ensures chunks { self.new.chunks ≡ self.old.chunks }
+        ensures counts { result.0
+            ≡ info_of breaks (drop (last_start breaks self.old.front skip) self.old.front) }
+        ensures held { HoldsAhead self.new (chars result.1.now) }
+    {
+        let chunk = self.span.chunk();
+        let (start, last) = TextInfo::of_last_line(chunk, self.inside, skip, breaks);
+        if start > 0 {
+            self.inside = start;
+            return (last, &chunk[start..]);
+        }
+        let (inside, more) = pass_chunks_back(&mut self.span, skip - last.break_count, breaks);
+        self.inside = inside;
+        (more.plus(last), &self.span.chunk()[inside..])
+    }
+}

@@ -1,0 +1,265 @@
+//! A leaf of a tree, from which a cursor goes to the leaves beside it; and a leaf within a part of the text. No step takes memory.
+ghost use Rattle.std.specs.Prelude.{◌≡◌, ◌+◌, ◌-◌, ◌<◌, ◌≤◌, ◌∷◌, []};
+ghost use Rattle.std.specs.Bool.{OnTrue, OnFalse};
+ghost use Rattle.std.specs.List.{concat};
+ghost use Rattle.std.specs.Str.{chars};
+ghost use Rattle.rope_text.specs.Text.{byte_len};
+ghost use Rattle.rope_text.specs.TextInfo.{info_of};
+ghost use Rattle.rope_tree.specs.Search.{count_of};
+ghost use Rattle.rope_tree.specs.Tree.{IsTree, text};
+ghost use Rattle.rope_slice.specs.Excerpt.{content_of as excerpt_content, text_of as excerpt_text};
+ghost use Rattle.rope_slice.specs.Path.{leaves, IsBeside, IsLast, IsNext, HoldsPlace};
+ghost use Rattle.rope_slice.specs.Way.{IsLow};
+ghost use Rattle.rope_slice.specs.Starts.{IsItem, IsHolding, size_in};
+
+use crate::excerpt::{Before, Excerpt};
+use rope_text::str_utils::byte_len_of;
+use rope_text::{Steps, TextInfo};
+use rope_tree::{Node, Unit, View, count, place_of, total_before};
+use std::marker::Model;
+
+/// A leaf of a tree, seen as the leaves before it, the leaf, and the leaves after it.
+///
+/// It keeps the list in which the leaf stands, so that most steps are one in that list. Where the list ends, the next leaf is
+/// looked up from the root by its first byte, or by its last: once in some twenty steps.
+#[derive(Drop)]
+pub(crate) struct Path<'a> {
+    root: &'a Node,
+    // the children of the node over the leaf, and which of them it is; none where the tree is that leaf
+    nodes: &'a [Node],
+    at: usize,
+    leaf: &'a str,
+    // the bytes of the text before the leaf
+    start: usize,
+}
+
+impl<'a> Model for Path<'a> {
+    ghost use Rattle.std.specs.Str.{chars};
+    ghost use Rattle.rope_slice.specs.Path.{Place};
+    ghost use Rattle.rope_slice.specs.Way.{place_at, IsWay};
+
+    ghost Value = { Place };
+
+    ghost view = { λ a. place_at a.root.now.leaves (chars a.leaf.now) a.start };
+
+    ghost invariant = { λ a. IsWay a.root.now a.nodes.now a.at (chars a.leaf.now) a.start };
+}
+
+// The text of a leaf below another node.
+fn lowest_text(node: &Node) -> &str
+    requires { IsLow node.now }
+    ensures { node.now.leaves ≡ chars result.now ∷ [] }
+{
+    match node.view() {
+        View::Leaf(leaf) => leaf.as_str(),
+        View::Inner(_, _) => unreachable!(),
+    }
+}
+
+// Prefetch: reads the head of each leaf of a list, so that a walk that comes to one after the other doesn't miss on each. Answers
+// whether all have bytes, as leaves have: a caller that tests it keeps the compiler from dropping the reads.
+fn touch_heads(nodes: &[Node]) -> bool {
+    nodes.iter().all(|node| node.info().bytes > 0)
+}
+
+impl<'a> Path<'a> {
+    /// The way to the leaf that holds a place of a tree's text, and the counts of the text before the leaf. It enters each
+    /// node on the way once.
+    // Inlined, since a call would answer the way through memory.
+    #[inline(always)]
+    pub(crate) fn at(root: &'a Node, unit: Unit, idx: usize) -> (Path<'a>, TextInfo)
+        requires within { idx < count_of unit (info_of root.now.breaks (text root.now)) }
+        requires tree { IsTree root.now }
+        ensures leaves { leaves result.0 ≡ root.now.leaves }
+        ensures holds { HoldsPlace unit root.now.breaks idx result.0.before result.0.here result.1 }
+    {
+        let mut here = root;
+        let mut nodes: &[Node] = &[];
+        let (mut at, mut rest, mut before) = (0, idx, TextInfo::new());
+        'down: loop {
+            match here.view() {
+                View::Leaf(leaf) => {
+                    let leaf = leaf.as_str();
+                    let start = before.bytes;
+                    return (
+                        Path {
+                            root,
+                            nodes,
+                            at,
+                            leaf,
+                            start,
+                        },
+                        before,
+                    );
+                }
+                View::Inner(children, totals) => {
+                    at = place_of(totals, unit, rest, &mut Steps::new());
+                    let child = &children[at];
+                    let front = total_before(totals, at);
+                    rest -= count(front, unit);
+                    before = before.plus(front);
+                    nodes = children;
+                    here = child;
+                }
+            }
+        }
+    }
+
+    /// The text of the leaf.
+    pub(crate) fn leaf(&self) -> &'a str
+        ensures { chars result.now ≡ self.now.here }
+    {
+        self.leaf
+    }
+
+    // The leaf that holds a byte of the tree's text. Never inlined: most steps stay in the list of the leaf.
+    #[inline(never)]
+    fn look_up(&self, byte_idx: usize) -> Path<'a>
+        requires { byte_idx < byte_len (concat (leaves self.now)) }
+        ensures leaves { leaves result ≡ leaves self.now }
+        ensures starts { byte_len (concat result.before) ≤ byte_idx }
+        ensures ends { byte_idx < byte_len (concat result.before) + byte_len result.here }
+    {
+        let (path, _) = Path::at(self.root, Unit::Byte, byte_idx);
+        if touch_heads(path.nodes) {
+            return path;
+        }
+        Path::at(self.root, Unit::Byte, byte_idx).0
+    }
+
+    /// Goes to the next leaf, if there is one; else it stays.
+    pub(crate) fn step_on(&mut self) -> bool
+        ensures moved { OnTrue result (IsNext self.old self.new) }
+        ensures stays { OnFalse result (self.new ≡ self.old) }
+        ensures ended { OnFalse result (self.old.after ≡ []) }
+    {
+        let start = self.start + byte_len_of(self.leaf);
+        let at = self.at + 1;
+        if at < self.nodes.len() {
+            self.at = at;
+            self.leaf = lowest_text(&self.nodes[at]);
+            self.start = start;
+            return true;
+        }
+        if start == self.root.info().bytes {
+            return false;
+        }
+        *self = self.look_up(start);
+        true
+    }
+
+    // Goes to the leaf before, if there is one.
+    fn step_back(&mut self) -> bool
+        ensures moved { OnTrue result (IsNext self.new self.old) }
+        ensures stays { OnFalse result (self.new ≡ self.old) }
+        ensures ended { OnFalse result (self.old.before ≡ []) }
+    {
+        if self.start == 0 {
+            return false;
+        }
+        if self.at == 0 {
+            *self = self.look_up(self.start - 1);
+            return true;
+        }
+        let at = self.at - 1;
+        let leaf = lowest_text(&self.nodes[at]);
+        self.at = at;
+        self.leaf = leaf;
+        self.start -= byte_len_of(leaf);
+        true
+    }
+
+    /// Goes to the next leaf, or backward to the one before. Answers whether there is one; else it stays.
+    pub(crate) fn step(&mut self, is_backward: bool) -> bool
+        ensures moved { OnTrue result (IsBeside is_backward self.old self.new) }
+        ensures stays { OnFalse result (self.new ≡ self.old) }
+        ensures ended { OnFalse result (IsLast is_backward self.old) }
+    {
+        if is_backward {
+            self.step_back()
+        } else {
+            self.step_on()
+        }
+    }
+}
+
+/// A chunk of an excerpt of a tree, seen as the chunks before it, the chunk, and the chunks after it.
+#[derive(Drop)]
+pub(crate) struct TreeSpan<'a> {
+    path: Path<'a>,
+    // the bytes of the text before the leaf, of which the chunk is a part
+    at: usize,
+    // those before the part's start, and before its end
+    from: usize,
+    to: usize,
+}
+
+impl<'a> Model for TreeSpan<'a> {
+    ghost use Rattle.rope_slice.specs.Path.{Place};
+    ghost use Rattle.rope_slice.specs.Span.{clipped_at, IsSpanFrom};
+
+    ghost Value = { Place };
+
+    ghost view = { λ a. clipped_at a.path a.from a.to };
+
+    ghost invariant = { λ a. IsSpanFrom a.path a.at a.from a.to };
+}
+
+impl<'a> TreeSpan<'a> {
+    /// The chunk of an excerpt that holds a byte or a character; at the end of the text the last chunk. With it the bytes, the
+    /// characters and the line breaks of the text before it.
+    // Inlined, since a call would answer the way through memory.
+    #[inline(always)]
+    pub(crate) fn holding(excerpt: &Excerpt<'a>, unit: Unit, idx: usize) -> (TreeSpan<'a>, Before)
+        requires unit { IsItem unit }
+        requires within { idx ≤ size_in unit (excerpt_text excerpt.now) }
+        ensures { IsHolding unit idx (excerpt_content excerpt.now)
+            result.0 result.1.bytes result.1.chars result.1.break_count }
+    {
+        let start = excerpt.start;
+        let place = excerpt.place(unit, idx).min(count(excerpt.end, unit) - 1);
+        let (path, before) = Path::at(excerpt.node, unit, place);
+        let (at, from, to) = (before.bytes, start.bytes, excerpt.end.bytes);
+        let span = TreeSpan { path, at, from, to };
+        (span, Before::since(before, start))
+    }
+
+    /// The same chunk, with a way of its own.
+    pub(crate) fn copy(&self) -> TreeSpan<'a>
+        ensures { result ≡ self.now }
+    {
+        let path = Path { ..self.path };
+        TreeSpan { path, ..*self }
+    }
+
+    /// The chunk.
+    pub(crate) fn chunk(&self) -> &'a str
+        ensures { chars result.now ≡ self.now.here }
+    {
+        let leaf = self.path.leaf();
+        let low = self.from.saturating_sub(self.at);
+        let high = (self.to - self.at).min(leaf.len());
+        &leaf[low..high]
+    }
+
+    /// Goes to the next chunk, or backward to the one before. Answers whether there is one; else it stays.
+    pub(crate) fn step(&mut self, is_backward: bool) -> bool
+        ensures moved { OnTrue result (IsBeside is_backward self.old self.new) }
+        ensures stays { OnFalse result (self.new ≡ self.old) }
+        ensures ended { OnFalse result (IsLast is_backward self.old) }
+    {
+        if is_backward {
+            if self.at <= self.from || !self.path.step(true) {
+                return false;
+            }
+            self.at -= self.path.leaf().len();
+            return true;
+        }
+        let len = self.path.leaf().len();
+        if self.to - self.at <= len || !self.path.step(false) {
+            return false;
+        }
+        self.at += len;
+        true
+    }
+}

@@ -1,0 +1,83 @@
+//! The bytes of a slice, in pieces. No step takes memory.
+ghost use Rattle.std.specs.Prelude.{◌≡◌, ◌++◌, [], length};
+ghost use Rattle.std.specs.Str.{chars, encode_utf8_all};
+ghost use Rattle.rope_slice.specs.Slice.{text_of};
+
+use crate::path::Path;
+use crate::slice::RopeSlice;
+use rope_tree::Unit;
+use std::marker::Model;
+
+/// The bytes of a slice from a place on, in pieces as the leaves hold them, forward only. Nothing is read before the next piece is
+/// asked for.
+#[derive(Drop)]
+pub(crate) struct Pieces<'a> {
+    // none for a plain text
+    way: Option<Path<'a>>,
+    // how many bytes of the leaves ahead lie in the slice
+    left: usize,
+}
+
+impl<'a> Model for Pieces<'a> {
+    ghost use Rattle.std.specs.Prelude.{ℕ, List, ◌<◌, length, take, All};
+    ghost use Rattle.std.specs.List.{concat};
+    ghost use Rattle.std.specs.Str.{encode_utf8_all};
+    ghost use Rattle.rope_slice.specs.Pieces.{after_way};
+
+    ghost Value = { List ℕ };
+
+    ghost view = { λ a. take a.left (encode_utf8_all (concat (after_way a.way))) };
+
+    ghost invariant = { λ a. All (λ leaf. 0 < length leaf) (after_way a.way) };
+}
+
+impl<'a> Pieces<'a> {
+    /// The first piece of a slice's bytes, and the pieces after it. The first one is empty only where the slice is.
+    pub(crate) fn of(slice: &RopeSlice<'a>) -> (&'a [u8], Pieces<'a>)
+        ensures bytes { result.0.now ++ result.1 ≡ encode_utf8_all (text_of slice.now) }
+        ensures some { length result.0.now ≡ 0 → result.1 ≡ [] }
+    {
+        match slice {
+            RopeSlice::InTree(excerpt) => {
+                let start = excerpt.start.bytes;
+                let size = excerpt.end.bytes - start;
+                let (path, before) = Path::at(excerpt.node, Unit::Byte, start);
+                let (_, front) = path.leaf().as_bytes().split_at(start - before.bytes);
+                let count = front.len().min(size);
+                let (piece, _) = front.split_at(count);
+                let (way, left) = (Some(path), size - count);
+                (piece, Pieces { way, left })
+            }
+            RopeSlice::Alone(plain) => Pieces::of_text(plain.text),
+        }
+    }
+
+    /// A plain text as the first piece, with none after it.
+    pub(crate) fn of_text(text: &'a str) -> (&'a [u8], Pieces<'a>)
+        ensures bytes { result.0.now ++ result.1 ≡ encode_utf8_all (chars text.now) }
+        ensures some { length result.0.now ≡ 0 → result.1 ≡ [] }
+    {
+        let (way, left) = (None, 0);
+        (text.as_bytes(), Pieces { way, left })
+    }
+
+    /// The next piece; an empty one only at the end, where it stays.
+    pub(crate) fn next_piece(&mut self) -> &'a [u8]
+        ensures bytes { result.now ++ self.new ≡ self.old }
+        ensures some { length result.now ≡ 0 → self.new ≡ [] }
+    {
+        if self.left == 0 {
+            return &[];
+        }
+        let Some(path) = &mut self.way else {
+            return &[];
+        };
+        if !path.step_on() {
+            return &[];
+        }
+        let bytes = path.leaf().as_bytes();
+        let count = bytes.len().min(self.left);
+        self.left -= count;
+        &bytes[..count]
+    }
+}

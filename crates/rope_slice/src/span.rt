@@ -1,0 +1,142 @@
+//! A chunk of a slice, from which a cursor goes to the chunks beside it. No step takes memory.
+ghost use Rattle.std.specs.Prelude.{◌≡◌, ◌+◌, ◌-◌, ◌<◌, ◌≤◌, length};
+ghost use Rattle.std.specs.Bool.{OnTrue, OnFalse};
+ghost use Rattle.std.specs.List.{concat};
+ghost use Rattle.std.specs.Str.{chars};
+ghost use Rattle.rope_text.specs.Conversions.{char_to_byte};
+ghost use Rattle.rope_text.specs.TextInfo.{info_of};
+ghost use Rattle.rope_slice.specs.Slice.{content_of, text_of, chunks_of, breaks_of};
+ghost use Rattle.rope_slice.specs.Path.{IsBeside, IsLast, leaves};
+ghost use Rattle.rope_slice.specs.Starts.{IsItem, IsHolding, size_in};
+
+use crate::excerpt::Before;
+use crate::path::TreeSpan;
+use crate::slice::RopeSlice;
+use rope_text::TextInfo;
+use rope_text::str_utils::char_to_byte_idx;
+use rope_tree::Unit;
+use std::marker::Model;
+
+/// A chunk of a slice, seen as the chunks before it, the chunk, and the chunks after it.
+// A plain text has no way: none is filled or moved for the lines that a screen shows.
+#[derive(Drop)]
+pub(crate) struct Span<'a> {
+    chunk: &'a str,
+    way: Option<TreeSpan<'a>>,
+}
+
+impl<'a> Model for Span<'a> {
+    ghost use Rattle.std.specs.Prelude.{◌≡◌, IfSome};
+    ghost use Rattle.std.specs.Str.{chars};
+    ghost use Rattle.rope_slice.specs.Path.{Place};
+    ghost use Rattle.rope_slice.specs.Span.{place_in};
+
+    ghost Value = { Place };
+
+    ghost view = { λ a. place_in (chars a.chunk.now) a.way };
+
+    ghost invariant = { λ a. IfSome a.way (λ p. p.here ≡ chars a.chunk.now) };
+}
+
+impl<'a> Span<'a> {
+    /// The chunk of a slice that holds a byte or a character; at the end of the text the last chunk. With it the bytes, the
+    /// characters and the line breaks of the text before it. An empty slice has no chunk: then it is the empty text.
+    // Inlined, since a call would answer the way through memory.
+    #[inline(always)]
+    pub(crate) fn holding(slice: &RopeSlice<'a>, unit: Unit, idx: usize) -> (Span<'a>, Before)
+        requires unit { IsItem unit }
+        requires within { idx ≤ size_in unit (text_of slice.now) }
+        ensures { IsHolding unit idx (content_of slice.now)
+            result.0 result.1.bytes result.1.chars result.1.break_count }
+    {
+        match slice {
+            RopeSlice::InTree(excerpt) => {
+                let (way, before) = TreeSpan::holding(excerpt, unit, idx);
+                let chunk = way.chunk();
+                let way = Some(way);
+                (Span { chunk, way }, before)
+            }
+            RopeSlice::Alone(plain) => {
+                let (chunk, way) = (plain.text, None);
+                let before = Before {
+                    bytes: 0,
+                    chars: 0,
+                    break_count: 0,
+                };
+                (Span { chunk, way }, before)
+            }
+        }
+    }
+
+    /// The chunk of a slice that holds a character, and the byte of the chunk at which that character starts. At the end of the
+    /// text it is the last chunk, and its end. An empty slice has no chunk: then it is the empty text. The caller has the slice's
+    /// counts, and passes them in.
+    // Inlined, since a call would answer the way through memory. ASCII: the byte index is the character index, and no byte is read.
+    #[inline(always)]
+    pub(crate) fn at(slice: &RopeSlice<'a>, info: TextInfo, char_idx: usize) -> (Span<'a>, usize)
+        requires info { info ≡ info_of (breaks_of slice.now) (text_of slice.now) }
+        requires within { char_idx ≤ length (text_of slice.now) }
+        ensures text { concat (leaves result.0) ≡ text_of slice.now }
+        ensures chunks { 0 < length (text_of slice.now) → leaves result.0 ≡ chunks_of slice.now }
+        ensures starts { length (concat result.0.before) ≤ char_idx }
+        ensures within { char_idx ≤ length (concat result.0.before) + length result.0.here }
+        ensures byte { result.1
+            ≡ char_to_byte result.0.here (char_idx - length (concat result.0.before)) }
+    {
+        let (span, before) = Span::holding(slice, Unit::Char, char_idx);
+        let within = char_idx - before.chars;
+        let byte = if info.bytes == info.chars {
+            within
+        } else {
+            char_to_byte_idx(span.chunk(), within)
+        };
+        (span, byte)
+    }
+
+    /// The same chunk, with a way of its own.
+    pub(crate) fn copy(&self) -> Span<'a>
+        ensures { result ≡ self.now }
+    {
+        let chunk = self.chunk;
+        let way = match &self.way {
+            Some(way) => Some(way.copy()),
+            None => None,
+        };
+        Span { chunk, way }
+    }
+
+    /// The chunk.
+    pub(crate) fn chunk(&self) -> &'a str
+        ensures { chars result.now ≡ self.now.here }
+    {
+        self.chunk
+    }
+
+    /// Goes to the next chunk, or backward to the one before. Answers whether there is one; else it stays.
+    // Inlined: a plain text has none, which costs no call.
+    #[inline(always)]
+    pub(crate) fn step(&mut self, is_backward: bool) -> bool
+        ensures moved { OnTrue result (IsBeside is_backward self.old self.new) }
+        ensures stays { OnFalse result (self.new ≡ self.old) }
+        ensures ended { OnFalse result (IsLast is_backward self.old) }
+    {
+        self.way.is_some() && self.step_in_tree(is_backward)
+    }
+
+    // The same, for a text that may be plain.
+    #[inline(never)]
+    fn step_in_tree(&mut self, is_backward: bool) -> bool
+        ensures moved { OnTrue result (IsBeside is_backward self.old self.new) }
+        ensures stays { OnFalse result (self.new ≡ self.old) }
+        ensures ended { OnFalse result (IsLast is_backward self.old) }
+    {
+        let Some(way) = &mut self.way else {
+            return false;
+        };
+        if !way.step(is_backward) {
+            return false;
+        }
+        self.chunk = way.chunk();
+        true
+    }
+}
