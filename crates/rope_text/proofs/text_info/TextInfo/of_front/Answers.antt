@@ -1,8 +1,7 @@
-use Rattle.std.proofs.Common.{◌≡◌, ◌≤◌, ℕ, List, length, take, drop, true, false, refl, ap, sym, subst, ◌∙◌, arith}
+use Rattle.std.proofs.Common.{◌≡◌, ℕ, List, length, take, true, refl, ap, sym, subst, ◌∙◌, arith}
 use Rattle.std.proofs.lemmas.List.{length-take-le}
 use Rattle.std.specs.Str.{chars, IsCharBoundary}
-use Rattle.rope_text.specs.Breaks.{break_count}
-use Rattle.rope_text.specs.Conversions.{byte_to_char, char_to_line, byte_to_line}
+use Rattle.rope_text.specs.Conversions.{byte_to_char, char_to_line}
 use Rattle.rope_text.specs.Cuts.{is_cut}
 use Rattle.rope_text.specs.Text.{byte_len, surrogate_count}
 use Rattle.rope_text.specs.TextInfo.{info_of}
