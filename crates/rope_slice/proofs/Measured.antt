@@ -29,7 +29,7 @@ pub record Measured (breaks : LineBreaks) (text : List ℕ) (start end : TextInf
   pub some_bytes : start.bytes < end.bytes
   pub all_bytes : end.bytes ≤ byte_len text
   pub start_units : start.chars + start.utf16_surrogates ≡ utf16_len (take start.chars text)
-  pub surrogates : end.utf16_surrogates ≡ start.utf16_surrogates + surrogate_count (slice_range text start.chars end.chars)
+  pub pairs : end.utf16_surrogates ≡ start.utf16_surrogates + surrogate_count (slice_range text start.chars end.chars)
   pub all_units : end.chars + end.utf16_surrogates ≤ utf16_len text
   pub start_breaks : start.break_count ≡ char_to_line breaks text start.chars
   pub count : end.break_count ≡ start.break_count + break_count breaks (slice_range text start.chars end.chars)
@@ -92,7 +92,7 @@ measured breaks text start end s =
       some_bytes = omega (arith, size_part byte_len IsMeasure-byte_len text a b (omega arith), length_part text a b within, length-le-encodes (slice_range text a b));
       all_bytes = omega (arith, size_le_all byte_len IsMeasure-byte_len text b);
       start_units = omega arith;
-      surrogates = omega (arith, ap surrogate_count (front_and_part text a b (omega arith)), surrogate_count-append (take a text) (slice_range text a b));
+      pairs = omega (arith, ap surrogate_count (front_and_part text a b (omega arith)), surrogate_count-append (take a text) (slice_range text a b));
       all_units = omega (arith, size_le_all utf16_len IsMeasure-utf16_len text b);
       start_breaks = start_breaks;
       count = omega (arith, break_count_part breaks text a b less within);

@@ -104,8 +104,8 @@ module _ (breaks : LineBreaks) (text : List ℕ) (start end : TextInfo) (s : IsE
 pub sums_between : (breaks : LineBreaks) (text : List ℕ) (base from to : TextInfo) → IsExcerpt breaks text (info_sum base from) (info_sum base to) → byte_len text < 2 ^ 63 → HasSum base from × HasSum base to
 sums_between breaks text base from to s fits =
     let m = measured breaks text (info_sum base from) (info_sum base to) s in (
-      record { bytes = omega arith; chars = omega arith; surrogates = omega arith; count = omega arith },
-      record { bytes = omega arith; chars = omega arith; surrogates = omega arith; count = omega arith },
+      record { bytes = omega arith; chars = omega arith; pairs = omega arith; breaks = omega arith },
+      record { bytes = omega arith; chars = omega arith; pairs = omega arith; breaks = omega arith },
     )
 
 -- contents that are the same

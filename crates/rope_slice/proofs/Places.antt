@@ -28,8 +28,8 @@ module _ (breaks : LineBreaks) (text : List ℕ) (start end : TextInfo) (s : IsE
       record {
         bytes = omega (arith, small.bytes);
         chars = omega (arith, small.chars);
-        surrogates = omega (arith, small.surrogates, ap (λ x. x.utf16_surrogates) s.start_is);
-        count = omega (arith, m.start_breaks, char_to_line_upto breaks text start.chars (omega arith), length-upto_le (is_break_end breaks text) start.chars);
+        pairs = omega (arith, small.pairs, ap (λ x. x.utf16_surrogates) s.start_is);
+        breaks = omega (arith, m.start_breaks, char_to_line_upto breaks text start.chars (omega arith), length-upto_le (is_break_end breaks text) start.chars);
       }
 
   pub small_end : IsSmall end

@@ -36,8 +36,8 @@ pub part_of_sum : (total front rest : TextInfo) → total ≡ info_sum front res
 part_of_sum total front rest sum = record {
   bytes = omega (arith, ap (λ i. i.bytes) sum);
   chars = omega (arith, ap (λ i. i.chars) sum);
-  surrogates = omega (arith, ap (λ i. i.utf16_surrogates) sum);
-  count = omega (arith, ap (λ i. i.break_count) sum);
+  pairs = omega (arith, ap (λ i. i.utf16_surrogates) sum);
+  breaks = omega (arith, ap (λ i. i.break_count) sum);
 }
 
 -- and so is what follows it
@@ -45,8 +45,8 @@ pub rest_of_sum : (total front rest : TextInfo) → total ≡ info_sum front res
 rest_of_sum total front rest sum = record {
   bytes = omega (arith, ap (λ i. i.bytes) sum);
   chars = omega (arith, ap (λ i. i.chars) sum);
-  surrogates = omega (arith, ap (λ i. i.utf16_surrogates) sum);
-  count = omega (arith, ap (λ i. i.break_count) sum);
+  pairs = omega (arith, ap (λ i. i.utf16_surrogates) sum);
+  breaks = omega (arith, ap (λ i. i.break_count) sum);
 }
 
 -- no more breaks than characters

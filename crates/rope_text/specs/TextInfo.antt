@@ -23,15 +23,15 @@ info_sum s t = record {
 pub record HasSum (s t : TextInfo) : Type 0 where
   pub bytes : s.bytes + t.bytes < 2 ^ 64
   pub chars : s.chars + t.chars < 2 ^ 64
-  pub surrogates : s.utf16_surrogates + t.utf16_surrogates < 2 ^ 64
-  pub count : s.break_count + t.break_count < 2 ^ 64
+  pub pairs : s.utf16_surrogates + t.utf16_surrogates < 2 ^ 64
+  pub breaks : s.break_count + t.break_count < 2 ^ 64
 
 -- the part is in the total, count by count
 pub record HasPart (total part : TextInfo) : Type 0 where
   pub bytes : part.bytes ≤ total.bytes
   pub chars : part.chars ≤ total.chars
-  pub surrogates : part.utf16_surrogates ≤ total.utf16_surrogates
-  pub count : part.break_count ≤ total.break_count
+  pub pairs : part.utf16_surrogates ≤ total.utf16_surrogates
+  pub breaks : part.break_count ≤ total.break_count
 
 -- one break, where CR meets LF and CR is a break by itself: the two are one break of the joined text
 abbrev pub shared_breaks : LineBreaks → List ℕ → List ℕ → ℕ

@@ -34,12 +34,12 @@ grown_change old new more sum small =
     let breaks = ap (λ x. x.break_count) sum in
     record {
       sum = same_counts (info_sum new no_counts) (info_sum old more) (omega (arith, bytes)) (omega (arith, chars)) (omega (arith, pairs)) (omega (arith, breaks));
-      part = record { bytes = omega arith; chars = omega arith; surrogates = omega arith; count = omega arith };
+      part = record { bytes = omega arith; chars = omega arith; pairs = omega arith; breaks = omega arith };
       low = record {
         bytes = omega (arith, bytes, small.bytes);
         chars = omega (arith, chars, small.chars, small.bytes);
-        pairs = omega (arith, pairs, small.surrogates, small.chars, small.bytes);
-        breaks = omega (arith, breaks, small.count, small.chars, small.bytes);
+        pairs = omega (arith, pairs, small.pairs, small.chars, small.bytes);
+        breaks = omega (arith, breaks, small.breaks, small.chars, small.bytes);
       };
     }
 
@@ -52,7 +52,7 @@ fallen_change old new less sum =
     let breaks = ap (λ x. x.break_count) sum in
     record {
       sum = same_counts (info_sum new less) (info_sum old no_counts) (omega (arith, bytes)) (omega (arith, chars)) (omega (arith, pairs)) (omega (arith, breaks));
-      part = record { bytes = omega (arith, bytes); chars = omega (arith, chars); surrogates = omega (arith, pairs); count = omega (arith, breaks) };
+      part = record { bytes = omega (arith, bytes); chars = omega (arith, chars); pairs = omega (arith, pairs); breaks = omega (arith, breaks) };
       low = record { bytes = omega arith; chars = omega arith; pairs = omega arith; breaks = omega arith };
     }
 
@@ -62,8 +62,8 @@ module _ (before after old new : TextInfo) (c : IsChange before after old new) w
   part_of_part t p = record {
     bytes = omega (arith, p.bytes, c.part.bytes);
     chars = omega (arith, p.chars, c.part.chars);
-    surrogates = omega (arith, p.surrogates, c.part.surrogates);
-    count = omega (arith, p.count, c.part.count);
+    pairs = omega (arith, p.pairs, c.part.pairs);
+    breaks = omega (arith, p.breaks, c.part.breaks);
   }
 
   -- what fits with the one fits with the other

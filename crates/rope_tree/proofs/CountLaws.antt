@@ -64,8 +64,8 @@ counts_around : (breaks : LineBreaks) (f a b : List ℕ) → 1 ≤ length a → 
 counts_around breaks f a b some = record {
   bytes = omega (arith, IsMeasure-byte_len.joined f (a ++ b), IsMeasure-byte_len.joined a b, IsMeasure-byte_len.joined f b);
   chars = omega (arith, length-append f (a ++ b), length-append a b, length-append f b);
-  surrogates = omega (arith, surrogate_count-append f (a ++ b), surrogate_count-append a b, surrogate_count-append f b);
-  count = omega (arith, breaks_inserted breaks f a b some, shared_around breaks f a b some);
+  pairs = omega (arith, surrogate_count-append f (a ++ b), surrogate_count-append a b, surrogate_count-append f b);
+  breaks = omega (arith, breaks_inserted breaks f a b some, shared_around breaks f a b some);
 }
 
 pub counts_grow : (breaks : LineBreaks) (text a : List ℕ) (at : ℕ) → 1 ≤ length a → HasPart (info_of breaks (inserted text at a)) (info_of breaks text)

@@ -216,7 +216,7 @@ module _ (a b : Inside) (ts : List TextInfo) (i : IsTotals a) (view : all_totals
 
 -- a part of a total, and what is put for it, are below the bound too
 pub was_below : (bound : ℕ) (total old : TextInfo) → IsBelow bound total → HasPart total old → IsBelow bound old
-was_below bound total old n p = record { bytes = omega (arith, n.bytes, p.bytes); chars = omega (arith, n.chars, p.chars); pairs = omega (arith, n.pairs, p.surrogates); breaks = omega (arith, n.breaks, p.count) }
+was_below bound total old n p = record { bytes = omega (arith, n.bytes, p.bytes); chars = omega (arith, n.chars, p.chars); pairs = omega (arith, n.pairs, p.pairs); breaks = omega (arith, n.breaks, p.breaks) }
 
 pub is_below : (bound : ℕ) (total old new : TextInfo) → HasPart total old → IsBelowWith bound total old new → IsBelow bound new
-is_below bound total old new p f = record { bytes = omega (arith, p.bytes, f.bytes); chars = omega (arith, p.chars, f.chars); pairs = omega (arith, p.surrogates, f.pairs); breaks = omega (arith, p.count, f.breaks) }
+is_below bound total old new p f = record { bytes = omega (arith, p.bytes, f.bytes); chars = omega (arith, p.chars, f.chars); pairs = omega (arith, p.pairs, f.pairs); breaks = omega (arith, p.breaks, f.breaks) }

@@ -104,8 +104,8 @@ module _ (ts us : List Tree) (k : ℕ) (c u x : Tree) (cut : Cuts ts us k c u x)
       record {
         bytes = omega (arith, ap (λ t. t.bytes) e, ap (λ t. t.bytes) old, all, cut.after.fits);
         chars = omega (arith, first.chars, second.chars);
-        surrogates = omega (arith, first.surrogates, second.surrogates);
-        count = omega (arith, first.count, second.count);
+        pairs = omega (arith, first.pairs, second.pairs);
+        breaks = omega (arith, first.breaks, second.breaks);
       }
 
   -- where the whole text has few bytes, so has each front

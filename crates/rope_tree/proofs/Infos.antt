@@ -19,8 +19,8 @@ pub small_info : (breaks : LineBreaks) (text : List ℕ) → byte_len text < 2 ^
 small_info breaks text fits = record {
   bytes = fits;
   chars = length-le-encodes text;
-  surrogates = count_by-le-length (λ c. nat_le 65536 c) text;
-  count = break_count-le-length breaks text;
+  pairs = count_by-le-length (λ c. nat_le 65536 c) text;
+  breaks = break_count-le-length breaks text;
 }
 
 -- counts that have a sum
@@ -28,16 +28,16 @@ pub sum_of_small : (x y : TextInfo) → IsSmall x → IsSmall y → HasSum x y
 sum_of_small x y a b = record {
   bytes = omega (arith, a.bytes, b.bytes);
   chars = omega (arith, a.bytes, a.chars, b.bytes, b.chars);
-  surrogates = omega (arith, a.bytes, a.chars, a.surrogates, b.bytes, b.chars, b.surrogates);
-  count = omega (arith, a.bytes, a.chars, a.count, b.bytes, b.chars, b.count);
+  pairs = omega (arith, a.bytes, a.chars, a.pairs, b.bytes, b.chars, b.pairs);
+  breaks = omega (arith, a.bytes, a.chars, a.breaks, b.bytes, b.chars, b.breaks);
 }
 
 pub small_sum : (x y : TextInfo) → IsSmall (info_sum x y) → HasSum x y
 small_sum x y a = record {
   bytes = omega (arith, a.bytes);
   chars = omega (arith, a.bytes, a.chars);
-  surrogates = omega (arith, a.bytes, a.chars, a.surrogates);
-  count = omega (arith, a.bytes, a.chars, a.count);
+  pairs = omega (arith, a.bytes, a.chars, a.pairs);
+  breaks = omega (arith, a.bytes, a.chars, a.breaks);
 }
 
 -- none of them is above it
@@ -45,8 +45,8 @@ pub small_below : (info : TextInfo) → IsSmall info → IsBelow (2 ^ 63) info
 small_below info s = record {
   bytes = s.bytes;
   chars = omega (arith, s.bytes, s.chars);
-  pairs = omega (arith, s.bytes, s.chars, s.surrogates);
-  breaks = omega (arith, s.bytes, s.chars, s.count);
+  pairs = omega (arith, s.bytes, s.chars, s.pairs);
+  breaks = omega (arith, s.bytes, s.chars, s.breaks);
 }
 
 -- a character of two code units takes four bytes

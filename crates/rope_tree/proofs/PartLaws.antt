@@ -117,7 +117,7 @@ module _ (xs ts : List Tree) (totals : List TextInfo) (from : ℕ) (p : IsPart t
   small_part k d lt = small_totals (breaks_of p.whole) totals p.whole p.totals_right p.children.fits (from + k) d (omega (arith, part_within ts totals from p, p.totals_right.as_many))
 
   pub has_base : (k : ℕ) (d : TextInfo) → k < length ts → HasPart (get_or totals (from + k) d) base
-  has_base k d lt = rw (total_is k d lt) (record { bytes = omega arith; chars = omega arith; surrogates = omega arith; count = omega arith })
+  has_base k d lt = rw (total_is k d lt) (record { bytes = omega arith; chars = omega arith; pairs = omega arith; breaks = omega arith })
 
   -- where the last total has room in 32 bits, all have
   pub part_fits : (k : ℕ) (d : TextInfo) → k < length ts → (get_or totals (from + length ts - 1) d).bytes + before.bytes < 2 ^ 32 + base.bytes → FitsWith (get_or totals (from + k) d) base before
@@ -131,8 +131,8 @@ module _ (xs ts : List Tree) (totals : List TextInfo) (from : ℕ) (p : IsPart t
       rw (total_is k d lt) (record {
         bytes = omega (arith, last, most, room);
         chars = omega (arith, last, most, room, o.chars, q.chars);
-        pairs = omega (arith, last, most, room, o.chars, q.chars, o.surrogates, q.surrogates);
-        breaks = omega (arith, last, most, room, o.chars, q.chars, o.count, q.count);
+        pairs = omega (arith, last, most, room, o.chars, q.chars, o.pairs, q.pairs);
+        breaks = omega (arith, last, most, room, o.chars, q.chars, o.breaks, q.breaks);
       })
 
   -- the list with them

@@ -41,10 +41,10 @@ sums_cancel x y i e =
     same_counts x y (omega (arith, ap (λ t. t.bytes) e)) (omega (arith, ap (λ t. t.chars) e)) (omega (arith, ap (λ t. t.utf16_surrogates) e)) (omega (arith, ap (λ t. t.break_count) e))
 
 pub part_last : (x i : TextInfo) → HasPart (info_sum x i) i
-part_last x i = record { bytes = omega arith; chars = omega arith; surrogates = omega arith; count = omega arith }
+part_last x i = record { bytes = omega arith; chars = omega arith; pairs = omega arith; breaks = omega arith }
 
 pub part_more : (x i n : TextInfo) → HasPart x i → HasPart (info_sum x n) i
-part_more x i n p = record { bytes = omega (arith, p.bytes); chars = omega (arith, p.chars); surrogates = omega (arith, p.surrogates); count = omega (arith, p.count) }
+part_more x i n p = record { bytes = omega (arith, p.bytes); chars = omega (arith, p.chars); pairs = omega (arith, p.pairs); breaks = omega (arith, p.breaks) }
 
 pub get_or_self : (xs : List Tree) (m : ℕ) (d : Tree) → m < length xs → get_or xs m (get_or xs m d) ≡ get_or xs m d
 get_or_self xs m d within = get_or_default xs m (get_or xs m d) d within

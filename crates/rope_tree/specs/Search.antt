@@ -15,5 +15,5 @@ count_of LineBreak info = info.break_count
 pub record IsSmall (info : TextInfo) : Type 0 where
   pub bytes : info.bytes < 2 ^ 63
   pub chars : info.chars ≤ info.bytes
-  pub surrogates : info.utf16_surrogates ≤ info.chars
-  pub count : info.break_count ≤ info.chars
+  pub pairs : info.utf16_surrogates ≤ info.chars
+  pub breaks : info.break_count ≤ info.chars

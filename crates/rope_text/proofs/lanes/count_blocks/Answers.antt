@@ -26,8 +26,8 @@ plus-counts-requires c =
     record {
       bytes = omega arith;
       chars = omega (arith, so_far.chars, run.chars, begins_le rest, long);
-      surrogates = omega (arith, so_far.pairs, run.pairs, pairs_le rest, long);
-      count = omega (arith, so_far.break_count, run.break_count, byte_break_count_le c.args.breaks rest, long);
+      pairs = omega (arith, so_far.pairs, run.pairs, pairs_le rest, long);
+      breaks = omega (arith, so_far.break_count, run.break_count, byte_break_count_le c.args.breaks rest, long);
     }
 
 pub overflow_add-counts-then-to-at-ge32-2 : goal.overflow_add-counts-then-to-at-ge32-2

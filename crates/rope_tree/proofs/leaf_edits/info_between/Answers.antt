@@ -40,7 +40,7 @@ overflow_add-result c =
     let o = old e in
     let n = new e in
     let m = met (goal.at.overflow_add-result c).After-shared_breaks-2 in
-    omega (arith, o.chars, o.bytes, n.chars, n.bytes, o.count, n.count, m.apart_le, ap (λ i. i.break_count) c.plus-more.ensures.sum)
+    omega (arith, o.chars, o.bytes, n.chars, n.bytes, o.breaks, n.breaks, m.apart_le, ap (λ i. i.break_count) c.plus-more.ensures.sum)
 
 pub overflow_sub-result : goal.overflow_sub-result
 overflow_sub-result c = (met (goal.at.overflow_sub-result c).After-shared_breaks-2).met_le

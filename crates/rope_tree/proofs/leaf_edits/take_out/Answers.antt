@@ -98,7 +98,7 @@ overflow_sub-left-3 c = (less (goal.at.overflow_sub-left-3 c).After-shared_break
 pub overflow_add-left : goal.overflow_add-left
 overflow_add-left c =
     let small = small_info c.args.breaks c.args.leaf.now (omega (arith, c.as_str-text.ensures.fits)) in
-    omega (arith, small.count, small.chars, ap (λ i. i.bytes) c.requires.info, ap (λ i. i.break_count) c.requires.info, c.as_str-text.ensures.fits, (less (goal.at.overflow_add-left c).After-shared_breaks-meeting (parts (goal.at.overflow_add-left c).After-range_from-back)).met_le)
+    omega (arith, small.breaks, small.chars, ap (λ i. i.bytes) c.requires.info, ap (λ i. i.break_count) c.requires.info, c.as_str-text.ensures.fits, (less (goal.at.overflow_add-left c).After-shared_breaks-meeting (parts (goal.at.overflow_add-left c).After-range_from-back)).met_le)
 
 pub overflow_sub-left-4 : goal.overflow_sub-left-4
 overflow_sub-left-4 c = (less (goal.at.overflow_sub-left-4 c).After-shared_breaks-meeting (parts (goal.at.overflow_sub-left-4 c).After-range_from-back)).breaks_le

@@ -88,13 +88,13 @@ pairs : (c : After-shift-4) → ((j : ℕ) → c.args.place ≤ j → j < c.self
     → IsShifted c.self.inside.pairs c.shift-3.new.counts c.args.place c.self.inside.len c.args.old.utf16_surrogates c.args.new.utf16_surrogates
 pairs c p f =
     shifted_row c.self.inside.pairs c.shift-3.new.counts c.args.place c.self.inside.len c.args.old.utf16_surrogates c.args.new.utf16_surrogates c.self.invariant.few c.self.invariant.pairs c.shift-3.ensures.len c.shift-3.ensures.before c.shift-3.ensures.after
-    (λ j le lt. ((p j le lt).surrogates, (f j le lt).pairs))
+    (λ j le lt. ((p j le lt).pairs, (f j le lt).pairs))
 
 breaks : (c : After-shift-4) → ((j : ℕ) → c.args.place ≤ j → j < c.self.inside.len → HasPart (counts_at c.self.inside j) c.args.old) → ((j : ℕ) → c.args.place ≤ j → j < c.self.inside.len → FitsWith (counts_at c.self.inside j) c.args.old c.args.new)
     → IsShifted c.self.inside.breaks c.shift-4.new.counts c.args.place c.self.inside.len c.args.old.break_count c.args.new.break_count
 breaks c p f =
     shifted_row c.self.inside.breaks c.shift-4.new.counts c.args.place c.self.inside.len c.args.old.break_count c.args.new.break_count c.self.invariant.few c.self.invariant.breaks c.shift-4.ensures.len c.shift-4.ensures.before c.shift-4.ensures.after
-    (λ j le lt. ((p j le lt).count, (f j le lt).breaks))
+    (λ j le lt. ((p j le lt).breaks, (f j le lt).breaks))
 
 pub invariant_of-self : goal.invariant_of-self
 invariant_of-self c =
