@@ -21,7 +21,6 @@ use crate::lent::Lent;
 use crate::status::{
     CHAR_INDEX_OUT_OF_BOUNDS, LINE_INDEX_OUT_OF_BOUNDS, NO_ROPE_HELD, OK, status_of,
 };
-use rope_slice::part_of;
 use rope_text::range::char_bounds;
 use ropey::{Rope, RopeSlice};
 
@@ -388,16 +387,7 @@ fn before_line(rope: &Rope, line_idx: usize) -> Counts
     ensures { IsBefore rope.now.breaks rope.now.text
         (line_to_char rope.now.breaks rope.now.text line_idx) result }
 {
-    let whole = rope.slice(..);
-    // For the proof: a slice has at most `isize::MAX` bytes, so the code units before a line are counted.
-    let _ = whole.len_bytes();
-    let before = part_of(whole).before_line(line_idx);
-    Counts {
-        bytes: before.bytes,
-        chars: before.chars,
-        utf16: before.chars + before.utf16_surrogates,
-        line_breaks: before.break_count,
-    }
+    rest_from(rope, rope.line_to_char(line_idx)).1
 }
 
 fn find_lines_from_at<'a>(
@@ -417,7 +407,7 @@ fn find_lines_from_at<'a>(
 }
 
 /// The lines from the line `line_idx` on, as `ropey_lines_from` gives them, and how much of the text lies before the first of
-/// them. Costs a look-up more.
+/// them. Costs two look-ups more.
 ///
 /// # Errors
 ///
