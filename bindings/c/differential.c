@@ -628,6 +628,24 @@ static void slices_at(pair *p) {
     free(rest.chars);
 }
 
+/* A range of bytes, with what lies before it. */
+static void byte_slice_at(pair *p) {
+    const model *m = &p->text;
+    ropey_slice slice = ROPEY_NO_SLICE;
+    ropey_counts before = {77, 77, 77, 77};
+    ropey_range r = drawn_range(counts_of(m).bytes);
+    ropey_status fault = !p->held ? ROPEY_NO_ROPE_HELD : byte_range_fault(m, r);
+    CHECK(ropey_byte_slice_at(&p->rope, r.start, r.end, &slice, &before) == fault);
+    if (fault != ROPEY_OK) {
+        CHECK(slice.counts.bytes == 0 && before.bytes == 77);
+        return;
+    }
+    size_t start = char_at_byte(m, r.start);
+    ropey_counts wanted = counts_before(m, start);
+    see_slice(p, &slice, start, char_at_byte(m, r.end));
+    CHECK(memcmp(&before, &wanted, sizeof before) == 0);
+}
+
 /* Copies and counts of a range. */
 static void range(pair *p) {
     static uint8_t buffer[16 * LONGEST];
@@ -775,7 +793,7 @@ static void step(int k, pair *p, pair *q) {
     case 15: range(p); break;
     case 16: compare(p, q); break;
     case 17: plain(); break;
-    case 18: below(2) ? slices(p) : slices_at(p); break;
+    case 18: (below(3) == 0 ? byte_slice_at : below(2) ? slices : slices_at)(p); break;
     default: build(p); break;
     }
     held_all(NULL);

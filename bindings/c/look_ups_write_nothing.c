@@ -111,6 +111,7 @@ static void look(const ropey_rope *rope, const ropey_rope *other) {
     expect(ropey_line_slice(rope, line, &slices[0]));
     expect(ropey_char_slice(rope, i, chars, &slices[0]));
     expect(ropey_char_slice_at(rope, i, chars, &slices[0], &counts));
+    expect(ropey_byte_slice_at(rope, range.start, range.end, &slices[0], &counts));
     expect(ropey_counts_in_chars_at(rope, i, chars, &counts, &slices[0].counts));
     expect(ropey_lines_from(rope, line, slices, PIECES, &count));
     expect(ropey_lines_before(rope, line, slices, PIECES, &count));

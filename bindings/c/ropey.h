@@ -327,12 +327,16 @@ ropey_status ropey_char_slice_at(const ropey_rope *rope, size_t start, size_t en
 ropey_status ropey_counts_in_chars_at(const ropey_rope *rope, size_t start, size_t end, ropey_counts *counts,
     ropey_counts *before);
 
+/* The bytes from start up to end, with how much of the text lies before start. Refused: NO_ROPE_HELD, BYTE_RANGE_INVALID,
+ * BYTE_RANGE_OUT_OF_BOUNDS, BYTE_RANGE_NOT_CHAR_BOUNDARY. */
+ropey_status ropey_byte_slice_at(const ropey_rope *rope, size_t start, size_t end, ropey_slice *slice, ropey_counts *before);
+
 /* The lines from line_idx on, or those before it, the nearest first, each with its line break, as far as there is room: their
  * number is written to count. One look-up, and then a step a line. Refused: NO_ROPE_HELD, LINE_INDEX_OUT_OF_BOUNDS. */
 ropey_status ropey_lines_from(const ropey_rope *rope, size_t line_idx, ropey_slice *lines, size_t room, size_t *count);
 ropey_status ropey_lines_before(const ropey_rope *rope, size_t line_idx, ropey_slice *lines, size_t room, size_t *count);
 
-/* The lines from line_idx on, with how much of the text lies before the first of them. A look-up more, and the same refusals. */
+/* The lines from line_idx on, with how much of the text lies before the first of them. The same refusals. */
 ropey_status ropey_lines_from_at(const ropey_rope *rope, size_t line_idx, ropey_slice *lines, size_t room, size_t *count,
     ropey_counts *before);
 

@@ -117,6 +117,7 @@ extern "C" {
     fn ropey_text_counts_unchecked(text: *const u8, len: usize, break_set: u32, counts: *mut Counts) -> u32;
     fn ropey_counts_in_chars_at(rope: Held, start: usize, end: usize, counts: *mut Counts, before: *mut Counts) -> u32;
     fn ropey_char_slice_at(rope: Held, start: usize, end: usize, slice: *mut RawSlice, before: *mut Counts) -> u32;
+    fn ropey_byte_slice_at(rope: Held, start: usize, end: usize, slice: *mut RawSlice, before: *mut Counts) -> u32;
 }
 
 /// One lock for all ropes, around every call that may touch a count of owners: clones, edits, frees.
@@ -344,11 +345,6 @@ look_ups! {
     line_slice(line_idx): ropey_line_slice;
 }
 
-look_ups! {
-    Counts => Counts, |counts| counts;
-    counts_in_bytes(start, end): ropey_counts_in_bytes;
-}
-
 impl Root {
     /// The characters from `start` up to `end`, which are in range, and how much lies before them.
     #[inline]
@@ -356,6 +352,15 @@ impl Root {
         let mut before = Counts::NONE;
         let slice = written(|slice| unsafe { ropey_char_slice_at(&self.0, start, end, slice, &mut before) });
         (unsafe { known(slice).lent() }, before)
+    }
+
+    /// The bytes from `start` up to `end`, which are in range, and how much lies before them; none where one of the two lies inside
+    /// a character.
+    #[inline]
+    pub(crate) fn byte_slice(&self, start: usize, end: usize) -> Option<(Lent<'_>, Counts)> {
+        let mut before = Counts::NONE;
+        let slice = written(|slice| unsafe { ropey_byte_slice_at(&self.0, start, end, slice, &mut before) })?;
+        Some((unsafe { slice.lent() }, before))
     }
 
     /// How much the characters from `start` up to `end`, which are in range, hold, and how much lies before them.

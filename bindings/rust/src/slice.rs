@@ -103,14 +103,8 @@ impl<'a> RopeSlice<'a> {
         if root.len_chars() == root.len_bytes() {
             return Some(RopeSlice::of_chars(root, start, end));
         }
-        if end - start <= MAX_BYTES {
-            let (text, before, ..) = known(root.chunk_at_byte(start));
-            if end - before <= text.len() {
-                return text.get(start - before..end - before).map(RopeSlice::from);
-            }
-        }
-        let before = root.counts().minus(root.counts_in_bytes(start, root.len_bytes())?);
-        Some(RopeSlice::of_range(root, before, root.counts_in_bytes(0, end)?.minus(before)))
+        let (lent, before) = root.byte_slice(start, end)?;
+        Some(RopeSlice::of_lent(root, lent, || before))
     }
 
     /// How much lies before a line of a rope.

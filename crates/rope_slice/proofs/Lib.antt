@@ -11,6 +11,7 @@ pub mod ChunkParts
 pub mod LeafParts
 pub mod FoundChunks
 pub mod Kept
+mod KnownPlaces
 mod ChunksAt
 pub mod PartsBetween
 pub mod InChunks

@@ -257,6 +257,9 @@ impl<'a> Excerpt<'a> {
             (self.now.start.chars + byte_to_char (text_of self.now) byte_idx)) }
         ensures whole { IsSome result ↔ (is_char_boundary (text_of self.now) byte_idx ≡ true) }
     {
+        if byte_idx == 0 {
+            return Some(self.start);
+        }
         Some(self.start_at(self.place_of_byte(byte_idx)?))
     }
 

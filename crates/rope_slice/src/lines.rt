@@ -165,17 +165,29 @@ impl<'a> RopeSlice<'a> {
         requires { line_idx ≤ line_count (breaks_of self.now) (text_of self.now) }
         ensures { result ≡ at_place (lines_of (content_of self.now)) line_idx }
     {
-        let info = self.info();
+        self.lines_and_counts_at(line_idx).0
+    }
+
+    /// As `lines_at`, with the counts of the text before the line. Costs one or two look-ups; takes no memory.
+    // Inlined: a call would answer the cursor through memory.
+    #[inline(always)]
+    pub fn lines_and_counts_at(&self, line_idx: usize) -> (Lines<'a>, TextInfo)
+        requires { line_idx ≤ line_count (breaks_of self.now) (text_of self.now) }
+        ensures lines { result.0 ≡ at_place (lines_of (content_of self.now)) line_idx }
+        ensures counts { result.1 ≡ line_info (breaks_of self.now) (text_of self.now) line_idx }
+    {
+        let total = self.info().break_count + 1;
         let before = self.before_line(line_idx);
-        let (span, inside) = Span::at(self, info, before.chars);
-        Lines {
+        let (span, inside) = Span::behind(self, before);
+        let lines = Lines {
             slice: *self,
             caret: Caret { span, inside },
             before,
             line: line_idx,
-            total: info.break_count + 1,
+            total,
             is_backward: false,
-        }
+        };
+        (lines, before)
     }
 
     /// As `lines_at`, or `None` exactly where the index is past `len_lines()`. Costs one or two look-ups; takes no

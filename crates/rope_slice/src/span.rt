@@ -1,9 +1,10 @@
 //! A chunk of a slice, from which a cursor goes to the chunks beside it. No step takes memory.
-ghost use Rattle.std.specs.Prelude.{◌≡◌, ◌+◌, ◌-◌, ◌<◌, ◌≤◌, length};
+ghost use Rattle.std.specs.Prelude.{◌≡◌, ◌+◌, ◌-◌, ◌<◌, ◌≤◌, length, take};
 ghost use Rattle.std.specs.Bool.{OnTrue, OnFalse};
 ghost use Rattle.std.specs.List.{concat};
 ghost use Rattle.std.specs.Str.{chars};
 ghost use Rattle.rope_text.specs.Conversions.{char_to_byte};
+ghost use Rattle.rope_text.specs.Text.{byte_len};
 ghost use Rattle.rope_text.specs.TextInfo.{info_of};
 ghost use Rattle.rope_slice.specs.Slice.{content_of, text_of, chunks_of, breaks_of};
 ghost use Rattle.rope_slice.specs.Path.{IsBeside, IsLast, leaves};
@@ -91,6 +92,25 @@ impl<'a> Span<'a> {
             char_to_byte_idx(span.chunk(), within)
         };
         (span, byte)
+    }
+
+    /// The chunk of a slice in which a place lies, or ends, and the byte of the chunk at which that is. The caller has the counts of
+    /// the text before the place, so no byte is read.
+    // Inlined, since a call would answer the way through memory.
+    #[inline(always)]
+    pub(crate) fn behind(slice: &RopeSlice<'a>, before: TextInfo) -> (Span<'a>, usize)
+        requires within { before.chars ≤ length (text_of slice.now) }
+        requires bytes { before.bytes ≡ byte_len (take before.chars (text_of slice.now)) }
+        ensures text { concat (leaves result.0) ≡ text_of slice.now }
+        ensures chunks { 0 < length (text_of slice.now) → leaves result.0 ≡ chunks_of slice.now }
+        ensures starts { length (concat result.0.before) ≤ before.chars }
+        ensures within { before.chars
+            ≤ length (concat result.0.before) + length result.0.here }
+        ensures byte { result.1
+            ≡ char_to_byte result.0.here (before.chars - length (concat result.0.before)) }
+    {
+        let (span, front) = Span::holding(slice, Unit::Byte, before.bytes);
+        (span, before.bytes - front.bytes)
     }
 
     /// The same chunk, with a way of its own.

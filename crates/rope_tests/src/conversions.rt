@@ -64,9 +64,10 @@ fn expect_counts(text: &str, chars: &[char]) -> Result<(), Failure> {
 /// Fails unless a byte and a code unit belong to their characters.
 fn belong(text: &str, chars: &[char], byte: usize, unit: usize) -> Result<(), Failure> {
     let place = plain_text::byte_to_char(chars, byte);
+    let pairs = plain_text::surrogates_before(chars, chars.len());
     let answers = [
         str_utils::byte_to_char_idx(text, byte),
-        str_utils::byte_to_surrogates(text, byte),
+        str_utils::byte_to_surrogates_of(text, pairs, byte),
         str_utils::utf16_to_char_idx(text, unit),
     ];
     let expected = [

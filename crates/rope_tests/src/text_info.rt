@@ -2,7 +2,7 @@
 use rope_plain::failure::{Failure, within};
 use rope_plain::{holds, same};
 use rope_text::str_utils::{
-    byte_to_char_idx, byte_to_surrogates, char_to_byte_idx, char_to_line_idx, char_to_utf16_idx,
+    byte_to_char_idx, byte_to_surrogates_of, char_to_byte_idx, char_to_line_idx, char_to_utf16_idx,
     count_utf16, line_to_byte_idx, utf16_to_char_idx,
 };
 use rope_text::{LineBreaks, TextInfo};
@@ -42,7 +42,7 @@ impl Counts {
             byte_to_char_idx(text, byte),
             char_to_utf16_idx(text, idx),
             utf16_to_char_idx(text, unit),
-            byte_to_surrogates(text, byte),
+            byte_to_surrogates_of(text, pairs, byte),
             char_to_line_idx(text, idx),
         ];
         same!(found, [byte, idx, unit, idx, pairs, self.break_count]);

@@ -141,7 +141,7 @@ impl TextInfo {
     }
 
     /// The counts of the text before a character, by itself: of a text whose counts are known, and the byte at which that character
-    /// begins. Reads the shorter of the two sides; takes no memory.
+    /// begins. Reads the shorter of the two sides, or the front where the place lies in a CR LF; takes no memory.
     pub fn of_front(
         text: &str,
         info: TextInfo,

@@ -7,6 +7,7 @@
 ghost use Rattle.std.specs.Prelude.{◌≡◌, length, Some, IfOk, IfErr, ◌≤◌, ◌<◌, ◌^◌, MatchOption};
 ghost use Rattle.rope_text.specs.Edit.{byte_range_error};
 ghost use Rattle.rope_text.specs.declared.error.Error.TheVariants.{OutOfMemory};
+ghost use Rattle.rope_slice.specs.Edge.{line_info};
 ghost use Rattle.rope_slice.specs.Sliced.{HasCharRange, HasByteRange, IsCharRange, IsByteRange};
 ghost use Rattle.rope_slice.specs.Ranges.{GivesChars, GivesBytes, IsByteSlice};
 ghost use Rattle.rope_slice.specs.Slice.{content_of, text_of, breaks_of};
@@ -22,7 +23,7 @@ ghost use Rattle.rope_text.specs.Sides.{at_start, at_place};
 use crate::rope::Rope;
 use rope_join::cut::between;
 use rope_slice::{Bytes, Chars, ChunksAt, Excerpt, Lines, RopeSlice};
-use rope_text::{IndexRange, Result};
+use rope_text::{IndexRange, Result, TextInfo};
 use rope_tree::Maker;
 use std::alloc::Global;
 
@@ -216,6 +217,15 @@ impl Rope {
         ensures { result ≡ at_place (lines_of (content self.now)) line_idx }
     {
         self.whole().lines_at(line_idx)
+    }
+
+    /// As `lines_at`, with the counts of the text before the line. Costs one look-up; takes no memory.
+    pub fn lines_and_counts_at(&self, line_idx: usize) -> (Lines<'_>, TextInfo)
+        requires { line_idx ≤ line_count self.now.breaks self.now.text }
+        ensures lines { result.0 ≡ at_place (lines_of (content self.now)) line_idx }
+        ensures counts { result.1 ≡ line_info self.now.breaks self.now.text line_idx }
+    {
+        self.whole().lines_and_counts_at(line_idx)
     }
 
     /// As `bytes_at`, or `None` exactly where the index is past `len_bytes()`. Costs one look-up; takes no memory.

@@ -17,7 +17,7 @@ use Rattle.rope_text.proofs.ClipLaws.{slice_range-slice_range, clip-clip}
 use Rattle.rope_text.proofs.LineLaws.{line_start-le-length}
 use Rattle.rope_text.proofs.LineSeams.{line_start_apart}
 use Rattle.rope_text.proofs.SliceLaws.{breaks_apart}
-use Rattle.rope_text.specs.TextInfo.{info_of}
+use Rattle.rope_slice.specs.Edge.{line_info}
 use Rattle.rope_slice.specs.Sliced.{IsSlice}
 use Rattle.ropey_c.specs.Before.{IsBefore}
 
@@ -46,3 +46,22 @@ part_of_rest whole part a b len ordered within s =
     ap (λ t. of t part.chunks part.breaks) text
     ∙ ap (λ c. of (slice_range whole.text a b) c part.breaks) chunks
     ∙ ap (of (slice_range whole.text a b) (clip whole.chunks a b)) s.breaks
+
+pub before_line : (breaks : LineBreaks) (text : List ℕ) (l : ℕ) (info : TextInfo) → info ≡ line_info breaks text l
+    → IsBefore breaks text (line_to_char breaks text l) (record { bytes = info.bytes; chars = info.chars; utf16 = info.chars + info.utf16_surrogates; line_breaks = info.break_count })
+before_line breaks text l info same =
+    let fits = line_start-le-length breaks text l in record {
+      bytes = ap (λ x. x.bytes) same;
+      chars = ap (λ x. x.chars) same ∙ length-take-le (line_start breaks text l) text fits;
+      utf16 = ap (λ x. x.chars + x.utf16_surrogates) same;
+      line_breaks = ap (λ x. x.break_count) same ∙ sym (breaks_apart breaks text (line_start breaks text l) fits (line_start_apart breaks text l));
+    }
+
+-- so many characters and pairs are counted
+pub units_fit : (breaks : LineBreaks) (text : List ℕ) (l : ℕ) (info : TextInfo) → info ≡ line_info breaks text l → byte_len text < 2 ^ 63
+    → info.chars + info.utf16_surrogates < 2 ^ 64
+units_fit breaks text l info same fits =
+    let front = take (line_start breaks text l) text in
+    let bytes : length front ≤ byte_len front = length-le-encodes front in
+    let pairs : surrogate_count front ≤ length front = count_by-le-length (λ c. nat_le 65536 c) front in
+    omega (arith, ap (λ x. x.chars) same, ap (λ x. x.utf16_surrogates) same, bytes, pairs, byte_parts text (line_start breaks text l), fits)

@@ -1,5 +1,6 @@
 pub mod BuilderHandles
 pub mod Before
+mod ByteParts
 pub mod Bytes
 pub mod Copying
 pub mod Filling

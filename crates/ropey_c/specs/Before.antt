@@ -5,9 +5,9 @@ use Rattle.rope_text.specs.declared.error.Error.{Error}
 use Rattle.rope_text.specs.declared.line_breaks.LineBreaks.{LineBreaks}
 use Rattle.rope_text.specs.Text.{byte_len, utf16_len}
 use Rattle.rope_text.specs.Content.{Content}
-use Rattle.rope_text.specs.Conversions.{char_to_line, line_to_char}
+use Rattle.rope_text.specs.Conversions.{byte_to_char, char_to_line, line_to_char}
 use Rattle.rope_text.specs.LineParts.{lines_of, part_between}
-use Rattle.rope_text.specs.Edit.{char_range_error}
+use Rattle.rope_text.specs.Edit.{char_range_error, byte_range_error}
 use Rattle.ropey.specs.View.{RopeView, content}
 use Rattle.ropey_c.specs.Status.{status_of}
 use Rattle.ropey_c.specs.Counts.{IsCounts}
@@ -33,6 +33,19 @@ abbrev pub SliceOfCharsAt : Option RopeView → ℕ → ℕ → ℕ → Slice �
 SliceOfCharsAt None start end status old new before_old before = (status ≡ NO_ROPE_HELD) × (new ≡ old) × (before ≡ before_old)
 SliceOfCharsAt (Some rope) start end status old new before_old before =
     SliceAt (char_range_error (Some start) (Some end) (length rope.text)) rope start (part_between (content rope) start end)
+    status old new before_old before
+
+-- what is said of a range that may have a fault
+abbrev pub SaysOf : Option Error → ℕ → Type 0
+SaysOf None status = status ≡ OK
+SaysOf (Some e) status = status ≡ status_of e
+
+-- the same of a range of bytes
+abbrev pub SliceOfBytesAt : Option RopeView → ℕ → ℕ → ℕ → Slice → Slice → Counts → Counts → Type 0
+SliceOfBytesAt None start end status old new before_old before = (status ≡ NO_ROPE_HELD) × (new ≡ old) × (before ≡ before_old)
+SliceOfBytesAt (Some rope) start end status old new before_old before =
+    let from = byte_to_char rope.text start in
+    SliceAt (byte_range_error rope.text (Some start) (Some end)) rope from (part_between (content rope) from (byte_to_char rope.text end))
     status old new before_old before
 
 -- the same of how much the part holds

@@ -4,23 +4,27 @@
 //! rope, and are lent for as long as its handle is. No call takes memory.
 #![tactic(auto)]
 
-ghost use Rattle.std.specs.Prelude.{◌≡◌, ◌<◌, ◌≤◌, [], length, drop, Some};
+ghost use Rattle.std.specs.Prelude.{◌≡◌, ◌<◌, ◌≤◌, ◌↔◌, true, [], length, drop, Some, IsSome, IfSome};
 ghost use Rattle.std.specs.Iterator.{IsFinite};
 ghost use Rattle.std.specs.Str.{chars, encode_utf8_all};
-ghost use Rattle.rope_text.specs.Conversions.{line_to_char};
+ghost use Rattle.rope_text.specs.Conversions.{line_to_char, byte_to_char};
+ghost use Rattle.rope_text.specs.Edit.{is_char_boundary, byte_range_error};
+ghost use Rattle.rope_text.specs.Text.{byte_len};
 ghost use Rattle.rope_text.specs.LineParts.{part_between, lines_of};
 ghost use Rattle.rope_text.specs.Lines.{line_count};
+ghost use Rattle.rope_slice.specs.Edge.{line_info};
 ghost use Rattle.rope_slice.specs.Slice.{content_of, text_of, chunks_of, breaks_of};
 ghost use Rattle.ropey.specs.View.{content};
 ghost use Rattle.ropey_c.specs.Handles.{HoldsRope};
 ghost use Rattle.ropey_c.specs.Slices.{shown, shown_as, SliceOfChars, SliceOfLine, ShowsBy, ShowsLinesFrom, ShowsLinesBefore};
-ghost use Rattle.ropey_c.specs.Before.{IsBefore, SliceOfCharsAt, CountsInCharsAt, ShowsLinesAt, ShowsLinesFromAt};
+ghost use Rattle.ropey_c.specs.Before.{IsBefore, SliceOfCharsAt, SliceOfBytesAt, CountsInCharsAt, SaysOf, ShowsLinesAt, ShowsLinesFromAt};
 
 use crate::counts::{Counts, counts_of};
 use crate::lent::Lent;
 use crate::status::{
     CHAR_INDEX_OUT_OF_BOUNDS, LINE_INDEX_OUT_OF_BOUNDS, NO_ROPE_HELD, OK, status_of,
 };
+use rope_text::TextInfo;
 use rope_text::range::char_bounds;
 use ropey::{Rope, RopeSlice};
 
@@ -295,6 +299,76 @@ pub extern "C" fn ropey_char_slice_at<'a>(
     find_chars_at(held, start, end, slice, before)
 }
 
+// The bytes from `start` up to `end`, and how much lies before them; none where one of the two lies inside a character.
+fn part_at_byte(rope: &Rope, start: usize, end: usize) -> Option<(RopeSlice<'_>, Counts)>
+    requires ordered { start ≤ end }
+    requires within { end ≤ byte_len rope.now.text }
+    ensures part { IfSome result (λ found. content_of found.0 ≡ part_between (content rope.now)
+        (byte_to_char rope.now.text start) (byte_to_char rope.now.text end)) }
+    ensures before { IfSome result (λ found.
+        IsBefore rope.now.breaks rope.now.text (byte_to_char rope.now.text start) found.1) }
+    ensures whole { IsSome result ↔ ((is_char_boundary rope.now.text start ≡ true)
+        × (is_char_boundary rope.now.text end ≡ true)) }
+{
+    let rest = rope.get_byte_slice(start..rope.len_bytes())?;
+    let part = rest.get_byte_slice(0..end - start)?;
+    let before = before_rest(rope, rope.len_chars() - rest.len_chars(), &rest);
+    Some((part, before))
+}
+
+// What is said of a range of bytes.
+fn check_bytes(rope: &Rope, start: usize, end: usize) -> u32
+    ensures { SaysOf (byte_range_error rope.now.text (Some start) (Some end)) result }
+{
+    match rope.try_byte_slice(start..end) {
+        Ok(_) => OK,
+        Err(error) => status_of(error),
+    }
+}
+
+fn find_bytes_at<'a>(
+    rope: &'a Rope,
+    start: usize,
+    end: usize,
+    slice: &mut Slice<'a>,
+    before: &mut Counts,
+) -> u32
+    ensures { SliceOfBytesAt (Some rope.now) start end result slice.old slice.new before.old before.new }
+{
+    if start <= end && end <= rope.len_bytes() {
+        if let Some((part, counts)) = part_at_byte(rope, start, end) {
+            *slice = slice_of(&part);
+            *before = counts;
+            return OK;
+        }
+    }
+    check_bytes(rope, start, end)
+}
+
+/// The bytes from `start` up to `end`, counted from 0, as `ropey_char_slice` gives characters, and how much of the text lies
+/// before them. A line break that ends behind `start` is none of those before it.
+///
+/// # Errors
+///
+/// `NO_ROPE_HELD`, then `BYTE_RANGE_INVALID`, then `BYTE_RANGE_OUT_OF_BOUNDS`, then `BYTE_RANGE_NOT_CHAR_BOUNDARY`. Then
+/// nothing is written.
+#[unsafe(no_mangle)]
+pub extern "C" fn ropey_byte_slice_at<'a>(
+    rope: &'a Lent,
+    start: usize,
+    end: usize,
+    slice: &mut Slice<'a>,
+    before: &mut Counts,
+) -> u32
+    ensures answer { SliceOfBytesAt rope.now.rope start end result slice.old slice.new before.old before.new }
+    ensures kept { HoldsRope rope.now.rope }
+{
+    let Some(held) = rope.held() else {
+        return NO_ROPE_HELD;
+    };
+    find_bytes_at(held, start, end, slice, before)
+}
+
 fn count_chars_at(
     rope: &Rope,
     start: usize,
@@ -381,13 +455,20 @@ pub extern "C" fn ropey_lines_at<'a>(
     find_lines_at(held, char_idx, lines, count, before)
 }
 
-// How much lies before a line.
-fn before_line(rope: &Rope, line_idx: usize) -> Counts
-    requires { line_idx ≤ line_count rope.now.breaks rope.now.text }
+// What C sees of the counts of the text before a line.
+fn before_line(rope: &Rope, front: TextInfo, line_idx: usize) -> Counts
+    requires { front ≡ line_info rope.now.breaks rope.now.text line_idx }
     ensures { IsBefore rope.now.breaks rope.now.text
         (line_to_char rope.now.breaks rope.now.text line_idx) result }
 {
-    rest_from(rope, rope.line_to_char(line_idx)).1
+    // For the proof: a rope has at most `isize::MAX` bytes, so the code units before a line are counted.
+    let _ = rope.len_bytes();
+    Counts {
+        bytes: front.bytes,
+        chars: front.chars,
+        utf16: front.chars + front.utf16_surrogates,
+        line_breaks: front.break_count,
+    }
 }
 
 fn find_lines_from_at<'a>(
@@ -399,15 +480,17 @@ fn find_lines_from_at<'a>(
 ) -> u32
     ensures { ShowsLinesFromAt (Some rope.now) line_idx result lines.old lines.new count.old count.new before.old before.new }
 {
-    let status = find_lines(rope, line_idx, lines, count);
-    if status == OK {
-        *before = before_line(rope, line_idx);
+    if line_idx > rope.len_lines() {
+        return LINE_INDEX_OUT_OF_BOUNDS;
     }
-    status
+    let (found, front) = rope.lines_and_counts_at(line_idx);
+    *before = before_line(rope, front, line_idx);
+    *count = fill_slices(found, lines);
+    OK
 }
 
 /// The lines from the line `line_idx` on, as `ropey_lines_from` gives them, and how much of the text lies before the first of
-/// them. Costs two look-ups more.
+/// them. Costs one look-up, and then a step a line.
 ///
 /// # Errors
 ///

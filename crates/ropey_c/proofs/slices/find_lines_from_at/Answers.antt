@@ -1,0 +1,19 @@
+use Rattle.std.proofs.Common.{refl, ap, subst, arith}
+use Rattle.rope_text.specs.Sides.{ahead}
+use Rattle.ropey_c.specs.Slices.{Shows}
+use Rattle.ropey_c.proofs.Showing.{lines_shown}
+use Rattle.ropey_c.proofs.slices.find_lines_from_at.Goals as goal
+
+pub returns : goal.returns
+returns c =
+    let within = c.if-line_idx-len_lines.false in (
+      (
+        λ past. absurd (omega (arith, past, within, c.len_lines.ensures)),
+        λ _. (
+          refl,
+          subst (λ lines. Shows lines c.args.lines.now c.fill_slices.new.slices c.fill_slices.result) (ap ahead c.lines_and_counts_at-found.ensures.lines) (lines_shown _ _ _ _ c.fill_slices.ensures),
+        ),
+      ),
+      λ other. absurd (other refl),
+      λ _. c.before_line.ensures,
+    )
