@@ -1,5 +1,5 @@
 -- A range of bytes, as the first bytes of what is left from its start on.
-use Rattle.std.proofs.Common.{◌≡◌, ℕ, ◌+◌, ◌-◌, ◌<◌, ◌≤◌, true, false, List, Option, Some, None, IsSome, is_some, length, take, drop, sym, ap, subst, ◌∙◌, arith}
+use Rattle.std.proofs.Common.{◌≡◌, ℕ, ◌+◌, ◌-◌, ◌≤◌, true, false, List, Option, Some, None, IsSome, is_some, length, take, drop, sym, ap, subst, ◌∙◌, arith}
 use Rattle.std.proofs.lemmas.List.{take_all, length-drop}
 use Rattle.std.specs.List.{slice_range}
 use Rattle.rope_text.specs.declared.line_breaks.LineBreaks.{LineBreaks}
@@ -9,7 +9,7 @@ use Rattle.rope_text.specs.Cutting.{clip}
 use Rattle.rope_text.specs.Edit.{is_char_boundary, byte_range_error}
 use Rattle.rope_text.specs.LineParts.{part_between}
 use Rattle.rope_text.specs.Text.{byte_len}
-use Rattle.rope_text.proofs.ByteSlices.{IsRange, is_range, range_error-none, end_is_boundary, start_is_boundary, boundary_is, boundary_out, boundary_in, char_at, size_of}
+use Rattle.rope_text.proofs.ByteSlices.{is_range, range_error-none, end_is_boundary, start_is_boundary, boundary_is, boundary_out, boundary_in, char_at, size_of}
 use Rattle.rope_text.proofs.ConversionLaws.{byte_to_char-char_to_byte, byte_to_char-le-length}
 use Rattle.rope_slice.specs.Sliced.{IsSlice}
 use Rattle.ropey_c.proofs.Before.{part_of_rest}
@@ -78,15 +78,15 @@ module _ (whole rest : Content) (start end len : ℕ) (ordered : start ≤ end) 
         let inside = boundary_in whole.text (byte_to_char whole.text start) (length whole.text) start from_within (omega arith) from_is (end - start) room
         (subst (λ (n : ℕ). is_char_boundary whole.text n ≡ true) (sym end_is) h) in
         subst (λ (t : List ℕ). byte_range_error t (Some 0) (Some (end - start)) ≡ None) (sym text_is)
-            (range_error-none (slice_range whole.text (byte_to_char whole.text start) (length whole.text)) 0 (end - start)
-            (record { ordered = omega arith; within = room; starts = start_is_boundary _; ends = inside }))
+        (range_error-none (slice_range whole.text (byte_to_char whole.text start) (length whole.text)) 0 (end - start)
+        (record { ordered = omega arith; within = room; starts = start_is_boundary _; ends = inside }))
 
     pub ends : byte_range_error rest.text (Some 0) (Some (end - start)) ≡ None → is_char_boundary whole.text end ≡ true
     ends none =
         let r = is_range (slice_range whole.text (byte_to_char whole.text start) (length whole.text)) 0 (end - start)
         (subst (λ (t : List ℕ). byte_range_error t (Some 0) (Some (end - start)) ≡ None) text_is none) in
         subst (λ (n : ℕ). is_char_boundary whole.text n ≡ true) end_is
-            (boundary_out whole.text (byte_to_char whole.text start) (length whole.text) start from_within (omega arith) from_is (end - start) room r.ends)
+        (boundary_out whole.text (byte_to_char whole.text start) (length whole.text) start from_within (omega arith) from_is (end - start) room r.ends)
 
     pub part_is : (part : Content) → IsSlice rest (byte_to_char rest.text 0) (byte_to_char rest.text (end - start)) part
         → part ≡ part_between whole (byte_to_char whole.text start) (byte_to_char whole.text end)
@@ -100,6 +100,6 @@ module _ (whole rest : Content) (start end len : ℕ) (ordered : start ≤ end) 
         ∙ ap (λ t. a + byte_to_char t (end - start)) (sym text_is) in
         let few : byte_to_char rest.text (end - start) ≡ b - a = omega (arith, last) in
         part_of_rest whole part a b (length whole.text) (omega (arith, last)) (byte_to_char-le-length whole.text end)
-            (subst (λ (n : ℕ). IsSlice (part_between whole a (length whole.text)) 0 n part) few
-            (subst (λ (n : ℕ). IsSlice (part_between whole a (length whole.text)) n (byte_to_char rest.text (end - start)) part) none
-            (subst (λ (c : Content). IsSlice c (byte_to_char rest.text 0) (byte_to_char rest.text (end - start)) part) rest_is p)))
+        (subst (λ (n : ℕ). IsSlice (part_between whole a (length whole.text)) 0 n part) few
+        (subst (λ (n : ℕ). IsSlice (part_between whole a (length whole.text)) n (byte_to_char rest.text (end - start)) part) none
+        (subst (λ (c : Content). IsSlice c (byte_to_char rest.text 0) (byte_to_char rest.text (end - start)) part) rest_is p)))

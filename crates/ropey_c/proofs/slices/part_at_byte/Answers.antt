@@ -1,4 +1,4 @@
-use Rattle.std.proofs.Common.{◌-◌, refl, sym, ap, ◌∙◌, subst, arith, length, drop}
+use Rattle.std.proofs.Common.{refl, sym, ap, ◌∙◌, subst, arith, drop}
 use Rattle.rope_slice.specs.Slice.{content_of}
 use Rattle.ropey.specs.View.{content}
 use Rattle.ropey_c.specs.Before.{IsBefore}
@@ -29,7 +29,7 @@ returns-clause-part c = parts.part_is (content c.args.rope.now) (content_of c.in
 pub returns-clause-before : goal.returns-clause-before
 returns-clause-before c =
     subst (λ n. IsBefore c.args.rope.now.breaks c.args.rope.now.text n c.before_rest-before.result)
-        (omega (arith, c.len_chars.ensures.value, c.len_chars-2.ensures) ∙ parts.chars_before (content c.args.rope.now) (content_of c.in_ok-rest.rest) c.args.start c.args.end c.len_bytes.result c.requires.ordered c.requires.within c.len_bytes.ensures.value c.in_ok-rest.ensures.0 c.in_ok-rest.ensures.1) c.before_rest-before.ensures
+    (omega (arith, c.len_chars.ensures.value, c.len_chars-2.ensures) ∙ parts.chars_before (content c.args.rope.now) (content_of c.in_ok-rest.rest) c.args.start c.args.end c.len_bytes.result c.requires.ordered c.requires.within c.len_bytes.ensures.value c.in_ok-rest.ensures.0 c.in_ok-rest.ensures.1) c.before_rest-before.ensures
 
 pub returns-clause-whole : goal.returns-clause-whole
 returns-clause-whole c = (λ _. (parts.begins (content c.args.rope.now) (content_of c.in_ok-rest.rest) c.args.start c.args.end c.len_bytes.result c.requires.ordered c.requires.within c.len_bytes.ensures.value c.in_ok-rest.ensures.0 c.in_ok-rest.ensures.1, parts.ends (content c.args.rope.now) (content_of c.in_ok-rest.rest) c.args.start c.args.end c.len_bytes.result c.requires.ordered c.requires.within c.len_bytes.ensures.value c.in_ok-rest.ensures.0 c.in_ok-rest.ensures.1 c.in_ok-part.ensures.0), λ _. refl)

@@ -1,4 +1,4 @@
-use Rattle.std.proofs.Common.{◌≡◌, ◌+◌, ◌∙◌, ℕ, true, sym, ap, refl, subst, arith}
+use Rattle.std.proofs.Common.{◌≡◌, ◌∙◌, ℕ, true, sym, ap, refl, subst, arith}
 use Rattle.rope_text.specs.Conversions.{byte_to_char}
 use Rattle.rope_text.specs.Edit.{is_char_boundary}
 use Rattle.rope_text.proofs.ByteSlices.{start_is_boundary}

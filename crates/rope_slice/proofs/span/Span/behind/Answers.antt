@@ -1,4 +1,4 @@
-use Rattle.std.proofs.Common.{◌≡◌, ℕ, ◌∙◌, arith}
+use Rattle.std.proofs.Common.{arith}
 use Rattle.rope_slice.specs.Slice.{text_of}
 use Rattle.rope_slice.proofs.Carets.{size_front}
 use Rattle.rope_slice.proofs.KnownPlaces as known
