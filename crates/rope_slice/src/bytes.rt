@@ -49,6 +49,7 @@ impl<'a> Model for Bytes<'a> {
 
 impl<'a> RopeSlice<'a> {
     /// A cursor over the bytes, before the first, facing forward. Costs one or two look-ups; takes no memory.
+    #[inline(always)]
     pub fn bytes(&self) -> Bytes<'a>
         ensures { result ≡ at_start (encode_utf8_all (text_of self.now)) }
     {
@@ -59,6 +60,7 @@ impl<'a> RopeSlice<'a> {
     /// stands past the last one.
     ///
     /// The index is at most `len_bytes()`. Costs one or two look-ups; takes no memory.
+    #[inline(always)]
     pub fn bytes_at(&self, byte_idx: usize) -> Bytes<'a>
         requires { byte_idx ≤ byte_len (text_of self.now) }
         ensures { result ≡ at_place (encode_utf8_all (text_of self.now)) byte_idx }

@@ -46,6 +46,7 @@ impl<'a> Model for Chars<'a> {
 
 impl<'a> RopeSlice<'a> {
     /// A cursor over the characters, before the first, facing forward. Costs one or two look-ups; takes no memory.
+    #[inline(always)]
     pub fn chars(&self) -> Chars<'a>
         ensures { result ≡ at_start (text_of self.now) }
     {
@@ -56,6 +57,7 @@ impl<'a> RopeSlice<'a> {
     /// `len_chars()` it stands past the last one.
     ///
     /// The index is at most `len_chars()`. Costs one or two look-ups; takes no memory.
+    #[inline(always)]
     pub fn chars_at(&self, char_idx: usize) -> Chars<'a>
         requires { char_idx ≤ length (text_of self.now) }
         ensures { result ≡ at_place (text_of self.now) char_idx }

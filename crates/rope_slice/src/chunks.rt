@@ -86,6 +86,7 @@ impl<'a> RopeSlice<'a> {
     /// before the cursor.
     ///
     /// The index is at most `len_bytes()`. Costs one or two look-ups; takes no memory.
+    #[inline(always)]
     pub fn chunks_at_byte(&self, byte_idx: usize) -> ChunksAt<'a>
         requires { byte_idx ≤ byte_len (text_of self.now) }
         ensures { StandsBefore (content_of self.now)
@@ -99,6 +100,7 @@ impl<'a> RopeSlice<'a> {
     /// that end before the cursor.
     ///
     /// The index is at most `len_chars()`. Costs one or two look-ups; takes no memory.
+    #[inline(always)]
     pub fn chunks_at_char(&self, char_idx: usize) -> ChunksAt<'a>
         requires { char_idx ≤ length (text_of self.now) }
         ensures { StandsBefore (content_of self.now)
@@ -112,6 +114,7 @@ impl<'a> RopeSlice<'a> {
     /// of bytes, of characters and of line breaks that end before the cursor.
     ///
     /// The index is at most `len_lines()`. Costs one or two look-ups; takes no memory.
+    #[inline(always)]
     pub fn chunks_at_line_break(&self, line_break_idx: usize) -> ChunksAt<'a>
         requires { line_break_idx ≤ line_count (breaks_of self.now) (text_of self.now) }
         ensures { StandsBefore (content_of self.now)

@@ -15,6 +15,7 @@ use rope_text::{Steps, TextInfo};
 use rope_tree::{Found, Node, Unit, convert_in, count, leaf_at};
 
 // The counts of the text before a line that is not the first, and what follows there of the leaf in which the break before it ends.
+#[inline(always)]
 fn line_start_at(node: &Node, line_idx: usize) -> (TextInfo, &str)
     requires later { 0 < line_idx }
     requires within { line_idx < line_count node.now.breaks (text node.now) }
@@ -138,6 +139,7 @@ impl<'a> Excerpt<'a> {
     }
 
     // The place of a character: the leaf that holds it, and how many of the leaf's bytes and characters stand before it.
+    #[inline(always)]
     fn place_of_char(&self, char_idx: usize) -> LeafPlace<'a>
         requires { char_idx < length (text_of self.now) }
         ensures place { IsLeafPlace self.now.node.now (self.now.start.chars + char_idx)
@@ -156,6 +158,7 @@ impl<'a> Excerpt<'a> {
     }
 
     // The place of the character that begins at a byte; none where the byte lies inside a character.
+    #[inline(always)]
     fn place_of_byte(&self, byte_idx: usize) -> Option<LeafPlace<'a>>
         requires { byte_idx < byte_len (text_of self.now) }
         ensures some { IfSome result (λ place. IsLeafPlace self.now.node.now
@@ -182,6 +185,7 @@ impl<'a> Excerpt<'a> {
     }
 
     // The `start` of its part from a place on.
+    #[inline(always)]
     fn start_at(&self, place: LeafPlace<'a>) -> TextInfo
         requires place { IsLeafPlace self.now.node.now (place.found.before.chars + place.chars)
             place.found.leaf place.found.before place.bytes place.chars }
@@ -207,6 +211,7 @@ impl<'a> Excerpt<'a> {
     }
 
     // The `end` of its part up to a place.
+    #[inline(always)]
     fn end_at(&self, place: LeafPlace<'a>) -> TextInfo
         requires place { IsLeafPlace self.now.node.now (place.found.before.chars + place.chars)
             place.found.leaf place.found.before place.bytes place.chars }
@@ -226,6 +231,7 @@ impl<'a> Excerpt<'a> {
     }
 
     /// The `start` of its part from a character on.
+    #[inline(always)]
     pub(crate) fn start_of(&self, char_idx: usize) -> TextInfo
         requires { char_idx < length (text_of self.now) }
         ensures { result ≡ start_info self.now.node.now.breaks (text self.now.node.now)
@@ -238,6 +244,7 @@ impl<'a> Excerpt<'a> {
     }
 
     /// The `end` of its part up to a character.
+    #[inline(always)]
     pub(crate) fn end_of(&self, char_idx: usize) -> TextInfo
         requires { char_idx ≤ length (text_of self.now) }
         ensures { result ≡ end_info self.now.node.now.breaks (text self.now.node.now)
@@ -250,6 +257,7 @@ impl<'a> Excerpt<'a> {
     }
 
     /// The `start` of its part from the character on that begins at a byte; none where the byte lies inside a character.
+    #[inline(always)]
     pub(crate) fn start_of_byte(&self, byte_idx: usize) -> Option<TextInfo>
         requires { byte_idx < byte_len (text_of self.now) }
         ensures some { IfSome result (λ start. start
@@ -264,6 +272,7 @@ impl<'a> Excerpt<'a> {
     }
 
     /// The `end` of its part up to the character that begins at a byte; none where the byte lies inside a character.
+    #[inline(always)]
     pub(crate) fn end_of_byte(&self, byte_idx: usize) -> Option<TextInfo>
         requires { byte_idx ≤ byte_len (text_of self.now) }
         ensures some { IfSome result (λ end. end
@@ -293,6 +302,7 @@ impl<'a> Excerpt<'a> {
     }
 
     /// The counts of its text before a line; past the last line those of all of it.
+    #[inline(always)]
     pub(crate) fn before_line(&self, line_idx: usize) -> TextInfo
         requires { line_idx ≤ line_count (breaks_of self.now) (text_of self.now) }
         ensures { result ≡ line_info (breaks_of self.now) (text_of self.now) line_idx }
@@ -310,6 +320,7 @@ impl<'a> Excerpt<'a> {
 
     /// The counts of its text before a line, and before the next one; past the last line those of all of it. And what the leaf
     /// in which the line starts has from there on. One look-up, where the line ends before that leaf does.
+    #[inline(always)]
     pub(crate) fn around_line(&self, line_idx: usize) -> LinePlace<'a>
         requires { line_idx < line_count (breaks_of self.now) (text_of self.now) }
         ensures start { result.start ≡ line_info (breaks_of self.now) (text_of self.now) line_idx }

@@ -21,6 +21,9 @@
 //! - `laws`: equality, order and hash; each cursor steps through the list of its items
 #![tactic(auto)]
 
+// What answers a slice, a cursor or several counts is inlined, where it is short or the start of a hot path: a call would store the
+// answer in words, and a caller that moves it would stall on loading it again wider.
+
 mod bytes;
 mod chars;
 mod chunks;

@@ -65,6 +65,7 @@ impl<'a> Model for Lines<'a> {
 
 impl<'a> RopeSlice<'a> {
     // The counts of the text before a line; past the last line those of all of it.
+    #[inline(always)]
     fn before_line(&self, line_idx: usize) -> TextInfo
         requires { line_idx ≤ line_count (breaks_of self.now) (text_of self.now) }
         ensures { result ≡ line_info (breaks_of self.now) (text_of self.now) line_idx }
@@ -77,6 +78,7 @@ impl<'a> RopeSlice<'a> {
 
     // The counts of the text before a line, and before the next one; past the last line those of all of it. And what the chunk
     // in which the line starts has from there on.
+    #[inline(always)]
     fn around_line(&self, line_idx: usize) -> LinePlace<'a>
         requires { line_idx < line_count (breaks_of self.now) (text_of self.now) }
         ensures start { result.start ≡ line_info (breaks_of self.now) (text_of self.now) line_idx }
@@ -151,6 +153,7 @@ impl<'a> RopeSlice<'a> {
     }
 
     /// A cursor over the lines, before the first, facing forward. Costs one or two look-ups; takes no memory.
+    #[inline(always)]
     pub fn lines(&self) -> Lines<'a>
         ensures { result ≡ at_start (lines_of (content_of self.now)) }
     {
@@ -161,6 +164,7 @@ impl<'a> RopeSlice<'a> {
     /// stands past the last line.
     ///
     /// The index is at most `len_lines()`. Costs one or two look-ups; takes no memory.
+    #[inline(always)]
     pub fn lines_at(&self, line_idx: usize) -> Lines<'a>
         requires { line_idx ≤ line_count (breaks_of self.now) (text_of self.now) }
         ensures { result ≡ at_place (lines_of (content_of self.now)) line_idx }
@@ -169,7 +173,6 @@ impl<'a> RopeSlice<'a> {
     }
 
     /// As `lines_at`, with the counts of the text before the line. Costs one or two look-ups; takes no memory.
-    // Inlined: a call would answer the cursor through memory.
     #[inline(always)]
     pub fn lines_and_counts_at(&self, line_idx: usize) -> (Lines<'a>, TextInfo)
         requires { line_idx ≤ line_count (breaks_of self.now) (text_of self.now) }
@@ -227,6 +230,7 @@ impl<'a> Lines<'a> {
     }
 
     /// The line behind, to which it steps back; or none at that end, where it stays. Takes no memory.
+    #[inline(always)]
     pub fn prev(&mut self) -> Option<RopeSlice<'a>>
         ensures { StepsBack (λ x. content_of x) self.old result self.new }
     {
@@ -257,6 +261,7 @@ impl<'a> Iterator for Lines<'a> {
     ghost remaining = { item_count ahead };
 
     /// The next line, or none at the end, where it stays.
+    #[inline(always)]
     fn next(&mut self) -> Option<RopeSlice<'a>>
         ensures steps { YieldsFirstBy (λ x. content_of x) ahead self.old result self.new }
         ensures goes { GoesAhead (λ x. content_of x) self.old result self.new }
@@ -285,6 +290,7 @@ impl<'a> Clone for Lines<'a> {
 
     ghost is_infallible = { λ _. ⊤ };
 
+    #[inline(always)]
     fn clone(&self) -> Result<Lines<'a>, AllocError> {
         let span = self.caret.span.copy();
         let caret = Caret {

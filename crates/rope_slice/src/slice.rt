@@ -206,6 +206,7 @@ impl<'a> RopeSlice<'a> {
     ///
     /// The range's bounds are at most `len_chars()`, and its start is at most its end. Costs a few look-ups, or a
     /// count of the text where it is plain; takes no memory.
+    #[inline(always)]
     pub fn slice<R: IndexRange>(&self, range: R) -> RopeSlice<'a>
         requires { HasCharRange (text_of self.now) (R.given_start range) (R.given_end range) }
         ensures { IsCharRange (content_of self.now) (R.given_start range) (R.given_end range)
@@ -216,6 +217,7 @@ impl<'a> RopeSlice<'a> {
 
     /// As `slice`, or `None` exactly where a bound is past `len_chars()` or the range's start is past its end.
     /// Costs a few look-ups, or a count of the text where it is plain; takes no memory.
+    #[inline(always)]
     pub fn get_slice<R: IndexRange>(&self, range: R) -> Option<RopeSlice<'a>>
         ensures { GivesChars (content_of self.now) (R.given_start range) (R.given_end range)
             result }
@@ -232,6 +234,7 @@ impl<'a> RopeSlice<'a> {
     /// First `ByteRangeInvalid`, where both bounds are given and the start is past the end; then
     /// `ByteRangeOutOfBounds`, where a given bound is past `len_bytes()`; then `ByteRangeNotCharBoundary`, where a
     /// given bound lies inside a character.
+    #[inline(always)]
     pub fn try_byte_slice<R: IndexRange>(&self, range: R) -> Result<RopeSlice<'a>>
         ensures ok { IfOk result
             (IsByteSlice (content_of self.now) (R.given_start range) (R.given_end range)) }
@@ -256,6 +259,7 @@ impl<'a> RopeSlice<'a> {
 
     /// As `byte_slice`, or `None` exactly where `try_byte_slice` returns an error. Costs a few look-ups, or a count
     /// of the text where it is plain; takes no memory.
+    #[inline(always)]
     pub fn get_byte_slice<R: IndexRange>(&self, range: R) -> Option<RopeSlice<'a>>
         ensures { GivesBytes (content_of self.now) (R.given_start range) (R.given_end range)
             result }
@@ -267,6 +271,7 @@ impl<'a> RopeSlice<'a> {
     ///
     /// The range's bounds are at most `len_bytes()`, its start is at most its end, and no bound lies inside a
     /// character. Costs a few look-ups, or a count of the text where it is plain; takes no memory.
+    #[inline(always)]
     pub fn byte_slice<R: IndexRange>(&self, range: R) -> RopeSlice<'a>
         requires { HasByteRange (text_of self.now) (R.given_start range) (R.given_end range) }
         ensures { IsByteRange (content_of self.now) (R.given_start range) (R.given_end range)

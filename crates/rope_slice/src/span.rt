@@ -114,6 +114,7 @@ impl<'a> Span<'a> {
     }
 
     /// The same chunk, with a way of its own.
+    #[inline(always)]
     pub(crate) fn copy(&self) -> Span<'a>
         ensures { result ≡ self.now }
     {

@@ -1,7 +1,7 @@
 //! The counts and conversions of plain texts against their partners.
 use rope_plain::failure::{Failure, within};
 use rope_plain::{plain_text, same};
-use rope_text::{LineBreaks, str_utils};
+use rope_text::{LineBreaks, TextInfo, str_utils};
 use std::alloc::Global;
 
 const LETTERS: [char; 9] = [
@@ -64,7 +64,7 @@ fn expect_counts(text: &str, chars: &[char]) -> Result<(), Failure> {
 /// Fails unless a byte and a code unit belong to their characters.
 fn belong(text: &str, chars: &[char], byte: usize, unit: usize) -> Result<(), Failure> {
     let place = plain_text::byte_to_char(chars, byte);
-    let pairs = plain_text::surrogates_before(chars, chars.len());
+    let pairs = TextInfo::from_str(text, LineBreaks::Lf).utf16_surrogates;
     let answers = [
         str_utils::byte_to_char_idx(text, byte),
         str_utils::byte_to_surrogates_of(text, pairs, byte),

@@ -37,12 +37,13 @@ impl Counts {
         let idx = usize::from(k) + usize::from(self.chars);
         let pairs = usize::from(self.pairs);
         let unit = idx + pairs;
+        let counted = TextInfo::from_str(text, LineBreaks::Lf).utf16_surrogates;
         let found = [
             char_to_byte_idx(text, idx),
             byte_to_char_idx(text, byte),
             char_to_utf16_idx(text, idx),
             utf16_to_char_idx(text, unit),
-            byte_to_surrogates_of(text, pairs, byte),
+            byte_to_surrogates_of(text, counted, byte),
             char_to_line_idx(text, idx),
         ];
         same!(found, [byte, idx, unit, idx, pairs, self.break_count]);

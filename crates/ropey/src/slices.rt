@@ -27,8 +27,11 @@ use rope_text::{IndexRange, Result, TextInfo};
 use rope_tree::Maker;
 use std::alloc::Global;
 
+// Inlined, as they are in rope_slice: a call would store the slice or the cursor in words, and a caller that moves it would stall on
+// loading it again wider.
 impl Rope {
     // All of it.
+    #[inline(always)]
     pub(crate) fn whole(&self) -> RopeSlice<'_>
         ensures content { content_of result ≡ content self.now }
         ensures few { length self.now.chunks < 2 ^ 63 }
@@ -41,6 +44,7 @@ impl Rope {
     ///
     /// The range's bounds are at most `len_chars()`, and its start is at most its end. Costs two look-ups; takes no
     /// memory.
+    #[inline(always)]
     pub fn slice<R: IndexRange>(&self, range: R) -> RopeSlice<'_>
         requires { HasCharRange self.now.text (R.given_start range) (R.given_end range) }
         ensures { IsCharRange (content self.now) (R.given_start range) (R.given_end range)
@@ -51,6 +55,7 @@ impl Rope {
 
     /// As `slice`, or `None` exactly where a bound is past `len_chars()` or the range's start is past its end.
     /// Costs two look-ups; takes no memory.
+    #[inline(always)]
     pub fn get_slice<R: IndexRange>(&self, range: R) -> Option<RopeSlice<'_>>
         ensures { GivesChars (content self.now) (R.given_start range) (R.given_end range) result }
     {
@@ -61,6 +66,7 @@ impl Rope {
     ///
     /// The range's bounds are at most `len_bytes()`, its start is at most its end, and no bound lies inside a
     /// character. Costs two look-ups; takes no memory.
+    #[inline(always)]
     pub fn byte_slice<R: IndexRange>(&self, range: R) -> RopeSlice<'_>
         requires { HasByteRange self.now.text (R.given_start range) (R.given_end range) }
         ensures { IsByteRange (content self.now) (R.given_start range) (R.given_end range)
@@ -87,6 +93,7 @@ impl Rope {
 
     /// As `byte_slice`, or `None` exactly where `try_byte_slice` returns an error. Costs two look-ups; takes no
     /// memory.
+    #[inline(always)]
     pub fn get_byte_slice<R: IndexRange>(&self, range: R) -> Option<RopeSlice<'_>>
         ensures { GivesBytes (content self.now) (R.given_start range) (R.given_end range) result }
     {
@@ -117,6 +124,7 @@ impl Rope {
     }
 
     /// A cursor over the bytes, before the first, facing forward. Costs one look-up; takes no memory.
+    #[inline(always)]
     pub fn bytes(&self) -> Bytes<'_>
         ensures { result ≡ at_start (encode_utf8_all self.now.text) }
     {
@@ -127,6 +135,7 @@ impl Rope {
     /// stands past the last one.
     ///
     /// The index is at most `len_bytes()`. Costs one look-up; takes no memory.
+    #[inline(always)]
     pub fn bytes_at(&self, byte_idx: usize) -> Bytes<'_>
         requires { byte_idx ≤ byte_len self.now.text }
         ensures { result ≡ at_place (encode_utf8_all self.now.text) byte_idx }
@@ -135,6 +144,7 @@ impl Rope {
     }
 
     /// A cursor over the characters, before the first, facing forward. Costs one look-up; takes no memory.
+    #[inline(always)]
     pub fn chars(&self) -> Chars<'_>
         ensures { result ≡ at_start self.now.text }
     {
@@ -145,6 +155,7 @@ impl Rope {
     /// `len_chars()` it stands past the last one.
     ///
     /// The index is at most `len_chars()`. Costs one look-up; takes no memory.
+    #[inline(always)]
     pub fn chars_at(&self, char_idx: usize) -> Chars<'_>
         requires { char_idx ≤ length self.now.text }
         ensures { result ≡ at_place self.now.text char_idx }
@@ -157,6 +168,7 @@ impl Rope {
     /// before the cursor.
     ///
     /// The index is at most `len_bytes()`. Costs one look-up; takes no memory.
+    #[inline(always)]
     pub fn chunks_at_byte(&self, byte_idx: usize) -> ChunksAt<'_>
         requires { byte_idx ≤ byte_len self.now.text }
         ensures { StandsBefore (content self.now)
@@ -170,6 +182,7 @@ impl Rope {
     /// that end before the cursor.
     ///
     /// The index is at most `len_chars()`. Costs one look-up; takes no memory.
+    #[inline(always)]
     pub fn chunks_at_char(&self, char_idx: usize) -> ChunksAt<'_>
         requires { char_idx ≤ length self.now.text }
         ensures { StandsBefore (content self.now)
@@ -183,6 +196,7 @@ impl Rope {
     /// of bytes, of characters and of line breaks that end before the cursor.
     ///
     /// The index is at most `len_lines()`. Costs one look-up; takes no memory.
+    #[inline(always)]
     pub fn chunks_at_line_break(&self, line_break_idx: usize) -> ChunksAt<'_>
         requires { line_break_idx ≤ line_count self.now.breaks self.now.text }
         ensures { StandsBefore (content self.now)
@@ -202,6 +216,7 @@ impl Rope {
     }
 
     /// A cursor over the lines, before the first, facing forward. Costs one look-up; takes no memory.
+    #[inline(always)]
     pub fn lines(&self) -> Lines<'_>
         ensures { result ≡ at_start (lines_of (content self.now)) }
     {
@@ -212,6 +227,7 @@ impl Rope {
     /// stands past the last line.
     ///
     /// The index is at most `len_lines()`. Costs one look-up; takes no memory.
+    #[inline(always)]
     pub fn lines_at(&self, line_idx: usize) -> Lines<'_>
         requires { line_idx ≤ line_count self.now.breaks self.now.text }
         ensures { result ≡ at_place (lines_of (content self.now)) line_idx }
@@ -220,6 +236,7 @@ impl Rope {
     }
 
     /// As `lines_at`, with the counts of the text before the line. Costs one look-up; takes no memory.
+    #[inline(always)]
     pub fn lines_and_counts_at(&self, line_idx: usize) -> (Lines<'_>, TextInfo)
         requires { line_idx ≤ line_count self.now.breaks self.now.text }
         ensures lines { result.0 ≡ at_place (lines_of (content self.now)) line_idx }

@@ -22,6 +22,7 @@ pub struct Counts {
     pub line_breaks: usize,
 }
 
+#[inline(always)]
 pub(crate) fn counts_of(slice: &RopeSlice<'_>) -> Counts
     ensures { IsCounts (breaks_of slice.now) (text_of slice.now) result }
 {

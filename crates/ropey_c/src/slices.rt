@@ -43,6 +43,7 @@ fn bytes_of(text: &str) -> &[u8]
 }
 
 // The bytes of a slice that lies in one chunk, and else none.
+#[inline(always)]
 fn lent_of<'a>(slice: &RopeSlice<'a>) -> &'a [u8]
     ensures one { length (chunks_of slice.now) ≤ 1 → result.now ≡ encode_utf8_all (text_of slice.now) }
     ensures more { 1 < length (chunks_of slice.now) → result.now ≡ [] }
@@ -53,6 +54,7 @@ fn lent_of<'a>(slice: &RopeSlice<'a>) -> &'a [u8]
     }
 }
 
+#[inline(always)]
 fn slice_of<'a>(slice: &RopeSlice<'a>) -> Slice<'a>
     ensures { shown result ≡ shown_as (content_of slice.now) }
 {
@@ -219,6 +221,7 @@ pub extern "C" fn ropey_lines_before<'a>(
 }
 
 // How much lies before a character, from which on the text is `rest`.
+#[inline(always)]
 fn before_rest(rope: &Rope, char_idx: usize, rest: &RopeSlice<'_>) -> Counts
     requires within { char_idx ≤ length rope.now.text }
     requires rest { text_of rest.now ≡ drop char_idx rope.now.text }
@@ -234,6 +237,7 @@ fn before_rest(rope: &Rope, char_idx: usize, rest: &RopeSlice<'_>) -> Counts
 }
 
 // The text from a character on, and how much lies before it.
+#[inline(always)]
 fn rest_from(rope: &Rope, char_idx: usize) -> (RopeSlice<'_>, Counts)
     requires within { char_idx ≤ length rope.now.text }
     ensures rest { content_of result.0
@@ -246,6 +250,7 @@ fn rest_from(rope: &Rope, char_idx: usize) -> (RopeSlice<'_>, Counts)
 }
 
 // The characters from `start` up to `end`, and how much lies before them.
+#[inline(always)]
 fn part_at(rope: &Rope, start: usize, end: usize) -> (RopeSlice<'_>, Counts)
     requires ordered { start ≤ end }
     requires within { end ≤ length rope.now.text }
@@ -300,6 +305,7 @@ pub extern "C" fn ropey_char_slice_at<'a>(
 }
 
 // The bytes from `start` up to `end`, and how much lies before them; none where one of the two lies inside a character.
+#[inline(always)]
 fn part_at_byte(rope: &Rope, start: usize, end: usize) -> Option<(RopeSlice<'_>, Counts)>
     requires ordered { start ≤ end }
     requires within { end ≤ byte_len rope.now.text }
@@ -456,6 +462,7 @@ pub extern "C" fn ropey_lines_at<'a>(
 }
 
 // What C sees of the counts of the text before a line.
+#[inline(always)]
 fn before_line(rope: &Rope, front: TextInfo, line_idx: usize) -> Counts
     requires { front ≡ line_info rope.now.breaks rope.now.text line_idx }
     ensures { IsBefore rope.now.breaks rope.now.text

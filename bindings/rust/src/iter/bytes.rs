@@ -14,11 +14,12 @@ use crate::iter::{counted_cursor, Chunks, InChunk};
 /// ```
 #[derive(Clone)]
 pub struct Bytes<'a> {
-    // Behind the chunk, in which the cursor stands at the byte `idx`.
+    // Behind the chunk, before which lie so many bytes, and in which the cursor stands at the byte `idx`: a step changes that
+    // alone.
     chunks: Chunks<'a>,
     chunk: &'a [u8],
+    before: usize,
     idx: usize,
-    passed: usize,
     total: usize,
     is_reversed: bool,
 }
@@ -29,30 +30,32 @@ impl<'a> Bytes<'a> {
     /// In a chunk, at the byte `idx` of it and the byte `passed` of all.
     #[inline]
     pub(crate) fn at((chunks, text, idx): InChunk<'a>, passed: usize, total: usize) -> Bytes<'a> {
-        Bytes { chunks, chunk: text.as_bytes(), idx, passed, total, is_reversed: false }
+        Bytes { chunks, chunk: text.as_bytes(), before: passed - idx, idx, total, is_reversed: false }
+    }
+
+    #[inline]
+    fn passed(&self) -> usize {
+        self.before + self.idx
     }
 
     #[inline(always)]
     fn forward(&mut self) -> Option<u8> {
         if self.idx == self.chunk.len() {
             self.chunk = self.chunks.forward()?.as_bytes();
-            self.idx = 0;
+            (self.before, self.idx) = (self.before + self.idx, 0);
         }
-        let byte = *self.chunk.get(self.idx)?;
+        let byte = self.chunk.get(self.idx);
         self.idx += 1;
-        self.passed += 1;
-        Some(byte)
+        byte.copied()
     }
 
     #[inline(always)]
     fn backward(&mut self) -> Option<u8> {
         if self.idx == 0 {
             self.chunk = self.chunks.back()?.as_bytes();
-            self.idx = self.chunk.len();
+            (self.before, self.idx) = (self.before - self.chunk.len(), self.chunk.len());
         }
-        let byte = *self.chunk.get(self.idx - 1)?;
         self.idx -= 1;
-        self.passed -= 1;
-        Some(byte)
+        self.chunk.get(self.idx).copied()
     }
 }

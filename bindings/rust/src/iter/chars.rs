@@ -22,6 +22,9 @@ pub struct Chars<'a> {
     chunk: &'a str,
     side: str::Chars<'a>,
     is_ahead: bool,
+    // The same side as it was when the cursor came there, and how many characters it had passed by then. Those that it passed
+    // since are counted where they are asked for, so that a step changes `side` alone.
+    whole: &'a str,
     passed: usize,
     total: usize,
     is_reversed: bool,
@@ -33,42 +36,50 @@ impl<'a> Chars<'a> {
     /// In a chunk, at the byte `idx` of it and the character `passed` of all.
     #[inline]
     pub(crate) fn at((chunks, chunk, idx): InChunk<'a>, passed: usize, total: usize) -> Chars<'a> {
-        Chars { chunks, chunk, side: chunk[idx..].chars(), is_ahead: true, passed, total, is_reversed: false }
+        let whole = &chunk[idx..];
+        Chars { chunks, chunk, side: whole.chars(), is_ahead: true, whole, passed, total, is_reversed: false }
+    }
+
+    fn passed(&self) -> usize {
+        let left = self.side.as_str().len();
+        if self.is_ahead {
+            self.passed + self.whole[..self.whole.len() - left].chars().count()
+        } else {
+            self.passed - self.whole[left..].chars().count()
+        }
+    }
+
+    /// Comes to one side of a place in the chunk.
+    fn face(&mut self, whole: &'a str, is_ahead: bool) {
+        (self.passed, self.is_ahead) = (self.passed(), is_ahead);
+        (self.whole, self.side) = (whole, whole.chars());
     }
 
     #[inline(always)]
     fn forward(&mut self) -> Option<char> {
         if !self.is_ahead {
-            self.side = self.chunk[self.side.as_str().len()..].chars();
-            self.is_ahead = true;
+            self.face(&self.chunk[self.side.as_str().len()..], true);
         }
-        let c = match self.side.next() {
-            Some(c) => c,
-            None => {
-                self.chunk = self.chunks.forward()?;
-                self.side = self.chunk.chars();
-                self.side.next()?
-            }
-        };
-        self.passed += 1;
-        Some(c)
+        let next = self.side.next();
+        if next.is_some() {
+            return next;
+        }
+        self.chunk = self.chunks.forward()?;
+        self.face(self.chunk, true);
+        self.side.next()
     }
 
     #[inline(always)]
     fn backward(&mut self) -> Option<char> {
         if self.is_ahead {
-            self.side = self.chunk[..self.chunk.len() - self.side.as_str().len()].chars();
-            self.is_ahead = false;
+            self.face(&self.chunk[..self.chunk.len() - self.side.as_str().len()], false);
         }
-        let c = match self.side.next_back() {
-            Some(c) => c,
-            None => {
-                self.chunk = self.chunks.back()?;
-                self.side = self.chunk.chars();
-                self.side.next_back()?
-            }
-        };
-        self.passed -= 1;
-        Some(c)
+        let last = self.side.next_back();
+        if last.is_some() {
+            return last;
+        }
+        self.chunk = self.chunks.back()?;
+        self.face(self.chunk, false);
+        self.side.next_back()
     }
 }

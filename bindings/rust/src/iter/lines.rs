@@ -44,6 +44,10 @@ impl<'a> Lines<'a> {
         Lines { slice, is_whole, window, idx, passed: line_idx, total, is_reversed: false }
     }
 
+    fn passed(&self) -> usize {
+        self.passed
+    }
+
     #[inline(always)]
     fn forward(&mut self) -> Option<RopeSlice<'a>> {
         if self.passed == self.total {

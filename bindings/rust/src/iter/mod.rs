@@ -86,7 +86,7 @@ macro_rules! counted_cursor {
         crate::iter::cursor!($name, $item, {
             #[inline]
             fn size_hint(&self) -> (usize, Option<usize>) {
-                let left = if self.is_reversed { self.passed } else { self.total - self.passed };
+                let left = if self.is_reversed { self.passed() } else { self.total - self.passed() };
                 (left, Some(left))
             }
         });
