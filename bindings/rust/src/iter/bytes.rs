@@ -24,18 +24,13 @@ pub struct Bytes<'a> {
     is_reversed: bool,
 }
 
-counted_cursor!(Bytes, u8);
+counted_cursor!(Bytes, u8, |bytes: &Bytes<'_>| bytes.before + bytes.idx);
 
 impl<'a> Bytes<'a> {
     /// In a chunk, at the byte `idx` of it and the byte `passed` of all.
     #[inline]
     pub(crate) fn at((chunks, text, idx): InChunk<'a>, passed: usize, total: usize) -> Bytes<'a> {
         Bytes { chunks, chunk: text.as_bytes(), before: passed - idx, idx, total, is_reversed: false }
-    }
-
-    #[inline]
-    fn passed(&self) -> usize {
-        self.before + self.idx
     }
 
     #[inline(always)]

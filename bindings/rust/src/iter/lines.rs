@@ -27,7 +27,7 @@ pub struct Lines<'a> {
     is_reversed: bool,
 }
 
-counted_cursor!(Lines, RopeSlice<'a>);
+counted_cursor!(Lines, RopeSlice<'a>, |lines: &Lines<'_>| lines.passed);
 
 impl Clone for Lines<'_> {
     fn clone(&self) -> Self {
@@ -42,10 +42,6 @@ impl<'a> Lines<'a> {
         let (is_whole, total) = (slice.is_whole(), slice.len_lines());
         let window = Window::new((line_idx == 0).then(|| slice.start()), is_whole || line_idx == 0);
         Lines { slice, is_whole, window, idx, passed: line_idx, total, is_reversed: false }
-    }
-
-    fn passed(&self) -> usize {
-        self.passed
     }
 
     #[inline(always)]

@@ -80,13 +80,13 @@ macro_rules! cursor {
     };
 }
 
-/// A cursor that knows how many items it has passed, of how many.
+/// A cursor that can tell how many items it has passed, of how many.
 macro_rules! counted_cursor {
-    ($name:ident, $item:ty) => {
+    ($name:ident, $item:ty, $passed:expr) => {
         crate::iter::cursor!($name, $item, {
             #[inline]
             fn size_hint(&self) -> (usize, Option<usize>) {
-                let left = if self.is_reversed { self.passed() } else { self.total - self.passed() };
+                let left = if self.is_reversed { ($passed)(self) } else { self.total - ($passed)(self) };
                 (left, Some(left))
             }
         });
