@@ -101,6 +101,21 @@ fn shift_wide(totals: &mut [TextInfo], from: usize, old: TextInfo, new: TextInfo
     }
 }
 
+/// The same counts, in a place of their own. A call takes counts by their address: were those that an
+/// edit has just stored in words passed on as they are, the narrow path would load them as vectors,
+/// and stall.
+#[inline(always)]
+fn copied(info: TextInfo) -> TextInfo
+    ensures { result ≡ info }
+{
+    TextInfo {
+        bytes: info.bytes,
+        chars: info.chars,
+        utf16_surrogates: info.utf16_surrogates,
+        break_count: info.break_count,
+    }
+}
+
 /// A text of so many bytes may have counts that don't fit in 32 bits.
 const TOO_WIDE: usize = 4_294_967_296;
 
@@ -253,7 +268,9 @@ impl Totals {
     {
         match &mut self.width {
             Width::Narrow(totals) => totals.retotal(place, old, new),
-            Width::Wide(totals) => shift_wide(totals.as_mut_slice(), place, old, new),
+            Width::Wide(totals) => {
+                shift_wide(totals.as_mut_slice(), place, copied(old), copied(new))
+            }
         }
     }
 }

@@ -19,8 +19,11 @@ use rope_text::{Error, MAX_SHORT_BYTES, MAX_TEXT_BYTES, Result, Steps};
 use rope_tree::{Maker, insert_at};
 use std::mem;
 
+// The calls without `try_` are inlined: each call in between would store the seven words of an answer and load them again, some by one
+// load over two stores, which stalls.
 impl Rope {
     // What makes the nodes of an edit, where the counts begin with 0.
+    #[inline(always)]
     fn begin_edit(&self, steps: &mut Steps) -> Maker
         ensures zero { steps.new ≡ record { nodes = 0; compares = 0; made = 0 } }
         ensures none { result.made ≡ 0 }
@@ -30,6 +33,7 @@ impl Rope {
     }
 
     // Puts a text before a character, and counts the nodes that are made.
+    #[inline(always)]
     fn insert_made(&mut self, char_idx: usize, text: &str, maker: &mut Maker) -> Result<()>
         requires { char_idx ≤ length self.old.text }
         ensures ok { OnOk result (IsInsert self.old.text char_idx (chars text.now) self.new.text) }
@@ -85,6 +89,7 @@ impl Rope {
     ///
     /// First `TooLong`, where the text would have more than `isize::MAX` bytes; then `OutOfMemory`. A refused call
     /// leaves the rope as it was.
+    #[inline(always)]
     pub fn insert(&mut self, char_idx: usize, text: &str) -> Result<()>
         requires { char_idx ≤ length self.old.text }
         ensures ok { OnOk result (IsInsert self.old.text char_idx (chars text.now) self.new.text) }
@@ -106,6 +111,7 @@ impl Rope {
     /// # Errors
     ///
     /// First `TooLong`, then `OutOfMemory`, as for `insert`. A refused call leaves the rope as it was.
+    #[inline(always)]
     pub fn insert_counted(&mut self, char_idx: usize, text: &str, steps: &mut Steps) -> Result<()>
         requires { char_idx ≤ length self.old.text }
         ensures ok { OnOk result (IsInsert self.old.text char_idx (chars text.now) self.new.text) }
@@ -150,6 +156,7 @@ impl Rope {
     ///
     /// First `TooLong`, where the text would have more than `isize::MAX` bytes; then `OutOfMemory`. A refused call
     /// leaves the rope as it was.
+    #[inline(always)]
     pub fn insert_char(&mut self, char_idx: usize, c: char) -> Result<()>
         requires { char_idx ≤ length self.old.text }
         ensures ok { OnOk result (IsInsert self.old.text char_idx (c ∷ []) self.new.text) }
@@ -167,6 +174,7 @@ impl Rope {
     /// # Errors
     ///
     /// First `TooLong`, then `OutOfMemory`, as for `insert_char`. A refused call leaves the rope as it was.
+    #[inline(always)]
     pub fn insert_char_counted(&mut self, char_idx: usize, c: char, steps: &mut Steps) -> Result<()>
         requires { char_idx ≤ length self.old.text }
         ensures ok { OnOk result (IsInsert self.old.text char_idx (c ∷ []) self.new.text) }
@@ -272,6 +280,7 @@ impl Rope {
     /// # Errors
     ///
     /// `OutOfMemory`. A refused call leaves the rope as it was.
+    #[inline(always)]
     pub fn remove<R: IndexRange>(&mut self, range: R) -> Result<()>
         requires { HasCharRange self.old.text (R.given_start range) (R.given_end range) }
         ensures ok { OnOk result
@@ -292,6 +301,7 @@ impl Rope {
     /// # Errors
     ///
     /// `OutOfMemory`. A refused call leaves the rope as it was.
+    #[inline(always)]
     pub fn remove_counted<R: IndexRange>(&mut self, range: R, steps: &mut Steps) -> Result<()>
         requires { HasCharRange self.old.text (R.given_start range) (R.given_end range) }
         ensures ok { OnOk result
