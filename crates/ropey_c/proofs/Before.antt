@@ -30,22 +30,27 @@ byte_parts text i = size_parts byte_len IsMeasure-byte_len text i
 pub utf16_parts : (text : List ℕ) (i : ℕ) → utf16_len (take i text) + utf16_len (drop i text) ≡ utf16_len text
 utf16_parts text i = size_parts utf16_len IsMeasure-utf16_len text i
 
+-- a slice is the part between its bounds
+pub slice_is : (whole part : Content) (a b : ℕ) → IsSlice whole a b part → part ≡ part_between whole a b
+slice_is whole part a b s =
+    let of : List ℕ → List (List ℕ) → LineBreaks → Content = λ text chunks breaks. record { text = text; chunks = chunks; breaks = breaks } in
+    ap (λ t. of t part.chunks part.breaks) s.text
+    ∙ ap (λ c. of (slice_range whole.text a b) c part.breaks) s.chunks
+    ∙ ap (of (slice_range whole.text a b) (clip whole.chunks a b)) s.breaks
+
 -- the first characters of what is left from a on are those up to b
 pub part_of_rest : (whole part : Content) (a b len : ℕ) → a ≤ b → b ≤ len → IsSlice (part_between whole a len) 0 (b - a) part → part ≡ part_between whole a b
 part_of_rest whole part a b len ordered within s =
-    let of : List ℕ → List (List ℕ) → LineBreaks → Content = λ text chunks breaks. record { text = text; chunks = chunks; breaks = breaks } in
     let inside : b - a ≤ len - a = omega arith in
     let start : a + 0 ≡ a = omega arith in
     let end : a + (b - a) ≡ b = omega arith in
-    let text : part.text ≡ slice_range whole.text a b =
-    s.text ∙ slice_range-slice_range whole.text a len 0 (b - a) inside
-    ∙ ap (λ n. slice_range whole.text n (a + (b - a))) start ∙ ap (λ n. slice_range whole.text a n) end in
-    let chunks : part.chunks ≡ clip whole.chunks a b =
-    s.chunks ∙ clip-clip whole.chunks a len 0 (b - a) inside
-    ∙ ap (λ n. clip whole.chunks n (a + (b - a))) start ∙ ap (λ n. clip whole.chunks a n) end in
-    ap (λ t. of t part.chunks part.breaks) text
-    ∙ ap (λ c. of (slice_range whole.text a b) c part.breaks) chunks
-    ∙ ap (of (slice_range whole.text a b) (clip whole.chunks a b)) s.breaks
+    slice_is whole part a b (record {
+      text = s.text ∙ slice_range-slice_range whole.text a len 0 (b - a) inside
+          ∙ ap (λ n. slice_range whole.text n (a + (b - a))) start ∙ ap (λ n. slice_range whole.text a n) end;
+      chunks = s.chunks ∙ clip-clip whole.chunks a len 0 (b - a) inside
+          ∙ ap (λ n. clip whole.chunks n (a + (b - a))) start ∙ ap (λ n. clip whole.chunks a n) end;
+      breaks = s.breaks;
+    })
 
 pub before_line : (breaks : LineBreaks) (text : List ℕ) (l : ℕ) (info : TextInfo) → info ≡ line_info breaks text l
     → IsBefore breaks text (line_to_char breaks text l) (record { bytes = info.bytes; chars = info.chars; utf16 = info.chars + info.utf16_surrogates; line_breaks = info.break_count })

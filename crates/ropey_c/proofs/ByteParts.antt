@@ -2,29 +2,20 @@
 use Rattle.std.proofs.Common.{◌≡◌, ℕ, ◌+◌, ◌-◌, ◌≤◌, true, false, List, Option, Some, None, IsSome, is_some, length, take, drop, sym, ap, subst, ◌∙◌, arith}
 use Rattle.std.proofs.lemmas.List.{take_all, length-drop}
 use Rattle.std.specs.List.{slice_range}
-use Rattle.rope_text.specs.declared.line_breaks.LineBreaks.{LineBreaks}
 use Rattle.rope_text.specs.Content.{Content}
 use Rattle.rope_text.specs.Conversions.{byte_to_char}
-use Rattle.rope_text.specs.Cutting.{clip}
 use Rattle.rope_text.specs.Edit.{is_char_boundary, byte_range_error}
 use Rattle.rope_text.specs.LineParts.{part_between}
 use Rattle.rope_text.specs.Text.{byte_len}
 use Rattle.rope_text.proofs.ByteSlices.{is_range, range_error-none, end_is_boundary, start_is_boundary, boundary_is, boundary_out, boundary_in, char_at, size_of}
 use Rattle.rope_text.proofs.ConversionLaws.{byte_to_char-char_to_byte, byte_to_char-le-length}
 use Rattle.rope_slice.specs.Sliced.{IsSlice}
-use Rattle.ropey_c.proofs.Before.{part_of_rest}
+use Rattle.ropey_c.proofs.Before.{slice_is, part_of_rest}
 
 all_chars : (text : List ℕ) → byte_to_char text (byte_len text) ≡ length text
 all_chars text =
     let whole : take (length text) text ≡ text = take_all (length text) text (omega arith) in
     ap (λ t. byte_to_char text (byte_len t)) (sym whole) ∙ byte_to_char-char_to_byte text (length text) (omega arith)
-
-slice_is : (whole part : Content) (a b : ℕ) → IsSlice whole a b part → part ≡ part_between whole a b
-slice_is whole part a b s =
-    let of : List ℕ → List (List ℕ) → LineBreaks → Content = λ text chunks breaks. record { text = text; chunks = chunks; breaks = breaks } in
-    ap (λ t. of t part.chunks part.breaks) s.text
-    ∙ ap (λ c. of (slice_range whole.text a b) c part.breaks) s.chunks
-    ∙ ap (of (slice_range whole.text a b) (clip whole.chunks a b)) s.breaks
 
 pub none_is_no_some : {A : Type 0} (x : Option A) → x ≡ None → IsSome x → ⊥
 none_is_no_some x none some = let e : is_some x ≡ false = ap is_some none in absurd (cc)

@@ -35,7 +35,7 @@ SliceOfCharsAt (Some rope) start end status old new before_old before =
     SliceAt (char_range_error (Some start) (Some end) (length rope.text)) rope start (part_between (content rope) start end)
     status old new before_old before
 
--- what is said of a range that may have a fault
+-- what is said of a range that may have a fault, by a call that takes no memory
 abbrev pub SaysOf : Option Error → ℕ → Type 0
 SaysOf None status = status ≡ OK
 SaysOf (Some e) status = status ≡ status_of e

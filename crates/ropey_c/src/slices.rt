@@ -322,7 +322,7 @@ fn part_at_byte(rope: &Rope, start: usize, end: usize) -> Option<(RopeSlice<'_>,
     Some((part, before))
 }
 
-// What is said of a range of bytes.
+// The status of a range of bytes: `OK`, or the first that is wrong with it.
 fn check_bytes(rope: &Rope, start: usize, end: usize) -> u32
     ensures { SaysOf (byte_range_error rope.now.text (Some start) (Some end)) result }
 {
