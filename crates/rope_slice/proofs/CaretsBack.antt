@@ -15,14 +15,13 @@ use Rattle.rope_text.specs.Conversions.{byte_to_char, char_to_line}
 use Rattle.rope_text.specs.Cutting.{parts_crlf, KeepsCrlf}
 use Rattle.rope_text.specs.LineParts.{last_start}
 use Rattle.rope_text.proofs.BreakLaws.{break_ends-nil}
-use Rattle.rope_text.proofs.ConversionLaws.{char_to_line-line_start, char_to_line_start}
+use Rattle.rope_text.proofs.ConversionLaws.{byte_to_char-byte_len, char_to_line-line_start, char_to_line_start}
 use Rattle.rope_text.proofs.InfoLaws.{info_of-append_apart}
 use Rattle.rope_text.proofs.CuttingLaws.{concat-append}
 use Rattle.rope_text.proofs.LineLaws.{line_start-le-length}
 use Rattle.rope_text.proofs.LineSeams.{never, break_count-apart, last_start-left, last_start-right, last_start_none}
 use Rattle.rope_text.proofs.InfoLaws.{same_info}
 use Rattle.rope_slice.specs.Path.{Place, IsNext}
-use Rattle.rope_slice.proofs.PartsBetween.{char_at_byte}
 use Rattle.rope_text.specs.LineParts.{before_byte, after_byte}
 use Rattle.rope_slice.specs.Caret.{halves_at, AreChunks, IsCaret, PassesBack, PassedBack, PassedBackTo}
 use Rattle.rope_slice.proofs.Spans.{leaves_next}
@@ -32,7 +31,7 @@ use Rattle.rope_slice.proofs.CaretSteps.{apart_back}
 
 -- the place behind the last byte is behind the last character
 end_at : (text : List ℕ) (size : ℕ) → size ≡ byte_len text → byte_to_char text size ≡ length text
-end_at text size e = char_at_byte text size (length text) (omega arith) (e ∙ ap byte_len (sym (take_all (length text) text (omega arith))))
+end_at text size e = ap (byte_to_char text) e ∙ byte_to_char-byte_len text
 
 pub whole : (text : List ℕ) (size : ℕ) → size ≡ byte_len text → before_byte text size ≡ text
 whole text size e = ap (λ k. take k text) (end_at text size e) ∙ take_all (length text) text (omega arith)

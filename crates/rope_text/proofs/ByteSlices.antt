@@ -13,7 +13,7 @@ use Rattle.rope_text.specs.Cutting.{clip}
 use Rattle.rope_text.specs.Edit.{or_else, is_char_boundary, invalid_range, byte_range_error, range_start, range_end}
 use Rattle.rope_text.specs.Laws.{ByteSlicesNest, part_of_bytes, chunks_of_bytes}
 use Rattle.rope_text.proofs.Measures.{IsMeasure-byte_len, front_greatest, front_fits, front-le-length}
-use Rattle.rope_text.proofs.ConversionLaws.{byte_to_char-char_to_byte, byte_to_char-le-length}
+use Rattle.rope_text.proofs.ConversionLaws.{byte_to_char-byte_len, byte_to_char-char_to_byte, byte_to_char-le-length}
 use Rattle.rope_text.proofs.JoinLaws.{byte_to_char-append_left, byte_to_char-append_right}
 use Rattle.rope_text.proofs.ClipLaws.{slice_range-slice_range, clip-clip}
 
@@ -68,10 +68,7 @@ start_is_boundary text = is_boundary text 0 (ap (λ i. byte_len (take i text)) (
 
 pub end_is_boundary : (text : List ℕ) → is_char_boundary text (byte_len text) ≡ true
 end_is_boundary text =
-    let whole : take (length text) text ≡ text = take_all (length text) text (omega arith) in
-    let last : byte_to_char text (byte_len text) ≡ length text =
-    ap (λ s. byte_to_char text (byte_len s)) (sym whole) ∙ byte_to_char-char_to_byte text (length text) (omega arith) in
-    is_boundary text (byte_len text) (ap (λ i. byte_len (take i text)) last ∙ ap byte_len whole)
+    is_boundary text (byte_len text) (ap (λ i. byte_len (take i text)) (byte_to_char-byte_len text) ∙ ap byte_len (take_all (length text) text (omega arith)))
 
 -- a range whose bounds are in order and within the text, of which one lies inside a character
 pub split_char : (text : List ℕ) (start end : Option ℕ) → invalid_range start end ≡ None → range_start start ≤ byte_len text → range_end end (byte_len text) ≤ byte_len text

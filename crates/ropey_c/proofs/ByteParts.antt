@@ -8,14 +8,9 @@ use Rattle.rope_text.specs.Edit.{is_char_boundary, byte_range_error}
 use Rattle.rope_text.specs.LineParts.{part_between}
 use Rattle.rope_text.specs.Text.{byte_len}
 use Rattle.rope_text.proofs.ByteSlices.{is_range, range_error-none, end_is_boundary, start_is_boundary, boundary_is, boundary_out, boundary_in, char_at, size_of}
-use Rattle.rope_text.proofs.ConversionLaws.{byte_to_char-char_to_byte, byte_to_char-le-length}
+use Rattle.rope_text.proofs.ConversionLaws.{byte_to_char-byte_len, byte_to_char-char_to_byte, byte_to_char-le-length}
 use Rattle.rope_slice.specs.Sliced.{IsSlice}
 use Rattle.ropey_c.proofs.Before.{slice_is, part_of_rest}
-
-all_chars : (text : List ℕ) → byte_to_char text (byte_len text) ≡ length text
-all_chars text =
-    let whole : take (length text) text ≡ text = take_all (length text) text (omega arith) in
-    ap (λ t. byte_to_char text (byte_len t)) (sym whole) ∙ byte_to_char-char_to_byte text (length text) (omega arith)
 
 pub none_is_no_some : {A : Type 0} (x : Option A) → x ≡ None → IsSome x → ⊥
 none_is_no_some x none some = let e : is_some x ≡ false = ap is_some none in absurd (cc)
@@ -42,7 +37,7 @@ module _ (whole rest : Content) (start end len : ℕ) (ordered : start ≤ end) 
 
     rest_is : rest ≡ part_between whole (byte_to_char whole.text start) (length whole.text)
     rest_is = slice_is whole rest (byte_to_char whole.text start) (byte_to_char whole.text len) s
-        ∙ ap (part_between whole (byte_to_char whole.text start)) (ap (byte_to_char whole.text) len_is ∙ all_chars whole.text)
+        ∙ ap (part_between whole (byte_to_char whole.text start)) (ap (byte_to_char whole.text) len_is ∙ byte_to_char-byte_len whole.text)
 
     text_is : rest.text ≡ slice_range whole.text (byte_to_char whole.text start) (length whole.text)
     text_is = ap (λ c. c.text) rest_is
