@@ -73,21 +73,34 @@ fn merge(maker: &mut Maker, left: &Node, right: &Node) -> Made<Nodes>
     }
 }
 
-/// A tree's last child or its first, between its siblings before and behind it, if the tree is at
-/// least so high; else the tree itself, and no siblings.
-fn end_of(node: &Node, least: usize, is_last: bool) -> (Row<'_>, &Node, Row<'_>)
+/// A tree's last child or its first, between its siblings before and behind it.
+#[derive(Clone, Copy)]
+struct End<'a> {
+    before: Row<'a>,
+    node: &'a Node,
+    after: Row<'a>,
+}
+
+/// A tree's last child or its first, if the tree is at least so high; else the tree itself, and no
+/// siblings.
+fn end_of(node: &Node, least: usize, is_last: bool) -> End<'_>
     requires { least ≤ node.now.height → 1 ≤ node.now.height }
-    ensures before { IsRow result.0 }
-    ensures after { IsRow result.2 }
+    ensures before { IsRow result.before }
+    ensures after { IsRow result.after }
     ensures last { IsTrue is_last → least ≤ node.now.height
-        → EndsIn node.now result.0.nodes.now result.1.now }
+        → EndsIn node.now result.before.nodes.now result.node.now }
     ensures first { is_last ≡ false → least ≤ node.now.height
-        → BeginsIn node.now result.1.now result.2.nodes.now }
-    ensures whole { node.now.height < least
-        → (result.0.nodes.now ≡ []) × (result.1.now ≡ node.now) × (result.2.nodes.now ≡ []) }
+        → BeginsIn node.now result.node.now result.after.nodes.now }
+    ensures whole { node.now.height < least → (result.before.nodes.now ≡ [])
+        × (result.node.now ≡ node.now) × (result.after.nodes.now ≡ []) }
 {
+    let none = Row::none();
     if node.height() < least {
-        return (Row::none(), node, Row::none());
+        return End {
+            before: none,
+            node,
+            after: none,
+        };
     }
     let View::Inner(children, totals) = node.view() else {
         unreachable!()
@@ -95,9 +108,17 @@ fn end_of(node: &Node, least: usize, is_last: bool) -> (Row<'_>, &Node, Row<'_>)
     let row = Row::of(children, totals);
     if is_last {
         let last = children.len() - 1;
-        return (row.first(last), &children[last], Row::none());
+        return End {
+            before: row.first(last),
+            node: &children[last],
+            after: none,
+        };
     }
-    (Row::none(), &children[0], row.rest(1))
+    End {
+        before: none,
+        node: &children[0],
+        after: row.rest(1),
+    }
 }
 
 /// Two trees that aren't empty, as one tree or two of the greater height. It goes down the sides on
@@ -119,10 +140,10 @@ pub(crate) fn unite(maker: &mut Maker, left: &Node, right: &Node) -> Made<Nodes>
     {
         return merge(maker, left, right);
     }
-    let (before, last, _) = end_of(left, right.height(), true);
-    let (_, first, after) = end_of(right, height, false);
-    let middle = unite(maker, last, first)?;
-    pack(maker, before, middle, after)
+    let last = end_of(left, right.height(), true);
+    let first = end_of(right, height, false);
+    let middle = unite(maker, last.node, first.node)?;
+    pack(maker, last.before, middle, first.after)
 }
 
 /// Two trees as one, at most one level higher than the higher of them. No CR at the end of the

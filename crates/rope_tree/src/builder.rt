@@ -22,17 +22,26 @@ const MAX_AHEAD_BYTES: usize = MAX_BYTES + 4;
 // A rest, of at most a leaf's bytes, and what is looked at behind it.
 const MAX_SEAM_BYTES: usize = MAX_BYTES + MAX_AHEAD_BYTES;
 
-// Cuts the first leaf off a text that begins with `rest` and goes on with `text`. Answers that
-// leaf, what of `rest` is behind it, and how many bytes of `text` are in it.
-fn cut_at_seam(rest: &NodeText, text: &str) -> (NodeText, NodeText, usize)
+// A leaf's text that was cut off the front of a rest and the text behind it.
+#[derive(Drop)]
+struct SeamCut {
+    leaf: NodeText,
+    // what of the rest is behind the leaf
+    behind: NodeText,
+    // how many bytes of the text are in it
+    taken: usize,
+}
+
+// Cuts the first leaf off a text that begins with `rest` and goes on with `text`.
+fn cut_at_seam(rest: &NodeText, text: &str) -> SeamCut
     requires { MAX_BYTES < byte_len rest.now + length text.now }
-    ensures boundary { IsCharBoundary text.now result.2 }
-    ensures whole { result.0 ++ (result.1 ++ chars (drop result.2 text.now))
+    ensures boundary { IsCharBoundary text.now result.taken }
+    ensures whole { result.leaf ++ (result.behind ++ chars (drop result.taken text.now))
         ≡ rest.now ++ chars text.now }
-    ensures apart { parts_crlf result.0 (result.1 ++ chars (drop result.2 text.now)) ≡ false }
-    ensures long { MIN_CUT_BYTES ≤ byte_len result.0 }
-    ensures short { byte_len result.0 ≤ MAX_BYTES }
-    ensures left { byte_len result.0 + (byte_len result.1 + (length text.now - result.2))
+    ensures apart { parts_crlf result.leaf (result.behind ++ chars (drop result.taken text.now)) ≡ false }
+    ensures long { MIN_CUT_BYTES ≤ byte_len result.leaf }
+    ensures short { byte_len result.leaf ≤ MAX_BYTES }
+    ensures left { byte_len result.leaf + (byte_len result.behind + (length text.now - result.taken))
         ≡ byte_len rest.now + length text.now }
 {
     let first = rest.as_str();
@@ -46,9 +55,17 @@ fn cut_at_seam(rest: &NodeText, text: &str) -> (NodeText, NodeText, usize)
     let len = first_leaf_len(ahead);
     let leaf = NodeText::from_str(&ahead[..len]);
     if len < first.len() {
-        return (leaf, NodeText::from_str(&first[len..]), 0);
+        return SeamCut {
+            leaf,
+            behind: NodeText::from_str(&first[len..]),
+            taken: 0,
+        };
     }
-    (leaf, NodeText::new(), len - first.len())
+    SeamCut {
+        leaf,
+        behind: NodeText::new(),
+        taken: len - first.len(),
+    }
 }
 
 // Moves the front of a text behind `rest`, so that the two are a whole leaf, and answers how many
@@ -105,7 +122,11 @@ fn cut_leaves(
             rest.set("");
             left = &left[taken..];
         } else {
-            let (leaf, behind, taken) = cut_at_seam(rest, left);
+            let SeamCut {
+                leaf,
+                behind,
+                taken,
+            } = cut_at_seam(rest, left);
             leaves.push(leaf_of(&mut maker, breaks, leaf.as_str())?)?;
             *rest = behind;
             left = &left[taken..];

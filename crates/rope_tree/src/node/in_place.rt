@@ -122,46 +122,64 @@ fn put_behind(nodes: &mut [Node], place: usize, node: Node)
     nodes[place + 1..].rotate_right(1);
 }
 
+/// Where an edit goes on below a list of children.
+#[derive(Clone, Copy)]
+struct WayIn {
+    /// The place of the child.
+    place: usize,
+    /// The character of its text before which the edit begins.
+    inside: usize,
+    /// Whether the way still follows that of the last edit.
+    follows: bool,
+}
+
 impl Children {
-    /// The child that takes a text before the character `at`, before which of its characters, and
-    /// whether the way still follows that of the last edit. While it does, that edit's child is
-    /// tried first.
+    /// The way to the child that takes a text before the character `at`. While it follows that of the
+    /// last edit, that edit's child is tried first.
     #[inline(always)]
-    fn way_in(&self, at: usize, to_right: bool, follows: bool) -> (usize, usize, bool)
+    fn way_in(&self, at: usize, to_right: bool, follows: bool) -> WayIn
         requires children { AreFamily self.now }
         requires within { at ≤ length (joined self.now) }
         requires right { to_right ≡ true → at < length (joined self.now) }
-        ensures child { result.0 < length self.now }
-        ensures place { at ≡ length (joined (take result.0 self.now)) + result.1 }
+        ensures child { result.place < length self.now }
+        ensures place { at ≡ length (joined (take result.place self.now)) + result.inside }
         ensures goes { (child : Tree)
-            → GoesIn at result.1 (length (text (slice_index_or self.now result.0 child))) to_right }
+            → GoesIn at result.inside (length (text (slice_index_or self.now result.place child))) to_right }
     {
         let held = char_to_hold(at, to_right);
         let (place, follows) = try_place(&self.totals, held, usize::from(self.last), follows);
         let before = total_before(&self.totals, place).chars;
-        (place, at - before, follows)
+        WayIn {
+            place,
+            inside: at - before,
+            follows,
+        }
     }
 
     /// The same. Where the way doesn't follow that of the last edit, what this one will go over is
     /// read ahead. None only if `touch_list` or `touch_leaf` say yes, which they never do.
     #[inline(always)]
-    fn locate(&self, at: usize, to_right: bool, follows: bool) -> Option<(usize, usize, bool)>
+    fn locate(&self, at: usize, to_right: bool, follows: bool) -> Option<WayIn>
         requires children { AreFamily self.now }
         requires within { at ≤ length (joined self.now) }
         requires right { to_right ≡ true → at < length (joined self.now) }
-        ensures child { IfSome result (λ way. way.0 < length self.now) }
-        ensures place { IfSome result (λ way. at ≡ length (joined (take way.0 self.now)) + way.1) }
+        ensures child { IfSome result (λ way. way.place < length self.now) }
+        ensures place { IfSome result (λ way. at ≡ length (joined (take way.place self.now)) + way.inside) }
         ensures goes { IfSome result (λ way. (child : Tree)
-            → GoesIn at way.1 (length (text (slice_index_or self.now way.0 child))) to_right) }
+            → GoesIn at way.inside (length (text (slice_index_or self.now way.place child))) to_right) }
     {
         if !follows && self.height == 1 && touch_list(&self.nodes) {
             return None;
         }
-        let (place, inside, follows) = self.way_in(at, to_right, follows);
-        if !follows && self.height == 1 && touch_leaf(&self.totals, &self.nodes, place, inside) {
+        let way = self.way_in(at, to_right, follows);
+        let WayIn { place, inside, .. } = way;
+        if !way.follows
+            && self.height == 1
+            && touch_leaf(&self.totals, &self.nodes, place, inside)
+        {
             return None;
         }
-        Some((place, inside, follows))
+        Some(way)
     }
 
     /// Puts a text before the character `at`, if the leaf has room, or can be cut into two, since
@@ -192,9 +210,14 @@ impl Children {
         if !self.totals.has_room_for(added.len()) {
             return unchanged();
         }
-        let Some((place, inside, follows)) = self.locate(at, to_right, follows) else {
+        let Some(way) = self.locate(at, to_right, follows) else {
             return unchanged();
         };
+        let WayIn {
+            place,
+            inside,
+            follows,
+        } = way;
         let most = MAX_BYTES.saturating_sub(added.len());
         if self.nodes[place].is_leaf_above(most) {
             return self.cut_child(maker, at, added, to_right, more);
@@ -265,7 +288,7 @@ impl Children {
         if count >= MAX_CHILDREN || !self.totals.has_room_for(added.len()) {
             return Ok(false);
         }
-        let (place, inside, _) = self.way_in(at, to_right, false);
+        let WayIn { place, inside, .. } = self.way_in(at, to_right, false);
         let node = &mut self.nodes[place];
         let old = node.info();
         let back = match node.cut(maker, inside, added, to_right)? {
@@ -309,7 +332,7 @@ impl Children {
         if self.height == 1 || !self.totals.has_room_for(added.len()) {
             return Ok(false);
         }
-        let (place, inside, _) = self.way_in(at, to_right, false);
+        let WayIn { place, inside, .. } = self.way_in(at, to_right, false);
         let node = &mut self.nodes[place];
         let old = node.info();
         if !node.insert_parting(maker, inside, added, to_right)? {
@@ -343,15 +366,20 @@ impl Children {
         ensures tried { IsTried result self.old self.new
             (AreRemoved least.first least.last self.old self.new start end) }
     {
-        let Some((place, at, follows)) = self.locate(start, true, follows) else {
+        let Some(way) = self.locate(start, true, follows) else {
             return unchanged();
         };
+        let WayIn {
+            place,
+            inside,
+            follows,
+        } = way;
         if self.totals.get(place).chars < end {
             return unchanged();
         }
         let least = least_at(usize::from(self.height), &self.totals, place, least);
         let node = &mut self.nodes[place];
-        if !node.remove_in_place(maker, at, end - (start - at), least, follows, less)? {
+        if !node.remove_in_place(maker, inside, end - (start - inside), least, follows, less)? {
             return unchanged();
         }
         self.totals.retotal(place, *less, TextInfo::new());

@@ -40,10 +40,10 @@ loop-left-preserved c =
     let node = c.in_ok-leaf_of-2.field-0 in
     let rest = c.range_from-left-else-taken-gt0 in
     let pushed = c.in_ok-push-2.ensures.items in
-    let same = ap (λ bs. f.1 ++ chars bs) rest.ensures.value in
-    let more = nodes_front c.args.breaks _ c.loop-left.leaves.items _ f.0 (f.1 ++ chars rest.result.now) node
-    before.nodes (ap (λ y. f.0 ++ y) same ∙ front.ensures.whole ∙ ap (λ x. x ++ chars c.loop-left.left.now) as_before) (omega (arith, front.ensures.long)) record { apart = ap (λ y. parts_crlf f.0 y) same ∙ front.ensures.apart } (λ _. omega (arith, front.ensures.long)) (c.in_ok-leaf_of-2.ensures.ok ∙ ap (leaf_tree c.args.breaks) c.as_str-else-taken-gt0.ensures.chars) c.in_ok-leaf_of-2.ensures.tree in
-    let len : length rest.result.now + f.2 ≡ length c.loop-left.left.now = omega (arith, rest.ensures.len, front.ensures.boundary.0) in
+    let same = ap (λ bs. f.behind ++ chars bs) rest.ensures.value in
+    let more = nodes_front c.args.breaks _ c.loop-left.leaves.items _ f.leaf (f.behind ++ chars rest.result.now) node
+    before.nodes (ap (λ y. f.leaf ++ y) same ∙ front.ensures.whole ∙ ap (λ x. x ++ chars c.loop-left.left.now) as_before) (omega (arith, front.ensures.long)) record { apart = ap (λ y. parts_crlf f.leaf y) same ∙ front.ensures.apart } (λ _. omega (arith, front.ensures.long)) (c.in_ok-leaf_of-2.ensures.ok ∙ ap (leaf_tree c.args.breaks) c.as_str-else-taken-gt0.ensures.chars) c.in_ok-leaf_of-2.ensures.tree in
+    let len : length rest.result.now + f.taken ≡ length c.loop-left.left.now = omega (arith, rest.ensures.len, front.ensures.boundary.0) in
     let bytes = ap byte_len as_before in
     record {
       utf8 = rest.utf8;

@@ -18,17 +18,17 @@ use Rattle.rope_tree.proofs.node.+in_place.Goals.{Children::insert_in_place-Afte
 use Rattle.rope_tree.proofs.node.+in_place.Goals as goal
 
 -- the child that takes the text
-found : (t : ℕ) (c : Children::insert_in_place-After-index-self-place-2 t) → Finds c.self.inside c.args.self.now c.in-Some.place (get_or c.self.inside.nodes c.in-Some.place c.index-self-place-2.result)
-    c.args.at c.in-Some.inside c.args.to_right
+found : (t : ℕ) (c : Children::insert_in_place-After-index-self-place-2 t) → Finds c.self.inside c.args.self.now c.in-Some.way.place (get_or c.self.inside.nodes c.in-Some.way.place c.index-self-place-2.result)
+    c.args.at c.in-Some.way.inside c.args.to_right
 found t c =
-    found_at c.self.inside c.args.self.now c.in-Some.place c.index-self-place-2.result c.args.at c.in-Some.inside c.args.to_right c.self.view_is c.self.invariant c.requires.children
+    found_at c.self.inside c.args.self.now c.in-Some.way.place c.index-self-place-2.result c.args.at c.in-Some.way.inside c.args.to_right c.self.view_is c.self.invariant c.requires.children
     (rw c.in-Some.is at c.locate.ensures.child) (rw c.in-Some.is at c.locate.ensures.place) (rw c.in-Some.is at c.locate.ensures.goes)
 
 pub Children::insert_in_place-insert_in_place-requires :
     goal.Children::insert_in_place-insert_in_place-requires
 Children::insert_in_place-insert_in_place-requires t c =
     let f = found t (goal.at.Children::insert_in_place-insert_in_place-requires t c).After-index-self-place-2 in
-    let low = rw f.taken.child_is at (tallest_above c.args.self.now c.in-Some.place (get_or c.self.inside.nodes c.in-Some.place c.index-self-place-2.result) f.taken.within) in
+    let low = rw f.taken.child_is at (tallest_above c.args.self.now c.in-Some.way.place (get_or c.self.inside.nodes c.in-Some.way.place c.index-self-place-2.result) f.taken.within) in
     let fits = child_fits _ _ _ _ _ _ _ f c.args.added.now c.requires.takes.some c.requires.side c.requires.takes.fits in
     let side = may _ _ _ _ _ _ _ f c.args.added.now c.requires.takes.some c.requires.side c.requires.takes.fits in
     (omega (arith, c.decreases, low), (record { within = f.taken.goes.within; some = c.requires.takes.some; short = c.requires.takes.short; fits = fits }, side))

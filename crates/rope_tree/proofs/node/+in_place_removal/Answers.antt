@@ -25,17 +25,17 @@ use Rattle.rope_tree.proofs.node.+in_place_removal.Goals.{Children::remove_in_pl
 
 -- the child that holds the characters
 down : (t : ℕ) (c : Children::remove_in_place-After-index-self-place t)
-    → Takes c.args.self.now c.in-Some.place (get_or c.self.inside.nodes c.in-Some.place c.index-self-place.result) c.args.start c.in-Some.at true
+    → Takes c.args.self.now c.in-Some.way.place (get_or c.self.inside.nodes c.in-Some.way.place c.index-self-place.result) c.args.start c.in-Some.way.inside true
 down t c =
-    taken_at c.self.inside c.args.self.now c.in-Some.place c.index-self-place.result c.args.start c.in-Some.at true c.self.view_is c.requires.children
+    taken_at c.self.inside c.args.self.now c.in-Some.way.place c.index-self-place.result c.args.start c.in-Some.way.inside true c.self.view_is c.requires.children
     (rw c.in-Some.is at c.locate.ensures.child) (rw c.in-Some.is at c.locate.ensures.place) (rw c.in-Some.is at c.locate.ensures.goes)
 
 held : (t : ℕ) (c : Children::remove_in_place-After-index-self-place t)
-    → Holds c.args.self.now c.in-Some.place (get_or c.self.inside.nodes c.in-Some.place c.index-self-place.result) c.in-Some.at (c.args.end - (c.args.start - c.in-Some.at)) c.args.start c.args.end
+    → Holds c.args.self.now c.in-Some.way.place (get_or c.self.inside.nodes c.in-Some.way.place c.index-self-place.result) c.in-Some.way.inside (c.args.end - (c.args.start - c.in-Some.way.inside)) c.args.start c.args.end
 held t c =
     let ts = c.args.self.now in
     let totals = totals_seen (listed c.self.inside) ts c.self.inside.totals c.self.inside.totals c.self.view_is refl c.self.invariant.totals_right in
-    holds ts c.in-Some.place (get_or c.self.inside.nodes c.in-Some.place c.index-self-place.result) c.in-Some.at c.args.start c.args.end c.self.inside.totals no_counts
+    holds ts c.in-Some.way.place (get_or c.self.inside.nodes c.in-Some.way.place c.index-self-place.result) c.in-Some.way.inside c.args.start c.args.end c.self.inside.totals no_counts
     (down t c) totals c.requires.ordered (rw (c.get.ensures no_counts) at c.if-get-end.false)
 
 pub Children::remove_in_place-remove_in_place-requires :
@@ -44,7 +44,7 @@ Children::remove_in_place-remove_in_place-requires t c =
     let e = (goal.at.Children::remove_in_place-remove_in_place-requires t c).After-index-self-place in
     let d = down t e in
     let g = held t e in
-    let low = rw d.child_is at (tallest_above c.args.self.now c.in-Some.place (get_or c.self.inside.nodes c.in-Some.place c.index-self-place.result) d.within) in
+    let low = rw d.child_is at (tallest_above c.args.self.now c.in-Some.way.place (get_or c.self.inside.nodes c.in-Some.way.place c.index-self-place.result) d.within) in
     (omega (arith, c.decreases, low), (g.order, g.within))
 
 pub Children::remove_in_place-retotal-requires-clause-small :
@@ -57,13 +57,13 @@ pub Children::remove_in_place-retotal-requires-clause-part :
     goal.Children::remove_in_place-retotal-requires-clause-part
 Children::remove_in_place-retotal-requires-clause-part t c = λ j e from within.
     let ts = c.args.self.now in
-    let child = get_or c.self.inside.nodes c.in-Some.place c.index-self-place.result in
+    let child = get_or c.self.inside.nodes c.in-Some.way.place c.index-self-place.result in
     let u = c.remove_in_place.new.self in
     let d = down t (goal.at.Children::remove_in_place-retotal-requires-clause-part t c).After-index-self-place in
     let totals = totals_seen (listed c.self.inside) ts c.self.inside.totals c.self.inside.totals c.self.view_is refl c.self.invariant.totals_right in
     let inside : j < length ts = omega (arith, totals.as_many) in
     let change = change_by (breaks_of ts) child u c.remove_in_place.new.less c.new.result d.own.same_breaks (change_to c.new.result c.remove_in_place.new.less _ _ c.new.ensures (c.in_ok-remove_in_place.ensures.change c.if-not-branch.false)) in
-    part_of_part _ _ _ _ change _ (rw (totals.total_at j e inside) (has_part (breaks_of ts) (height_of ts) ts ts c.in-Some.place child child d.children d.within d.child_is j from inside))
+    part_of_part _ _ _ _ change _ (rw (totals.total_at j e inside) (has_part (breaks_of ts) (height_of ts) ts ts c.in-Some.way.place child child d.children d.within d.child_is j from inside))
 
 pub Children::remove_in_place-retotal-requires-clause-new :
     goal.Children::remove_in_place-retotal-requires-clause-new
@@ -71,14 +71,14 @@ Children::remove_in_place-retotal-requires-clause-new t c = (change_to c.new.res
 
 -- the children where something was taken out
 left : (t : ℕ) (c : Children::remove_in_place-After-index-self-place t) (u : Tree)
-    → IsRemoved c.least_at-least.result.first c.least_at-least.result.last (get_or c.self.inside.nodes c.in-Some.place c.index-self-place.result) u c.in-Some.at (c.args.end - (c.args.start - c.in-Some.at))
-    → AreRemoved c.args.least.first c.args.least.last c.args.self.now (set c.args.self.now c.in-Some.place u) c.args.start c.args.end
+    → IsRemoved c.least_at-least.result.first c.least_at-least.result.last (get_or c.self.inside.nodes c.in-Some.way.place c.index-self-place.result) u c.in-Some.way.inside (c.args.end - (c.args.start - c.in-Some.way.inside))
+    → AreRemoved c.args.least.first c.args.least.last c.args.self.now (set c.args.self.now c.in-Some.way.place u) c.args.start c.args.end
 left t c u done =
     let ts = c.args.self.now in
     let d = down t c in
     let totals = totals_seen (listed c.self.inside) ts c.self.inside.totals c.self.inside.totals c.self.view_is refl c.self.invariant.totals_right in
     let below : AreBelow c.from.result c.self.inside.totals ts = record { above = omega (arith, c.from.ensures, c.self.invariant.above, ap height_of c.self.view_is); children = d.children; totals_right = totals } in
-    children_removed (breaks_of ts) (height_of ts) ts c.in-Some.place (get_or c.self.inside.nodes c.in-Some.place c.index-self-place.result)
+    children_removed (breaks_of ts) (height_of ts) ts c.in-Some.way.place (get_or c.self.inside.nodes c.in-Some.way.place c.index-self-place.result)
     d.children d.within d.child_is _ _ c.args.start c.args.end (held t c) c.args.least.first c.args.least.last c.least_at-least.result.first c.least_at-least.result.last u done (c.least_at-least.ensures.behind ts below) (c.least_at-least.ensures.ahead ts below) refl refl
 
 pub Children::remove_in_place-retotal-requires-clause-fits :
@@ -86,18 +86,18 @@ pub Children::remove_in_place-retotal-requires-clause-fits :
 Children::remove_in_place-retotal-requires-clause-fits t c = λ narrow j e from within.
     let i = (goal.at.Children::remove_in_place-retotal-requires-clause-fits t c).After-index-self-place in
     let ts = c.args.self.now in
-    let child = get_or c.self.inside.nodes c.in-Some.place c.index-self-place.result in
+    let child = get_or c.self.inside.nodes c.in-Some.way.place c.index-self-place.result in
     let u = c.remove_in_place.new.self in
     let d = down t i in
     let totals = totals_seen (listed c.self.inside) ts c.self.inside.totals c.self.inside.totals c.self.view_is refl c.self.invariant.totals_right in
     let inside : j < length ts = omega (arith, totals.as_many, within) in
     let r = left t i u (c.in_ok-remove_in_place.ensures.tried.done c.if-not-branch.false) in
     let last = last_total (breaks_of ts) c.self.inside.totals ts totals (omega (arith, c.requires.children.at_least_two)) e in
-    let few : byte_len (joined (set ts c.in-Some.place u)) < 2 ^ 32 =
+    let few : byte_len (joined (set ts c.in-Some.way.place u)) < 2 ^ 32 =
     omega (arith, (narrow (length c.self.inside.totals - 1) e (omega (arith, within))).bytes, ap (λ x. x.bytes) last, ap byte_len r.text_is, byte_len-removed (joined ts) c.args.start c.args.end (omega (arith, c.requires.ordered))) in
     let change = change_by (breaks_of ts) child u c.remove_in_place.new.less c.new.result d.own.same_breaks (change_to c.new.result c.remove_in_place.new.less _ _ c.new.ensures (c.in_ok-remove_in_place.ensures.change c.if-not-branch.false)) in
     part_fits _ _ _ _ change _ (rw (totals.total_at j e inside)
-    (fits_after (breaks_of ts) (height_of ts) ts (set ts c.in-Some.place u) c.in-Some.place child u d.children d.within d.child_is r.children refl few j from inside))
+    (fits_after (breaks_of ts) (height_of ts) ts (set ts c.in-Some.way.place u) c.in-Some.way.place child u d.children d.within d.child_is r.children refl few j from inside))
 
 pub Children::remove_in_place-invariant_of-self-2 :
     goal.Children::remove_in_place-invariant_of-self-2
@@ -108,10 +108,10 @@ Children::remove_in_place-invariant_of-self-2 t c =
     let done = c.in_ok-remove_in_place.ensures.tried.done c.if-not-branch.false in
     let b = (left t i c.remove_in_place.new.self done).children in
     let seen = totals_seen (listed c.self.inside) ts c.self.inside.totals c.self.inside.totals c.self.view_is refl c.self.invariant.totals_right in
-    let change = change_own (get_or c.self.inside.nodes c.in-Some.place c.index-self-place.result) c.remove_in_place.new.self c.remove_in_place.new.less c.new.result done.same_breaks (change_to c.new.result c.remove_in_place.new.less _ _ c.new.ensures (c.in_ok-remove_in_place.ensures.change c.if-not-branch.false)) in
+    let change = change_own (get_or c.self.inside.nodes c.in-Some.way.place c.index-self-place.result) c.remove_in_place.new.self c.remove_in_place.new.less c.new.result done.same_breaks (change_to c.new.result c.remove_in_place.new.less _ _ c.new.ensures (c.in_ok-remove_in_place.ensures.change c.if-not-branch.false)) in
     let totals = set_totals _ _ _ _ _ _ _ _ _ d.children d.within d.child_is d.own.same_breaks b (done.same_breaks ∙ d.own.same_breaks) seen refl refl refl
     c.retotal.ensures.len c.retotal.ensures.before (λ j e from within. whole_changed _ _ _ _ change _ _ (c.retotal.ensures.after j e from within)) in
-    set_listed c.self.inside _ ts c.in-Some.place c.remove_in_place.new.self c.self.invariant c.self.view_is d.within b refl refl refl totals
+    set_listed c.self.inside _ ts c.in-Some.way.place c.remove_in_place.new.self c.self.invariant c.self.view_is d.within b refl refl refl totals
 
 pub Children::remove_in_place-returns-clause-tried :
     goal.Children::remove_in_place-returns-clause-tried
@@ -123,10 +123,10 @@ Children::remove_in_place-returns-clause-tried t c = record {
       let done = c.in_ok-remove_in_place.ensures.tried.done c.if-not-branch.false in
       let r = left t i c.remove_in_place.new.self done in
       let seen = totals_seen (listed c.self.inside) ts c.self.inside.totals c.self.inside.totals c.self.view_is refl c.self.invariant.totals_right in
-      let change = change_own (get_or c.self.inside.nodes c.in-Some.place c.index-self-place.result) c.remove_in_place.new.self c.remove_in_place.new.less c.new.result done.same_breaks (change_to c.new.result c.remove_in_place.new.less _ _ c.new.ensures (c.in_ok-remove_in_place.ensures.change c.if-not-branch.false)) in
+      let change = change_own (get_or c.self.inside.nodes c.in-Some.way.place c.index-self-place.result) c.remove_in_place.new.self c.remove_in_place.new.less c.new.result done.same_breaks (change_to c.new.result c.remove_in_place.new.less _ _ c.new.ensures (c.in_ok-remove_in_place.ensures.change c.if-not-branch.false)) in
       let totals = set_totals _ _ _ _ _ _ _ _ _ d.children d.within d.child_is d.own.same_breaks r.children (done.same_breaks ∙ d.own.same_breaks) seen refl refl refl
       c.retotal.ensures.len c.retotal.ensures.before (λ j e from within. whole_changed _ _ _ _ change _ _ (c.retotal.ensures.after j e from within)) in
-      rw (set_seen c.self.inside (record { height = _; breaks = _; last = c.self.inside.last; totals = _; nodes = _ }) ts c.in-Some.place c.remove_in_place.new.self c.self.invariant c.self.view_is d.within r.children refl refl refl totals) r;
+      rw (set_seen c.self.inside (record { height = _; breaks = _; last = c.self.inside.last; totals = _; nodes = _ }) ts c.in-Some.way.place c.remove_in_place.new.self c.self.invariant c.self.view_is d.within r.children refl refl refl totals) r;
   kept = λ no. cc;
   err = tt;
 }
@@ -136,7 +136,7 @@ pub Children::remove_in_place-returns-clause-change :
 Children::remove_in_place-returns-clause-change t c = λ yes.
     let i = (goal.at.Children::remove_in_place-returns-clause-change t c).After-index-self-place in
     let ts = c.args.self.now in
-    let child = get_or c.self.inside.nodes c.in-Some.place c.index-self-place.result in
+    let child = get_or c.self.inside.nodes c.in-Some.way.place c.index-self-place.result in
     let u = c.remove_in_place.new.self in
     let d = down t i in
     let done = c.in_ok-remove_in_place.ensures.tried.done c.if-not-branch.false in
@@ -145,8 +145,8 @@ Children::remove_in_place-returns-clause-change t c = λ yes.
     let change = change_own child u c.remove_in_place.new.less c.new.result done.same_breaks (change_to c.new.result c.remove_in_place.new.less _ _ c.new.ensures (c.in_ok-remove_in_place.ensures.change c.if-not-branch.false)) in
     let totals = set_totals _ _ _ _ _ _ _ _ _ d.children d.within d.child_is d.own.same_breaks r.children (done.same_breaks ∙ d.own.same_breaks) seen refl refl refl
     c.retotal.ensures.len c.retotal.ensures.before (λ j e from within. whole_changed _ _ _ _ change _ _ (c.retotal.ensures.after j e from within)) in
-    rw (set_seen c.self.inside (record { height = _; breaks = _; last = c.self.inside.last; totals = _; nodes = _ }) ts c.in-Some.place u c.self.invariant c.self.view_is d.within r.children refl refl refl totals)
-    (change_of_list (breaks_of ts) (height_of ts) ts c.in-Some.place child u d.children d.within d.child_is r.children _ _ (change_by (breaks_of ts) child u _ _ d.own.same_breaks (c.in_ok-remove_in_place.ensures.change c.if-not-branch.false)))
+    rw (set_seen c.self.inside (record { height = _; breaks = _; last = c.self.inside.last; totals = _; nodes = _ }) ts c.in-Some.way.place u c.self.invariant c.self.view_is d.within r.children refl refl refl totals)
+    (change_of_list (breaks_of ts) (height_of ts) ts c.in-Some.way.place child u d.children d.within d.child_is r.children _ _ (change_by (breaks_of ts) child u _ _ d.own.same_breaks (c.in_ok-remove_in_place.ensures.change c.if-not-branch.false)))
 
 pub Children::remove_in_place-returns-in_err-remove_in_place-clause-made :
     goal.Children::remove_in_place-returns-in_err-remove_in_place-clause-made

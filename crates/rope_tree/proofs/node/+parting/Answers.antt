@@ -11,18 +11,18 @@ use Rattle.rope_tree.proofs.node.+parting.Goals as goal
 
 -- the child that takes the text
 abbrev child : (t : ℕ) → Children::insert_parting-After-info-old t → Tree
-child t c = get_or c.self.inside.nodes c.way_in-place.result.0 c.index-self-place.result
+child t c = get_or c.self.inside.nodes c.way_in-place.result.place c.index-self-place.result
 
-found : (t : ℕ) (c : Children::insert_parting-After-info-old t) → Finds c.self.inside c.args.self.now c.way_in-place.result.0 (child t c) c.args.at c.way_in-place.result.1 c.args.to_right
+found : (t : ℕ) (c : Children::insert_parting-After-info-old t) → Finds c.self.inside c.args.self.now c.way_in-place.result.place (child t c) c.args.at c.way_in-place.result.inside c.args.to_right
 found t c =
-    found_at c.self.inside c.args.self.now c.way_in-place.result.0 c.index-self-place.result c.args.at c.way_in-place.result.1 c.args.to_right
+    found_at c.self.inside c.args.self.now c.way_in-place.result.place c.index-self-place.result c.args.at c.way_in-place.result.inside c.args.to_right
     c.self.view_is c.self.invariant c.requires.children c.way_in-place.ensures.child c.way_in-place.ensures.place c.way_in-place.ensures.goes
 
 pub Children::insert_parting-insert_parting-requires :
     goal.Children::insert_parting-insert_parting-requires
 Children::insert_parting-insert_parting-requires t c =
     let f = found t (goal.at.Children::insert_parting-insert_parting-requires t c).After-info-old in
-    let low = rw f.taken.child_is at (tallest_above c.args.self.now c.way_in-place.result.0 (child t (goal.at.Children::insert_parting-insert_parting-requires t c).After-info-old) f.taken.within) in
+    let low = rw f.taken.child_is at (tallest_above c.args.self.now c.way_in-place.result.place (child t (goal.at.Children::insert_parting-insert_parting-requires t c).After-info-old) f.taken.within) in
     let fits = child_fits _ _ _ _ _ _ _ f c.args.added.now c.requires.takes.some c.requires.side c.requires.takes.fits in
     let side = may _ _ _ _ _ _ _ f c.args.added.now c.requires.takes.some c.requires.side c.requires.takes.fits in
     (omega (arith, c.decreases, low), (record { within = f.taken.goes.within; some = c.requires.takes.some; short = c.requires.takes.short; fits = fits }, side))

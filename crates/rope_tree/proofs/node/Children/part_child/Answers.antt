@@ -26,18 +26,18 @@ use Rattle.rope_tree.proofs.node.Children.part_child.Goals.{After-info-old, Afte
 use Rattle.rope_tree.proofs.node.Children.part_child.Goals as goal
 
 -- the child that takes the text, before it is cut
-found : (c : After-info-old) → Finds c.self.inside c.args.self.now c.way_in-place.result.0 (get_or c.self.inside.nodes c.way_in-place.result.0 c.index-self-place.result) c.args.at c.way_in-place.result.1 c.args.to_right
+found : (c : After-info-old) → Finds c.self.inside c.args.self.now c.way_in-place.result.place (get_or c.self.inside.nodes c.way_in-place.result.place c.index-self-place.result) c.args.at c.way_in-place.result.inside c.args.to_right
 found c =
-    found_at c.self.inside c.args.self.now c.way_in-place.result.0 c.index-self-place.result c.args.at c.way_in-place.result.1 c.args.to_right
+    found_at c.self.inside c.args.self.now c.way_in-place.result.place c.index-self-place.result c.args.at c.way_in-place.result.inside c.args.to_right
     c.self.view_is c.self.invariant c.requires.children c.way_in-place.ensures.child c.way_in-place.ensures.place c.way_in-place.ensures.goes
 
 -- and then
 abbrev child : After-info-front → Tree
-child c = get_or c.self.inside.nodes c.way_in-place.result.0 c.index-self-place.result
+child c = get_or c.self.inside.nodes c.way_in-place.result.place c.index-self-place.result
 
-parted_at : (c : After-info-front) → Finds c.self.inside c.args.self.now c.way_in-place.result.0 (child c) c.args.at c.way_in-place.result.1 c.args.to_right
+parted_at : (c : After-info-front) → Finds c.self.inside c.args.self.now c.way_in-place.result.place (child c) c.args.at c.way_in-place.result.inside c.args.to_right
 parted_at c =
-    found_at c.self.inside c.args.self.now c.way_in-place.result.0 c.index-self-place.result c.args.at c.way_in-place.result.1 c.args.to_right
+    found_at c.self.inside c.args.self.now c.way_in-place.result.place c.index-self-place.result c.args.at c.way_in-place.result.inside c.args.to_right
     c.self.view_is c.self.invariant c.requires.children c.way_in-place.ensures.child c.way_in-place.ensures.place c.way_in-place.ensures.goes
 
 pub cut-requires-clause-takes : goal.cut-requires-clause-takes
@@ -115,25 +115,25 @@ returns-in-Grown-clause-tried c = record {
 
 -- the children with both parts of the leaf
 abbrev parts : After-info-front → List Tree
-parts c = insert (set c.args.self.now c.way_in-place.result.0 c.cut.new.self) (c.way_in-place.result.0 + 1) c.in-Parted.back
+parts c = insert (set c.args.self.now c.way_in-place.result.place c.cut.new.self) (c.way_in-place.result.place + 1) c.in-Parted.back
 
 parted : (c : After-info-front) → AreGrown c.args.self.now (parts c) (inserted (joined c.args.self.now) c.args.at c.args.added.now)
 parted c =
     let ts = c.args.self.now in
-    let k = c.way_in-place.result.0 in
+    let k = c.way_in-place.result.place in
     let u = c.cut.new.self in
     let d = (parted_at c).taken in
     let g = d.goes in
-    let new = inserted (text (child c)) c.way_in-place.result.1 c.args.added.now in
+    let new = inserted (text (child c)) c.way_in-place.result.inside c.args.added.now in
     let done : IsInserted (child c) (u ∷ c.in-Parted.back ∷ []) new = rw c.in-Parted.is at c.in_ok-cut.ensures.cut in
     let few : length ts < 24 = omega (arith, c.if-count-ge-MAX_CHILDREN.false, c.len-count.ensures, c.self.invariant.totals_right.as_many, ap length c.self.view_is) in
-    grown_by_one (breaks_of ts) (height_of ts) ts k (child c) u c.in-Parted.back d.children d.within d.child_is c.args.at c.way_in-place.result.1 c.args.added.now c.requires.takes.some
+    grown_by_one (breaks_of ts) (height_of ts) ts k (child c) u c.in-Parted.back d.children d.within d.child_is c.args.at c.way_in-place.result.inside c.args.added.now c.requires.takes.some
     d.place g.within c.args.to_right g.inside g.outside c.requires.side done c.requires.takes.fits refl refl few
 
 children : (c : After-info-front) → AreChildren (breaks_of c.args.self.now) (height_of c.args.self.now) (parts c)
 children c = children_grown c.args.self.now (parts c) _ c.requires.children (parted c)
 
-cut : (c : After-info-front) → Cuts c.args.self.now (parts c) c.way_in-place.result.0 (child c) c.cut.new.self c.in-Parted.back
+cut : (c : After-info-front) → Cuts c.args.self.now (parts c) c.way_in-place.result.place (child c) c.cut.new.self c.in-Parted.back
 cut c = record { children = c.requires.children; within = c.way_in-place.ensures.child; child_is = (parted_at c).taken.child_is; after = children c; is = refl }
 
 totals : (c : After-info-front) → HasTotals (breaks_of c.args.self.now) c.self.inside.totals c.args.self.now
@@ -154,16 +154,16 @@ module _ (c : After-info-front) where
   u = c.cut.new.self
 
   abbrev front : List Tree
-  front = take c.way_in-place.result.0 c.args.self.now
+  front = take c.way_in-place.result.place c.args.self.now
 
-  before_is : (before : TextInfo) → (c.way_in-place.result.0 ≡ 0 → (b : LineBreaks) → before ≡ info_of b []) → ((d : TextInfo) → 0 < c.way_in-place.result.0 → before ≡ get_or c.self.inside.totals (c.way_in-place.result.0 - 1) d)
+  before_is : (before : TextInfo) → (c.way_in-place.result.place ≡ 0 → (b : LineBreaks) → before ≡ info_of b []) → ((d : TextInfo) → 0 < c.way_in-place.result.place → before ≡ get_or c.self.inside.totals (c.way_in-place.result.place - 1) d)
       → before ≡ info_of br (joined front)
   before_is before first later =
       let t = totals c in
-      front_is br c.self.inside.totals c.args.self.now c.way_in-place.result.0 before t (omega (arith, t.as_many, c.way_in-place.ensures.child)) first later
+      front_is br c.self.inside.totals c.args.self.now c.way_in-place.result.place before t (omega (arith, t.as_many, c.way_in-place.ensures.child)) first later
 
   small_before : (before : TextInfo) → before ≡ info_of br (joined front) → IsSmall before
-  small_before before is = rw is (small_info br (joined front) (omega (arith, byte_len-joined c.args.self.now c.way_in-place.result.0, c.requires.children.fits)))
+  small_before before is = rw is (small_info br (joined front) (omega (arith, byte_len-joined c.args.self.now c.way_in-place.result.place, c.requires.children.fits)))
 
   small_front : IsSmall c.info-front.result
   small_front = rw (front_counts c) (small_info br (text u) (own_first _ _ _ _ _ _ (cut c)).tree.fits)
@@ -222,26 +222,26 @@ insert-requires-clause-narrow c = λ narrow.
     rw (first_is f c.total_before.result c.plus-total.result before c.plus-total.ensures.sum) (first_narrow _ _ _ _ _ _ (cut f) few)
 
 -- the nodes in use, with the second part of the leaf behind the first
-placed : (c : After-put_behind) → c.put_behind.new.nodes ≡ insert (set c.args.self.now c.way_in-place.result.0 c.cut.new.self) (c.way_in-place.result.0 + 1) c.in-Parted.back
+placed : (c : After-put_behind) → c.put_behind.new.nodes ≡ insert (set c.args.self.now c.way_in-place.result.place c.cut.new.self) (c.way_in-place.result.place + 1) c.in-Parted.back
 placed c =
-    put_in_place c.self.inside c.args.self.now c.way_in-place.result.0 c.cut.new.self c.in-Parted.back c.len-count.result c.put_behind.new.nodes c.self.invariant c.self.view_is c.way_in-place.ensures.child
+    put_in_place c.self.inside c.args.self.now c.way_in-place.result.place c.cut.new.self c.in-Parted.back c.len-count.result c.put_behind.new.nodes c.self.invariant c.self.view_is c.way_in-place.ensures.child
     c.len-count.ensures (omega (arith, c.if-count-ge-MAX_CHILDREN.false)) c.put_behind.ensures
 
 -- as many as there are places for
 as_many : (c : After-put_behind) → length c.put_behind.new.nodes ≡ c.len-count.result + 1
 as_many c =
     let ts = c.args.self.now in
-    let k = c.way_in-place.result.0 in
+    let k = c.way_in-place.result.place in
     let u = c.cut.new.self in
     let within = c.way_in-place.ensures.child in
     omega (arith, ap length (placed c), length-insert (set ts k u) (k + 1) c.in-Parted.back (omega (arith, length-set ts k u, within)), length-set ts k u, c.len-count.ensures, c.self.invariant.totals_right.as_many, ap length c.self.view_is)
 
-module _ (c : After-info-front) (total back both : TextInfo) (mid after : List TextInfo) (first : total ≡ info_sum (info_of (breaks_of c.args.self.now) (joined (take c.way_in-place.result.0 c.args.self.now))) (info_of (breaks_of c.args.self.now) (text c.cut.new.self)))
+module _ (c : After-info-front) (total back both : TextInfo) (mid after : List TextInfo) (first : total ≡ info_sum (info_of (breaks_of c.args.self.now) (joined (take c.way_in-place.result.place c.args.self.now))) (info_of (breaks_of c.args.self.now) (text c.cut.new.self)))
     (parts_are : both ≡ info_sum (info_of (breaks_of c.args.self.now) (text c.cut.new.self)) (info_of (breaks_of c.args.self.now) (text c.in-Parted.back)))
-    (len : length mid ≡ length c.self.inside.totals) (before : (j : ℕ) (d : TextInfo) → j < c.way_in-place.result.0 → get_or mid j d ≡ get_or c.self.inside.totals j d)
-    (past : (j : ℕ) (d : TextInfo) → c.way_in-place.result.0 ≤ j → j < length c.self.inside.totals → info_sum (get_or mid j d) c.info-old.result ≡ info_sum (get_or c.self.inside.totals j d) both)
-    (more : length after ≡ length mid + 1) (early : (j : ℕ) (d : TextInfo) → j < c.way_in-place.result.0 → get_or after j d ≡ get_or mid j d) (own : (d : TextInfo) → get_or after c.way_in-place.result.0 d ≡ total)
-    (late : (j : ℕ) (d : TextInfo) → c.way_in-place.result.0 ≤ j → j < length mid → get_or after (j + 1) d ≡ get_or mid j d) where
+    (len : length mid ≡ length c.self.inside.totals) (before : (j : ℕ) (d : TextInfo) → j < c.way_in-place.result.place → get_or mid j d ≡ get_or c.self.inside.totals j d)
+    (past : (j : ℕ) (d : TextInfo) → c.way_in-place.result.place ≤ j → j < length c.self.inside.totals → info_sum (get_or mid j d) c.info-old.result ≡ info_sum (get_or c.self.inside.totals j d) both)
+    (more : length after ≡ length mid + 1) (early : (j : ℕ) (d : TextInfo) → j < c.way_in-place.result.place → get_or after j d ≡ get_or mid j d) (own : (d : TextInfo) → get_or after c.way_in-place.result.place d ≡ total)
+    (late : (j : ℕ) (d : TextInfo) → c.way_in-place.result.place ≤ j → j < length mid → get_or after (j + 1) d ≡ get_or mid j d) where
   retotaled : HasTotals (breaks_of (parts c)) after (parts c)
   retotaled =
       let us = parts c in
@@ -258,7 +258,7 @@ invariant_of-self-2 c =
     let both = both_are f c.info.result c.plus.result c.info.ensures.value c.plus.ensures.sum in
     let right = retotaled f c.plus-total.result c.info.result c.plus.result c.retotal-2.new.self c.insert.new.self first both c.retotal-2.ensures.len c.retotal-2.ensures.before c.retotal-2.ensures.after
     c.insert.ensures.len c.insert.ensures.before c.insert.ensures.here c.insert.ensures.behind in
-    more_listed c.self.inside _ c.args.self.now c.put_behind.new.nodes c.way_in-place.result.0 c.cut.new.self c.len-count.result c.self.invariant c.self.view_is c.way_in-place.ensures.child (rw (placed e) (children f)) refl refl
+    more_listed c.self.inside _ c.args.self.now c.put_behind.new.nodes c.way_in-place.result.place c.cut.new.self c.len-count.result c.self.invariant c.self.view_is c.way_in-place.ensures.child (rw (placed e) (children f)) refl refl
     (as_many e) c.len-count.ensures refl (rw (placed e) right)
 
 pub returns-clause-tried : goal.returns-clause-tried
@@ -271,7 +271,7 @@ returns-clause-tried c = record {
       let right = retotaled f c.plus-total.result c.info.result c.plus.result c.retotal-2.new.self c.insert.new.self first both c.retotal-2.ensures.len c.retotal-2.ensures.before c.retotal-2.ensures.after
       c.insert.ensures.len c.insert.ensures.before c.insert.ensures.here c.insert.ensures.behind in
       let now : HasTotals (breaks_of c.put_behind.new.nodes) c.insert.new.self c.put_behind.new.nodes = rw (placed e) right in
-      let seen = more_seen c.self.inside (record { height = _; breaks = _; last = c.self.inside.last; totals = _; nodes = _ }) c.args.self.now c.put_behind.new.nodes c.way_in-place.result.0 c.cut.new.self c.len-count.result c.self.invariant c.self.view_is c.way_in-place.ensures.child (rw (placed e) (children f)) refl refl
+      let seen = more_seen c.self.inside (record { height = _; breaks = _; last = c.self.inside.last; totals = _; nodes = _ }) c.args.self.now c.put_behind.new.nodes c.way_in-place.result.place c.cut.new.self c.len-count.result c.self.invariant c.self.view_is c.way_in-place.ensures.child (rw (placed e) (children f)) refl refl
       (as_many e) c.len-count.ensures refl now in
       rw (seen, placed e) (parted f);
   kept = λ no. cc;
