@@ -24,24 +24,27 @@ use Rattle.rope_tree.specs.Search.{IsSmall}
 use Rattle.rope_slice.proofs.Carets.{small_of, size_front}
 
 -- a step forward
-module _ (c : Content) (h new : Halves) (before passed : TextInfo) (l total : ℕ) (breaks : LineBreaks) (s : IsLineStart c h before l total) (less : l < total) (same : breaks ≡ c.breaks)
-    (front : new.front ≡ h.front ++ first_line breaks h.back) (back : h.back ≡ first_line breaks h.back ++ new.back) (counts : passed ≡ info_of breaks (first_line breaks h.back)) where
+module _ (c : Content) (h : Halves) (before : TextInfo) (l total : ℕ) (breaks : LineBreaks) (s : IsLineStart c h before l total) (less : l < total) (same : breaks ≡ c.breaks) where
+  abbrev pub passed_on : TextInfo
+  passed_on = info_of breaks (first_line breaks h.back)
+
   pub inside : l < line_count c.breaks c.text
   inside = omega (arith, s.total_is)
 
   passed_is : first_line breaks h.back ≡ slice_range c.text (line_start c.breaks c.text l) (line_start c.breaks c.text (l + 1))
   passed_is = ap (λ b. first_line b h.back) same ∙ ap (first_line c.breaks) s.back_is ∙ first_line-drop c.breaks c.text l inside
 
-  counts_are : passed ≡ info_of c.breaks (slice_range c.text (line_start c.breaks c.text l) (line_start c.breaks c.text (l + 1)))
-  counts_are = counts ∙ ap (λ b. info_of b (first_line breaks h.back)) same ∙ ap (info_of c.breaks) passed_is
+  counts_are : passed_on ≡ info_of c.breaks (slice_range c.text (line_start c.breaks c.text l) (line_start c.breaks c.text (l + 1)))
+  counts_are = ap (λ b. info_of b (first_line breaks h.back)) same ∙ ap (info_of c.breaks) passed_is
 
-  pub after_is : (after : TextInfo) → after ≡ info_sum before passed → after ≡ info_of c.breaks (take (line_start c.breaks c.text (l + 1)) c.text)
+  pub after_is : (after : TextInfo) → after ≡ info_sum before passed_on → after ≡ info_of c.breaks (take (line_start c.breaks c.text (l + 1)) c.text)
   after_is after sum =
-      sum ∙ ap (λ x. info_sum x passed) s.before_is ∙ ap (λ x. info_sum (info_of c.breaks (take (line_start c.breaks c.text l) c.text)) x) counts_are
+      sum ∙ ap (λ x. info_sum x passed_on) s.before_is ∙ ap (λ x. info_sum (info_of c.breaks (take (line_start c.breaks c.text l) c.text)) x) counts_are
       ∙ sym (next_counts c.breaks c.text l inside)
 
-  pub next_start : new.chunks ≡ h.chunks → (after : TextInfo) → after ≡ info_sum before passed → IsLineStart c new after (l + 1) total
-  next_start chunks after sum =
+  pub next_start : (new : Halves) → new.front ≡ h.front ++ first_line breaks h.back → h.back ≡ first_line breaks h.back ++ new.back → new.chunks ≡ h.chunks
+      → (after : TextInfo) → after ≡ info_sum before passed_on → IsLineStart c new after (l + 1) total
+  next_start new front back chunks after sum =
       let a : ℕ = line_start c.breaks c.text l in
       let b : ℕ = line_start c.breaks c.text (l + 1) in
       let order = line_start_mono c.breaks c.text l (l + 1) (omega arith) in
@@ -58,13 +61,13 @@ module _ (c : Content) (h new : Halves) (before passed : TextInfo) (l total : �
         fits = s.fits;
       }
 
-  pub next_small : IsSmall before × IsSmall passed
+  pub next_small : IsSmall before × IsSmall passed_on
   next_small =
       let sum = next_counts c.breaks c.text l inside in
       let size = ap (λ x. x.bytes) sum in
       let most = size_front (line_start c.breaks c.text (l + 1)) c.text in (
         small_of c.breaks (take (line_start c.breaks c.text l) c.text) before s.before_is (omega (arith, s.fits)),
-        small_of c.breaks (slice_range c.text (line_start c.breaks c.text l) (line_start c.breaks c.text (l + 1))) passed counts_are (omega (arith, s.fits)),
+        small_of c.breaks (slice_range c.text (line_start c.breaks c.text l) (line_start c.breaks c.text (l + 1))) passed_on counts_are (omega (arith, s.fits)),
       )
 
 -- a line starts in no CR LF
@@ -77,9 +80,11 @@ breaks_enough c h before l total s =
     omega (arith, s.within, s.total_is, ap (λ x. x.break_count) s.before_is, break_count-front c.breaks c.text l (omega (arith, s.within, s.total_is)))
 
 -- a step backward
-module _ (c : Content) (h new : Halves) (before passed : TextInfo) (l total skip : ℕ) (breaks : LineBreaks) (s : IsLineStart c h before l total) (some : 0 < l) (same : breaks ≡ c.breaks)
-    (skip_is : skip ≡ before.break_count - (l - 1)) (front : new.front ≡ take (last_start breaks h.front skip) h.front) (back : new.back ≡ drop (last_start breaks h.front skip) h.front ++ h.back)
-    (counts : passed ≡ info_of breaks (drop (last_start breaks h.front skip) h.front)) where
+module _ (c : Content) (h : Halves) (before : TextInfo) (l total skip : ℕ) (breaks : LineBreaks) (s : IsLineStart c h before l total) (some : 0 < l) (same : breaks ≡ c.breaks)
+    (skip_is : skip ≡ before.break_count - (l - 1)) where
+  abbrev pub passed_over : TextInfo
+  passed_over = info_of breaks (drop (last_start breaks h.front skip) h.front)
+
   pub inside_back : l - 1 < line_count c.breaks c.text
   inside_back = omega (arith, s.total_is, s.within)
 
@@ -100,10 +105,10 @@ module _ (c : Content) (h new : Halves) (before passed : TextInfo) (l total skip
       ap (λ n. drop n h.front) last_is ∙ ap (drop (line_start c.breaks c.text (l - 1))) s.front_is
       ∙ sym (part_of_front c.text (line_start c.breaks c.text (l - 1)) (line_start c.breaks c.text l) order)
 
-  counts_back : passed ≡ info_of c.breaks (slice_range c.text (line_start c.breaks c.text (l - 1)) (line_start c.breaks c.text l))
-  counts_back = counts ∙ ap (λ b. info_of b (drop (last_start breaks h.front skip) h.front)) same ∙ ap (info_of c.breaks) line_back
+  counts_back : passed_over ≡ info_of c.breaks (slice_range c.text (line_start c.breaks c.text (l - 1)) (line_start c.breaks c.text l))
+  counts_back = ap (λ b. info_of b (drop (last_start breaks h.front skip) h.front)) same ∙ ap (info_of c.breaks) line_back
 
-  pub before_sum : before ≡ info_sum (info_of c.breaks (take (line_start c.breaks c.text (l - 1)) c.text)) passed
+  pub before_sum : before ≡ info_sum (info_of c.breaks (take (line_start c.breaks c.text (l - 1)) c.text)) passed_over
   before_sum =
       let first : TextInfo = info_of c.breaks (take (line_start c.breaks c.text (l - 1)) c.text) in
       s.before_is ∙ ap (λ k. info_of c.breaks (take (line_start c.breaks c.text k) c.text)) (sym up) ∙ next_counts c.breaks c.text (l - 1) inside_back
@@ -112,14 +117,15 @@ module _ (c : Content) (h new : Halves) (before passed : TextInfo) (l total skip
   pub before_up : before ≡ info_of c.breaks (take (line_start c.breaks c.text ((l - 1) + 1)) c.text)
   before_up = s.before_is ∙ ap (λ k. info_of c.breaks (take (line_start c.breaks c.text k) c.text)) (sym up)
 
-  pub start_is : (start : TextInfo) → info_sum passed start ≡ before → start ≡ info_of c.breaks (take (line_start c.breaks c.text (l - 1)) c.text)
+  pub start_is : (start : TextInfo) → info_sum passed_over start ≡ before → start ≡ info_of c.breaks (take (line_start c.breaks c.text (l - 1)) c.text)
   start_is start sum =
       let first : TextInfo = info_of c.breaks (take (line_start c.breaks c.text (l - 1)) c.text) in
       let both = sum ∙ before_sum in
       same_info start first (omega (arith, ap (λ x. x.bytes) both)) (omega (arith, ap (λ x. x.chars) both)) (omega (arith, ap (λ x. x.utf16_surrogates) both)) (omega (arith, ap (λ x. x.break_count) both))
 
-  pub prev_start : new.chunks ≡ h.chunks → (start : TextInfo) → info_sum passed start ≡ before → IsLineStart c new start (l - 1) total
-  prev_start chunks start sum =
+  pub prev_start : (new : Halves) → new.front ≡ take (last_start breaks h.front skip) h.front → new.back ≡ drop (last_start breaks h.front skip) h.front ++ h.back → new.chunks ≡ h.chunks
+      → (start : TextInfo) → info_sum passed_over start ≡ before → IsLineStart c new start (l - 1) total
+  prev_start new front back chunks start sum =
       let a : ℕ = line_start c.breaks c.text (l - 1) in
       let b : ℕ = line_start c.breaks c.text l in
       let rest : a + (b - a) ≡ b = (let o = order in omega arith) in

@@ -10,7 +10,8 @@ ghost use Rattle.rope_text.specs.Cutting.{parts_crlf};
 ghost use Rattle.rope_text.specs.Lines.{line_count};
 ghost use Rattle.rope_text.specs.LineParts.{part_between, line_of, lines_of, first_line, last_start};
 ghost use Rattle.rope_text.specs.Sides.{ahead, at_start, at_place, turned, GoesRight, GoesLeft, GoesAhead, StepsBack};
-ghost use Rattle.rope_text.specs.TextInfo.{info_of};
+ghost use Rattle.rope_text.specs.TextInfo.{info_of, info_sum, HasPart};
+ghost use Rattle.rope_tree.specs.Search.{IsSmall};
 ghost use Rattle.rope_slice.specs.Slice.{content_of, text_of, chunks_of, breaks_of};
 ghost use Rattle.rope_slice.specs.Caret.{AreChunks, HoldsAhead, PassesLine, PassesBack};
 ghost use Rattle.rope_slice.specs.Path.{leaves};
@@ -218,13 +219,12 @@ impl<'a> Lines<'a> {
         let here = self.before;
         if is_left {
             let line = self.line - 1;
-            let (passed, held) = self.caret.pass_line_back(here.break_count - line, breaks);
-            self.before = here.minus(passed);
+            let skip = here.break_count - line;
+            let held = self.caret.pass_line_back(&mut self.before, skip, breaks);
             self.line = line;
             return Some(self.slice.between(self.before, here, held));
         }
-        let (passed, held) = self.caret.pass_line(breaks);
-        self.before = here.plus(passed);
+        let held = self.caret.pass_line(&mut self.before, breaks);
         self.line += 1;
         Some(self.slice.between(here, self.before, held))
     }
@@ -361,49 +361,59 @@ fn pass_chunks_back(span: &mut Span<'_>, skip: usize, breaks: LineBreaks) -> (us
 }
 
 impl<'a> Caret<'a> {
-    // Goes on past the next line break, or to the end. Answers the counts of what it passed, and what the chunk in which that
-    // starts has from there on.
+    // Goes on past the next line break, or to the end, and adds what it passed to the counts of the text before. Answers what the
+    // chunk in which that starts has from there on. The counts are kept by the callee: were they answered, the caller would load as
+    // vectors what was just stored in words, and stall.
     #[inline(never)]
-    fn pass_line(&mut self, breaks: LineBreaks) -> (TextInfo, &'a str)
+    fn pass_line(&mut self, before: &mut TextInfo, breaks: LineBreaks) -> &'a str
+        requires { IsSmall before.old }
         ensures front { self.new.front ≡ self.old.front ++ first_line breaks self.old.back }
         ensures back { self.old.back ≡ first_line breaks self.old.back ++ self.new.back }
         ensures chunks { self.new.chunks ≡ self.old.chunks }
-        ensures counts { result.0 ≡ info_of breaks (first_line breaks self.old.back) }
-        ensures held { HoldsAhead self.old (chars result.1.now) }
+        ensures counts { before.new
+            ≡ info_sum before.old (info_of breaks (first_line breaks self.old.back)) }
+        ensures held { HoldsAhead self.old (chars result.now) }
     {
         let held = &self.span.chunk()[self.inside..];
         let first = TextInfo::of_first_line(held, breaks);
         if first.break_count > 0 {
             self.inside += first.bytes;
-            return (first, held);
+            *before = before.plus(first);
+            return held;
         }
         let (inside, more) = pass_chunks(&mut self.span, breaks);
         self.inside = inside;
-        (first.plus(more), held)
+        *before = before.plus(first.plus(more));
+        held
     }
 
-    // Goes back past `skip` line breaks, and on to the end of the one before them, or to the start. Answers the counts of what it
-    // passed, and what the chunk has from the new place on. The place is in no CR LF.
+    // Goes back past `skip` line breaks, and on to the end of the one before them, or to the start, and takes what it passed from
+    // the counts of the text before. Answers what the chunk has from the new place on. The place is in no CR LF.
     #[inline(never)]
-    fn pass_line_back(&mut self, skip: usize, breaks: LineBreaks) -> (TextInfo, &'a str)
-        requires { parts_crlf self.old.front self.old.back ≡ false }
+    fn pass_line_back(&mut self, before: &mut TextInfo, skip: usize, breaks: LineBreaks) -> &'a str
+        requires apart { parts_crlf self.old.front self.old.back ≡ false }
+        requires part { HasPart before.old
+            (info_of breaks (drop (last_start breaks self.old.front skip) self.old.front)) }
         ensures front { self.new.front
             ≡ take (last_start breaks self.old.front skip) self.old.front }
         ensures back { self.new.back
             ≡ drop (last_start breaks self.old.front skip) self.old.front ++ self.old.back }
         ensures chunks { self.new.chunks ≡ self.old.chunks }
-        ensures counts { result.0
-            ≡ info_of breaks (drop (last_start breaks self.old.front skip) self.old.front) }
-        ensures held { HoldsAhead self.new (chars result.1.now) }
+        ensures counts { info_sum
+            (info_of breaks (drop (last_start breaks self.old.front skip) self.old.front))
+            before.new ≡ before.old }
+        ensures held { HoldsAhead self.new (chars result.now) }
     {
         let chunk = self.span.chunk();
         let (start, last) = TextInfo::of_last_line(chunk, self.inside, skip, breaks);
         if start > 0 {
             self.inside = start;
-            return (last, &chunk[start..]);
+            *before = before.minus(last);
+            return &chunk[start..];
         }
         let (inside, more) = pass_chunks_back(&mut self.span, skip - last.break_count, breaks);
         self.inside = inside;
-        (more.plus(last), &self.span.chunk()[inside..])
+        *before = before.minus(more.plus(last));
+        &self.span.chunk()[inside..]
     }
 }

@@ -1,11 +1,11 @@
 use Rattle.std.proofs.Common.{◌≡◌, ◌∙◌, ap, arith}
-use Rattle.rope_text.specs.TextInfo.{info_of}
+use Rattle.rope_text.specs.TextInfo.{info_of, info_sum}
 use Rattle.rope_text.specs.LineParts.{first_line}
 use Rattle.std.specs.Str.{chars}
 use Rattle.rope_text.specs.LineParts.{after_byte}
 use Rattle.rope_slice.specs.Caret.{halves_at, HoldsAhead}
 use Rattle.rope_slice.proofs.Carets.{between_boundary, between_after}
-use Rattle.rope_slice.proofs.CaretSteps.{holds_ahead, info_small, place_fits, pass_inside, more_small, pass_over}
+use Rattle.rope_slice.proofs.CaretSteps.{holds_ahead, info_small, line_small, place_fits, pass_inside, more_small, pass_over}
 use Rattle.rope_slice.proofs.lines.Caret.pass_line.Goals.{After-of_first_line-first}
 use Rattle.rope_tree.proofs.Infos.{sum_of_small}
 use Rattle.rope_slice.proofs.lines.Caret.pass_line.Goals as goal
@@ -43,18 +43,23 @@ returns-then-first-gt0-clause-back c =
     (first_is (goal.at.returns-then-first-gt0-clause-back c).After-of_first_line-first)
     c.if-first-gt0.true).back_is
 
-pub returns-then-first-gt0-clause-counts : goal.returns-then-first-gt0-clause-counts
-returns-then-first-gt0-clause-counts c =
-    rw (← c.self.view_is) (pass_inside c.args.breaks c.self.inside.span c.self.inside.inside c.self.invariant c.of_first_line-first.result
-    (first_is (goal.at.returns-then-first-gt0-clause-counts c).After-of_first_line-first)
-    c.if-first-gt0.true).counts
-
 pub plus-requires : goal.plus-requires
 plus-requires c =
+    sum_of_small _ _ c.requires (info_small c.args.breaks c.self.inside.span c.self.inside.inside c.self.invariant c.of_first_line-first.result
+    (first_is (goal.at.plus-requires c).After-of_first_line-first))
+
+pub returns-then-first-gt0-clause-counts : goal.returns-then-first-gt0-clause-counts
+returns-then-first-gt0-clause-counts c =
+    rw (← c.self.view_is) (c.plus.ensures.sum ∙ ap (info_sum c.args.before.now) (pass_inside c.args.breaks c.self.inside.span c.self.inside.inside c.self.invariant c.of_first_line-first.result
+    (first_is (goal.at.returns-then-first-gt0-clause-counts c).After-of_first_line-first)
+    c.if-first-gt0.true).counts)
+
+pub plus-requires-2 : goal.plus-requires-2
+plus-requires-2 c =
     let one = info_small c.args.breaks c.self.inside.span c.self.inside.inside c.self.invariant c.of_first_line-first.result
-    (first_is (goal.at.plus-requires c).After-of_first_line-first) in
+    (first_is (goal.at.plus-requires-2 c).After-of_first_line-first) in
     let two = more_small c.args.breaks c.self.inside.span c.self.inside.inside c.self.invariant c.of_first_line-first.result
-    (first_is (goal.at.plus-requires c).After-of_first_line-first)
+    (first_is (goal.at.plus-requires-2 c).After-of_first_line-first)
     c.pass_chunks-inside.new.span c.pass_chunks-inside.result.0 c.pass_chunks-inside.result.1 c.if-first-gt0.false c.pass_chunks-inside.ensures.passes in
     sum_of_small _ _ one two
 
@@ -62,19 +67,27 @@ pub returns-clause-front : goal.returns-clause-front
 returns-clause-front c =
     rw (← c.self.view_is) (pass_over c.args.breaks c.self.inside.span c.self.inside.inside c.self.invariant c.of_first_line-first.result
     (first_is (goal.at.returns-clause-front c).After-of_first_line-first)
-    c.pass_chunks-inside.new.span c.pass_chunks-inside.result.0 c.pass_chunks-inside.result.1 c.if-first-gt0.false c.pass_chunks-inside.ensures.passes c.plus.result c.plus.ensures.sum).front_is
+    c.pass_chunks-inside.new.span c.pass_chunks-inside.result.0 c.pass_chunks-inside.result.1 c.if-first-gt0.false c.pass_chunks-inside.ensures.passes c.plus-2.result c.plus-2.ensures.sum).front_is
 
 pub returns-clause-back : goal.returns-clause-back
 returns-clause-back c =
     rw (← c.self.view_is) (pass_over c.args.breaks c.self.inside.span c.self.inside.inside c.self.invariant c.of_first_line-first.result
     (first_is (goal.at.returns-clause-back c).After-of_first_line-first)
-    c.pass_chunks-inside.new.span c.pass_chunks-inside.result.0 c.pass_chunks-inside.result.1 c.if-first-gt0.false c.pass_chunks-inside.ensures.passes c.plus.result c.plus.ensures.sum).back_is
+    c.pass_chunks-inside.new.span c.pass_chunks-inside.result.0 c.pass_chunks-inside.result.1 c.if-first-gt0.false c.pass_chunks-inside.ensures.passes c.plus-2.result c.plus-2.ensures.sum).back_is
+
+pub plus-requires-3 : goal.plus-requires-3
+plus-requires-3 c =
+    let first = (first_is (goal.at.plus-requires-3 c).After-of_first_line-first) in
+    sum_of_small _ _ c.requires (line_small c.args.breaks c.self.inside.span c.self.inside.inside c.self.invariant c.of_first_line-first.result
+    first c.plus-2.result (pass_over c.args.breaks c.self.inside.span c.self.inside.inside c.self.invariant c.of_first_line-first.result
+    first
+    c.pass_chunks-inside.new.span c.pass_chunks-inside.result.0 c.pass_chunks-inside.result.1 c.if-first-gt0.false c.pass_chunks-inside.ensures.passes c.plus-2.result c.plus-2.ensures.sum).counts)
 
 pub returns-clause-counts : goal.returns-clause-counts
 returns-clause-counts c =
-    rw (← c.self.view_is) (pass_over c.args.breaks c.self.inside.span c.self.inside.inside c.self.invariant c.of_first_line-first.result
+    rw (← c.self.view_is) (c.plus-3.ensures.sum ∙ ap (info_sum c.args.before.now) (pass_over c.args.breaks c.self.inside.span c.self.inside.inside c.self.invariant c.of_first_line-first.result
     (first_is (goal.at.returns-clause-counts c).After-of_first_line-first)
-    c.pass_chunks-inside.new.span c.pass_chunks-inside.result.0 c.pass_chunks-inside.result.1 c.if-first-gt0.false c.pass_chunks-inside.ensures.passes c.plus.result c.plus.ensures.sum).counts
+    c.pass_chunks-inside.new.span c.pass_chunks-inside.result.0 c.pass_chunks-inside.result.1 c.if-first-gt0.false c.pass_chunks-inside.ensures.passes c.plus-2.result c.plus-2.ensures.sum).counts)
 
 ahead : (c : After-of_first_line-first) → HoldsAhead (halves_at c.self.inside.span c.self.inside.inside) (chars c.range_from-held.result.now)
 ahead c =

@@ -1,9 +1,9 @@
-use Rattle.std.proofs.Common.{◌≡◌, ◌<◌, ℕ, List, take, drop, ◌∙◌, ap}
+use Rattle.std.proofs.Common.{◌≡◌, ◌<◌, ℕ, List, take, drop, sym, ◌∙◌, ap}
 use Rattle.std.specs.Str.{chars}
 use Rattle.rope_text.specs.declared.line_breaks.LineBreaks.{LineBreaks}
 use Rattle.rope_text.specs.declared.text_info.TextInfo.{TextInfo}
 use Rattle.rope_text.specs.Text.{byte_len}
-use Rattle.rope_text.specs.TextInfo.{info_of}
+use Rattle.rope_text.specs.TextInfo.{info_of, info_sum}
 use Rattle.rope_text.specs.Conversions.{byte_to_char}
 use Rattle.rope_text.specs.LineParts.{last_start}
 use Rattle.rope_slice.proofs.CaretsBack.{caret_apart, caret_found, caret_left, caret_small, other_small, caret_composed}
@@ -27,7 +27,7 @@ pub of_last_line-start-requires-clause-between : goal.of_last_line-start-require
 of_last_line-start-requires-clause-between c = rw c.chunk-chunk.ensures c.self.invariant.between
 
 pub of_last_line-start-requires-clause-apart : goal.of_last_line-start-requires-clause-apart
-of_last_line-start-requires-clause-apart c = rw c.chunk-chunk.ensures (caret_apart c.self.inside.span c.self.inside.inside (rw (← c.self.view_is) at c.requires))
+of_last_line-start-requires-clause-apart c = rw c.chunk-chunk.ensures (caret_apart c.self.inside.span c.self.inside.inside (rw (← c.self.view_is) at c.requires.apart))
 
 pub invariant_of-self : goal.invariant_of-self
 invariant_of-self c =
@@ -50,12 +50,19 @@ returns-then-start-gt0-clause-back c =
     (counts_are c.args.breaks c.args.skip c.self.inside.span.here (chars c.chunk-chunk.result.now) c.self.inside.inside c.of_last_line-start.result.1 c.chunk-chunk.ensures c.of_last_line-start.ensures.counts)
     c.if-start-gt0.true).back_is
 
-pub returns-then-start-gt0-clause-counts : goal.returns-then-start-gt0-clause-counts
-returns-then-start-gt0-clause-counts c =
-    rw (← c.self.view_is) (caret_found c.args.breaks c.args.skip c.self.inside.span c.self.inside.inside c.of_last_line-start.result.0 c.of_last_line-start.result.1 c.self.invariant
+pub minus-requires : goal.minus-requires
+minus-requires c =
+    rw (caret_found c.args.breaks c.args.skip c.self.inside.span c.self.inside.inside c.of_last_line-start.result.0 c.of_last_line-start.result.1 c.self.invariant
     (start_is c.args.breaks c.args.skip c.self.inside.span.here (chars c.chunk-chunk.result.now) c.self.inside.inside c.of_last_line-start.result.0 c.chunk-chunk.ensures c.of_last_line-start.ensures.start)
     (counts_are c.args.breaks c.args.skip c.self.inside.span.here (chars c.chunk-chunk.result.now) c.self.inside.inside c.of_last_line-start.result.1 c.chunk-chunk.ensures c.of_last_line-start.ensures.counts)
-    c.if-start-gt0.true).counts
+    c.if-start-gt0.true).counts (rw (← c.self.view_is) at c.requires.part)
+
+pub returns-then-start-gt0-clause-counts : goal.returns-then-start-gt0-clause-counts
+returns-then-start-gt0-clause-counts c =
+    rw (← c.self.view_is) (ap (λ x. info_sum x c.minus.result) (sym (caret_found c.args.breaks c.args.skip c.self.inside.span c.self.inside.inside c.of_last_line-start.result.0 c.of_last_line-start.result.1 c.self.invariant
+    (start_is c.args.breaks c.args.skip c.self.inside.span.here (chars c.chunk-chunk.result.now) c.self.inside.inside c.of_last_line-start.result.0 c.chunk-chunk.ensures c.of_last_line-start.ensures.start)
+    (counts_are c.args.breaks c.args.skip c.self.inside.span.here (chars c.chunk-chunk.result.now) c.self.inside.inside c.of_last_line-start.result.1 c.chunk-chunk.ensures c.of_last_line-start.ensures.counts)
+    c.if-start-gt0.true).counts) ∙ c.minus.ensures.sum)
 
 pub overflow_sub-skip : goal.overflow_sub-skip
 overflow_sub-skip c =
@@ -89,12 +96,19 @@ returns-clause-back c =
     (counts_are c.args.breaks c.args.skip c.self.inside.span.here (chars c.chunk-chunk.result.now) c.self.inside.inside c.of_last_line-start.result.1 c.chunk-chunk.ensures c.of_last_line-start.ensures.counts)
     c.pass_chunks_back-inside.new.span c.pass_chunks_back-inside.result.0 c.pass_chunks_back-inside.result.1 c.if-start-gt0.false c.pass_chunks_back-inside.ensures.passes c.plus.result c.plus.ensures.sum).back_is
 
-pub returns-clause-counts : goal.returns-clause-counts
-returns-clause-counts c =
-    rw (← c.self.view_is) (caret_composed c.args.breaks c.args.skip c.self.inside.span c.self.inside.inside c.of_last_line-start.result.0 c.of_last_line-start.result.1 c.self.invariant
+pub minus-requires-2 : goal.minus-requires-2
+minus-requires-2 c =
+    rw (caret_composed c.args.breaks c.args.skip c.self.inside.span c.self.inside.inside c.of_last_line-start.result.0 c.of_last_line-start.result.1 c.self.invariant
     (start_is c.args.breaks c.args.skip c.self.inside.span.here (chars c.chunk-chunk.result.now) c.self.inside.inside c.of_last_line-start.result.0 c.chunk-chunk.ensures c.of_last_line-start.ensures.start)
     (counts_are c.args.breaks c.args.skip c.self.inside.span.here (chars c.chunk-chunk.result.now) c.self.inside.inside c.of_last_line-start.result.1 c.chunk-chunk.ensures c.of_last_line-start.ensures.counts)
-    c.pass_chunks_back-inside.new.span c.pass_chunks_back-inside.result.0 c.pass_chunks_back-inside.result.1 c.if-start-gt0.false c.pass_chunks_back-inside.ensures.passes c.plus.result c.plus.ensures.sum).counts
+    c.pass_chunks_back-inside.new.span c.pass_chunks_back-inside.result.0 c.pass_chunks_back-inside.result.1 c.if-start-gt0.false c.pass_chunks_back-inside.ensures.passes c.plus.result c.plus.ensures.sum).counts (rw (← c.self.view_is) at c.requires.part)
+
+pub returns-clause-counts : goal.returns-clause-counts
+returns-clause-counts c =
+    rw (← c.self.view_is) (ap (λ x. info_sum x c.minus-2.result) (sym (caret_composed c.args.breaks c.args.skip c.self.inside.span c.self.inside.inside c.of_last_line-start.result.0 c.of_last_line-start.result.1 c.self.invariant
+    (start_is c.args.breaks c.args.skip c.self.inside.span.here (chars c.chunk-chunk.result.now) c.self.inside.inside c.of_last_line-start.result.0 c.chunk-chunk.ensures c.of_last_line-start.ensures.start)
+    (counts_are c.args.breaks c.args.skip c.self.inside.span.here (chars c.chunk-chunk.result.now) c.self.inside.inside c.of_last_line-start.result.1 c.chunk-chunk.ensures c.of_last_line-start.ensures.counts)
+    c.pass_chunks_back-inside.new.span c.pass_chunks_back-inside.result.0 c.pass_chunks_back-inside.result.1 c.if-start-gt0.false c.pass_chunks_back-inside.ensures.passes c.plus.result c.plus.ensures.sum).counts) ∙ c.minus-2.ensures.sum)
 
 -- the new place, in the same chunk
 found_caret : (c : After-of_last_line-start) → 0 < c.of_last_line-start.result.0 → IsCaret c.self.inside.span c.of_last_line-start.result.0

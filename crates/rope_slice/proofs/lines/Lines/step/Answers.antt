@@ -8,7 +8,6 @@ use Rattle.rope_slice.proofs.PartsBetween.{line_from, line_to, line_apart, line_
 use Rattle.std.specs.Str.{chars}
 use Rattle.rope_slice.proofs.LineMoves.{line_held, start_apart, breaks_enough, inside_back, before_sum, before_up, start_is, prev_start, inside, after_is, next_start, next_small}
 use Rattle.rope_slice.proofs.lines.Lines.step.Goals.{Then-is_left, Else-is_left}
-use Rattle.rope_tree.proofs.Infos.{sum_of_small}
 use Rattle.rope_text.proofs.InfoLaws.{rest_of_sum}
 use Rattle.rope_slice.proofs.lines.Lines.step.Goals as goal
 
@@ -24,110 +23,97 @@ returns-then-self-end_of c =
     let lines = at_line (content_of s.slice) s.line s.is_backward in
     rw (← c.self.view_is) (stays_put c.args.is_left lines lines refl (no_line c.args.is_left (content_of s.slice) s.caret s.before s.line s.total s.is_backward c.self.invariant (c.if-self-end_of.true ∙ c.end_of.ensures)) (λ (x : Content). x))
 
-pub overflow_sub-here : goal.overflow_sub-here
-overflow_sub-here c = breaks_enough (content_of c.self.inside.slice) c.self.inside.caret c.self.inside.before c.self.inside.line c.self.inside.total c.self.invariant
-
-pub minus-self-inside-requires : goal.minus-self-inside-requires
-minus-self-inside-requires c =
-    let sum = before_sum (content_of c.self.inside.slice) c.self.inside.caret c.pass_line_back.new.self c.self.inside.before c.pass_line_back.result.0 c.self.inside.line c.self.inside.total
-    (c.self.inside.before.break_count - (c.self.inside.line - 1)) c.line_breaks-breaks.result c.self.invariant (not_first (goal.at.minus-self-inside-requires c).Then-is_left) c.line_breaks-breaks.ensures refl
-    c.pass_line_back.ensures.front c.pass_line_back.ensures.back c.pass_line_back.ensures.counts in
-    rest_of_sum _ _ _ sum
+pub overflow_sub-skip : goal.overflow_sub-skip
+overflow_sub-skip c = breaks_enough (content_of c.self.inside.slice) c.self.inside.caret c.self.inside.before c.self.inside.line c.self.inside.total c.self.invariant
 
 pub between-requires-clause-from_is : goal.between-requires-clause-from_is
 between-requires-clause-from_is c =
-    line_from (content_of c.self.inside.slice) (c.self.inside.line - 1) (inside_back (content_of c.self.inside.slice) c.self.inside.caret c.pass_line_back.new.self c.self.inside.before c.pass_line_back.result.0 c.self.inside.line c.self.inside.total
-    (c.self.inside.before.break_count - (c.self.inside.line - 1)) c.line_breaks-breaks.result c.self.invariant (not_first (goal.at.between-requires-clause-from_is c).Then-is_left) c.line_breaks-breaks.ensures refl
-    c.pass_line_back.ensures.front c.pass_line_back.ensures.back c.pass_line_back.ensures.counts) c.minus-self-inside.result c.self.inside.before
-    (start_is (content_of c.self.inside.slice) c.self.inside.caret c.pass_line_back.new.self c.self.inside.before c.pass_line_back.result.0 c.self.inside.line c.self.inside.total
-    (c.self.inside.before.break_count - (c.self.inside.line - 1)) c.line_breaks-breaks.result c.self.invariant (not_first (goal.at.between-requires-clause-from_is c).Then-is_left) c.line_breaks-breaks.ensures refl
-    c.pass_line_back.ensures.front c.pass_line_back.ensures.back c.pass_line_back.ensures.counts c.minus-self-inside.result c.minus-self-inside.ensures.sum)
-    (before_up (content_of c.self.inside.slice) c.self.inside.caret c.pass_line_back.new.self c.self.inside.before c.pass_line_back.result.0 c.self.inside.line c.self.inside.total
-    (c.self.inside.before.break_count - (c.self.inside.line - 1)) c.line_breaks-breaks.result c.self.invariant (not_first (goal.at.between-requires-clause-from_is c).Then-is_left) c.line_breaks-breaks.ensures refl
-    c.pass_line_back.ensures.front c.pass_line_back.ensures.back c.pass_line_back.ensures.counts)
+    line_from (content_of c.self.inside.slice) (c.self.inside.line - 1) (inside_back (content_of c.self.inside.slice) c.self.inside.caret c.self.inside.before c.self.inside.line c.self.inside.total
+    (c.self.inside.before.break_count - (c.self.inside.line - 1)) c.line_breaks-breaks.result c.self.invariant (not_first (goal.at.between-requires-clause-from_is c).Then-is_left) c.line_breaks-breaks.ensures refl) c.pass_line_back-held.new.before c.self.inside.before
+    (start_is (content_of c.self.inside.slice) c.self.inside.caret c.self.inside.before c.self.inside.line c.self.inside.total
+    (c.self.inside.before.break_count - (c.self.inside.line - 1)) c.line_breaks-breaks.result c.self.invariant (not_first (goal.at.between-requires-clause-from_is c).Then-is_left) c.line_breaks-breaks.ensures refl c.pass_line_back-held.new.before c.pass_line_back-held.ensures.counts)
+    (before_up (content_of c.self.inside.slice) c.self.inside.caret c.self.inside.before c.self.inside.line c.self.inside.total
+    (c.self.inside.before.break_count - (c.self.inside.line - 1)) c.line_breaks-breaks.result c.self.invariant (not_first (goal.at.between-requires-clause-from_is c).Then-is_left) c.line_breaks-breaks.ensures refl)
 
 pub between-requires-clause-apart : goal.between-requires-clause-apart
 between-requires-clause-apart c =
-    line_apart (content_of c.self.inside.slice) (c.self.inside.line - 1) (inside_back (content_of c.self.inside.slice) c.self.inside.caret c.pass_line_back.new.self c.self.inside.before c.pass_line_back.result.0 c.self.inside.line c.self.inside.total
-    (c.self.inside.before.break_count - (c.self.inside.line - 1)) c.line_breaks-breaks.result c.self.invariant (not_first (goal.at.between-requires-clause-apart c).Then-is_left) c.line_breaks-breaks.ensures refl
-    c.pass_line_back.ensures.front c.pass_line_back.ensures.back c.pass_line_back.ensures.counts) c.minus-self-inside.result c.self.inside.before
-    (start_is (content_of c.self.inside.slice) c.self.inside.caret c.pass_line_back.new.self c.self.inside.before c.pass_line_back.result.0 c.self.inside.line c.self.inside.total
-    (c.self.inside.before.break_count - (c.self.inside.line - 1)) c.line_breaks-breaks.result c.self.invariant (not_first (goal.at.between-requires-clause-apart c).Then-is_left) c.line_breaks-breaks.ensures refl
-    c.pass_line_back.ensures.front c.pass_line_back.ensures.back c.pass_line_back.ensures.counts c.minus-self-inside.result c.minus-self-inside.ensures.sum)
-    (before_up (content_of c.self.inside.slice) c.self.inside.caret c.pass_line_back.new.self c.self.inside.before c.pass_line_back.result.0 c.self.inside.line c.self.inside.total
-    (c.self.inside.before.break_count - (c.self.inside.line - 1)) c.line_breaks-breaks.result c.self.invariant (not_first (goal.at.between-requires-clause-apart c).Then-is_left) c.line_breaks-breaks.ensures refl
-    c.pass_line_back.ensures.front c.pass_line_back.ensures.back c.pass_line_back.ensures.counts)
+    line_apart (content_of c.self.inside.slice) (c.self.inside.line - 1) (inside_back (content_of c.self.inside.slice) c.self.inside.caret c.self.inside.before c.self.inside.line c.self.inside.total
+    (c.self.inside.before.break_count - (c.self.inside.line - 1)) c.line_breaks-breaks.result c.self.invariant (not_first (goal.at.between-requires-clause-apart c).Then-is_left) c.line_breaks-breaks.ensures refl) c.pass_line_back-held.new.before c.self.inside.before
+    (start_is (content_of c.self.inside.slice) c.self.inside.caret c.self.inside.before c.self.inside.line c.self.inside.total
+    (c.self.inside.before.break_count - (c.self.inside.line - 1)) c.line_breaks-breaks.result c.self.invariant (not_first (goal.at.between-requires-clause-apart c).Then-is_left) c.line_breaks-breaks.ensures refl c.pass_line_back-held.new.before c.pass_line_back-held.ensures.counts)
+    (before_up (content_of c.self.inside.slice) c.self.inside.caret c.self.inside.before c.self.inside.line c.self.inside.total
+    (c.self.inside.before.break_count - (c.self.inside.line - 1)) c.line_breaks-breaks.result c.self.invariant (not_first (goal.at.between-requires-clause-apart c).Then-is_left) c.line_breaks-breaks.ensures refl)
 
 pub invariant_of-self : goal.invariant_of-self
 invariant_of-self c =
-    prev_start (content_of c.self.inside.slice) c.self.inside.caret c.pass_line_back.new.self c.self.inside.before c.pass_line_back.result.0 c.self.inside.line c.self.inside.total
-    (c.self.inside.before.break_count - (c.self.inside.line - 1)) c.line_breaks-breaks.result c.self.invariant (not_first (goal.at.invariant_of-self c).Then-is_left) c.line_breaks-breaks.ensures refl
-    c.pass_line_back.ensures.front c.pass_line_back.ensures.back c.pass_line_back.ensures.counts c.pass_line_back.ensures.chunks c.minus-self-inside.result c.minus-self-inside.ensures.sum
+    prev_start (content_of c.self.inside.slice) c.self.inside.caret c.self.inside.before c.self.inside.line c.self.inside.total
+    (c.self.inside.before.break_count - (c.self.inside.line - 1)) c.line_breaks-breaks.result c.self.invariant (not_first (goal.at.invariant_of-self c).Then-is_left) c.line_breaks-breaks.ensures refl c.pass_line_back-held.new.self c.pass_line_back-held.ensures.front c.pass_line_back-held.ensures.back c.pass_line_back-held.ensures.chunks c.pass_line_back-held.new.before c.pass_line_back-held.ensures.counts
 
 pub returns-then-is_left : goal.returns-then-is_left
 returns-then-is_left c =
     let s = c.self.inside in
     let step = left_of_line (content_of s.slice) s.line s.is_backward (not_first (goal.at.returns-then-is_left c).Then-is_left) (omega (arith, c.self.invariant.within, c.self.invariant.total_is)) in
-    let item = c.between.ensures ∙ line_is (content_of c.self.inside.slice) (c.self.inside.line - 1) (inside_back (content_of c.self.inside.slice) c.self.inside.caret c.pass_line_back.new.self c.self.inside.before c.pass_line_back.result.0 c.self.inside.line c.self.inside.total
-    (c.self.inside.before.break_count - (c.self.inside.line - 1)) c.line_breaks-breaks.result c.self.invariant (not_first (goal.at.returns-then-is_left c).Then-is_left) c.line_breaks-breaks.ensures refl
-    c.pass_line_back.ensures.front c.pass_line_back.ensures.back c.pass_line_back.ensures.counts) c.minus-self-inside.result c.self.inside.before
-    (start_is (content_of c.self.inside.slice) c.self.inside.caret c.pass_line_back.new.self c.self.inside.before c.pass_line_back.result.0 c.self.inside.line c.self.inside.total
-    (c.self.inside.before.break_count - (c.self.inside.line - 1)) c.line_breaks-breaks.result c.self.invariant (not_first (goal.at.returns-then-is_left c).Then-is_left) c.line_breaks-breaks.ensures refl
-    c.pass_line_back.ensures.front c.pass_line_back.ensures.back c.pass_line_back.ensures.counts c.minus-self-inside.result c.minus-self-inside.ensures.sum)
-    (before_up (content_of c.self.inside.slice) c.self.inside.caret c.pass_line_back.new.self c.self.inside.before c.pass_line_back.result.0 c.self.inside.line c.self.inside.total
-    (c.self.inside.before.break_count - (c.self.inside.line - 1)) c.line_breaks-breaks.result c.self.invariant (not_first (goal.at.returns-then-is_left c).Then-is_left) c.line_breaks-breaks.ensures refl
-    c.pass_line_back.ensures.front c.pass_line_back.ensures.back c.pass_line_back.ensures.counts) in
+    let item = c.between.ensures ∙ line_is (content_of c.self.inside.slice) (c.self.inside.line - 1) (inside_back (content_of c.self.inside.slice) c.self.inside.caret c.self.inside.before c.self.inside.line c.self.inside.total
+    (c.self.inside.before.break_count - (c.self.inside.line - 1)) c.line_breaks-breaks.result c.self.invariant (not_first (goal.at.returns-then-is_left c).Then-is_left) c.line_breaks-breaks.ensures refl) c.pass_line_back-held.new.before c.self.inside.before
+    (start_is (content_of c.self.inside.slice) c.self.inside.caret c.self.inside.before c.self.inside.line c.self.inside.total
+    (c.self.inside.before.break_count - (c.self.inside.line - 1)) c.line_breaks-breaks.result c.self.invariant (not_first (goal.at.returns-then-is_left c).Then-is_left) c.line_breaks-breaks.ensures refl c.pass_line_back-held.new.before c.pass_line_back-held.ensures.counts)
+    (before_up (content_of c.self.inside.slice) c.self.inside.caret c.self.inside.before c.self.inside.line c.self.inside.total
+    (c.self.inside.before.break_count - (c.self.inside.line - 1)) c.line_breaks-breaks.result c.self.invariant (not_first (goal.at.returns-then-is_left c).Then-is_left) c.line_breaks-breaks.ensures refl) in
     rw (c.if-is_left.true, ← c.self.view_is, item) (step.0, step.1, refl)
 
-pub pass_line_back-requires : goal.pass_line_back-requires
-pass_line_back-requires c = start_apart (content_of c.self.inside.slice) c.self.inside.caret c.self.inside.before c.self.inside.line c.self.inside.total c.self.invariant
+pub pass_line_back-held-requires-clause-apart : goal.pass_line_back-held-requires-clause-apart
+pass_line_back-held-requires-clause-apart c = start_apart (content_of c.self.inside.slice) c.self.inside.caret c.self.inside.before c.self.inside.line c.self.inside.total c.self.invariant
 
-pub plus-self-inside-requires : goal.plus-self-inside-requires
-plus-self-inside-requires c =
-    let small = next_small (content_of c.self.inside.slice) c.self.inside.caret c.pass_line.new.self c.self.inside.before c.pass_line.result.0 c.self.inside.line c.self.inside.total c.line_breaks-breaks.result c.self.invariant
-    (not_last (goal.at.plus-self-inside-requires c).Else-is_left) c.line_breaks-breaks.ensures c.pass_line.ensures.front c.pass_line.ensures.back c.pass_line.ensures.counts in
-    sum_of_small _ _ small.0 small.1
+pub pass_line_back-held-requires-clause-part : goal.pass_line_back-held-requires-clause-part
+pass_line_back-held-requires-clause-part c =
+    let sum = before_sum (content_of c.self.inside.slice) c.self.inside.caret c.self.inside.before c.self.inside.line c.self.inside.total
+    (c.self.inside.before.break_count - (c.self.inside.line - 1)) c.line_breaks-breaks.result c.self.invariant (not_first (goal.at.pass_line_back-held-requires-clause-part c).Then-is_left) c.line_breaks-breaks.ensures refl in
+    rest_of_sum _ _ _ sum
+
+pub pass_line-held-requires : goal.pass_line-held-requires
+pass_line-held-requires c =
+    (next_small (content_of c.self.inside.slice) c.self.inside.caret c.self.inside.before c.self.inside.line c.self.inside.total c.line_breaks-breaks.result c.self.invariant
+    (not_last (goal.at.pass_line-held-requires c).Else-is_left) c.line_breaks-breaks.ensures).0
 
 pub between-requires-2-clause-to_is : goal.between-requires-2-clause-to_is
 between-requires-2-clause-to_is c =
-    line_to (content_of c.self.inside.slice) c.self.inside.line (inside (content_of c.self.inside.slice) c.self.inside.caret c.pass_line.new.self c.self.inside.before c.pass_line.result.0 c.self.inside.line c.self.inside.total c.line_breaks-breaks.result c.self.invariant
-    (not_last (goal.at.between-requires-2-clause-to_is c).Else-is_left) c.line_breaks-breaks.ensures c.pass_line.ensures.front c.pass_line.ensures.back c.pass_line.ensures.counts) c.self.inside.before c.plus-self-inside.result c.self.invariant.before_is
-    (after_is (content_of c.self.inside.slice) c.self.inside.caret c.pass_line.new.self c.self.inside.before c.pass_line.result.0 c.self.inside.line c.self.inside.total c.line_breaks-breaks.result c.self.invariant
-    (not_last (goal.at.between-requires-2-clause-to_is c).Else-is_left) c.line_breaks-breaks.ensures c.pass_line.ensures.front c.pass_line.ensures.back c.pass_line.ensures.counts c.plus-self-inside.result c.plus-self-inside.ensures.sum)
+    line_to (content_of c.self.inside.slice) c.self.inside.line (inside (content_of c.self.inside.slice) c.self.inside.caret c.self.inside.before c.self.inside.line c.self.inside.total c.line_breaks-breaks.result c.self.invariant
+    (not_last (goal.at.between-requires-2-clause-to_is c).Else-is_left) c.line_breaks-breaks.ensures) c.self.inside.before c.pass_line-held.new.before c.self.invariant.before_is
+    (after_is (content_of c.self.inside.slice) c.self.inside.caret c.self.inside.before c.self.inside.line c.self.inside.total c.line_breaks-breaks.result c.self.invariant
+    (not_last (goal.at.between-requires-2-clause-to_is c).Else-is_left) c.line_breaks-breaks.ensures c.pass_line-held.new.before c.pass_line-held.ensures.counts)
 
 pub between-requires-2-clause-apart : goal.between-requires-2-clause-apart
 between-requires-2-clause-apart c =
-    line_apart (content_of c.self.inside.slice) c.self.inside.line (inside (content_of c.self.inside.slice) c.self.inside.caret c.pass_line.new.self c.self.inside.before c.pass_line.result.0 c.self.inside.line c.self.inside.total c.line_breaks-breaks.result c.self.invariant
-    (not_last (goal.at.between-requires-2-clause-apart c).Else-is_left) c.line_breaks-breaks.ensures c.pass_line.ensures.front c.pass_line.ensures.back c.pass_line.ensures.counts) c.self.inside.before c.plus-self-inside.result c.self.invariant.before_is
-    (after_is (content_of c.self.inside.slice) c.self.inside.caret c.pass_line.new.self c.self.inside.before c.pass_line.result.0 c.self.inside.line c.self.inside.total c.line_breaks-breaks.result c.self.invariant
-    (not_last (goal.at.between-requires-2-clause-apart c).Else-is_left) c.line_breaks-breaks.ensures c.pass_line.ensures.front c.pass_line.ensures.back c.pass_line.ensures.counts c.plus-self-inside.result c.plus-self-inside.ensures.sum)
+    line_apart (content_of c.self.inside.slice) c.self.inside.line (inside (content_of c.self.inside.slice) c.self.inside.caret c.self.inside.before c.self.inside.line c.self.inside.total c.line_breaks-breaks.result c.self.invariant
+    (not_last (goal.at.between-requires-2-clause-apart c).Else-is_left) c.line_breaks-breaks.ensures) c.self.inside.before c.pass_line-held.new.before c.self.invariant.before_is
+    (after_is (content_of c.self.inside.slice) c.self.inside.caret c.self.inside.before c.self.inside.line c.self.inside.total c.line_breaks-breaks.result c.self.invariant
+    (not_last (goal.at.between-requires-2-clause-apart c).Else-is_left) c.line_breaks-breaks.ensures c.pass_line-held.new.before c.pass_line-held.ensures.counts)
 
 pub invariant_of-self-2 : goal.invariant_of-self-2
 invariant_of-self-2 c =
-    next_start (content_of c.self.inside.slice) c.self.inside.caret c.pass_line.new.self c.self.inside.before c.pass_line.result.0 c.self.inside.line c.self.inside.total c.line_breaks-breaks.result c.self.invariant
-    (not_last (goal.at.invariant_of-self-2 c).Else-is_left) c.line_breaks-breaks.ensures c.pass_line.ensures.front c.pass_line.ensures.back c.pass_line.ensures.counts c.pass_line.ensures.chunks c.plus-self-inside.result c.plus-self-inside.ensures.sum
+    next_start (content_of c.self.inside.slice) c.self.inside.caret c.self.inside.before c.self.inside.line c.self.inside.total c.line_breaks-breaks.result c.self.invariant
+    (not_last (goal.at.invariant_of-self-2 c).Else-is_left) c.line_breaks-breaks.ensures c.pass_line-held.new.self c.pass_line-held.ensures.front c.pass_line-held.ensures.back c.pass_line-held.ensures.chunks c.pass_line-held.new.before c.pass_line-held.ensures.counts
 
 pub returns : goal.returns
 returns c =
     let s = c.self.inside in
-    let step = right_of_line (content_of s.slice) s.line s.is_backward (inside (content_of c.self.inside.slice) c.self.inside.caret c.pass_line.new.self c.self.inside.before c.pass_line.result.0 c.self.inside.line c.self.inside.total c.line_breaks-breaks.result c.self.invariant
-    (not_last (goal.at.returns c).Else-is_left) c.line_breaks-breaks.ensures c.pass_line.ensures.front c.pass_line.ensures.back c.pass_line.ensures.counts) in
-    let item = c.between-2.ensures ∙ line_is (content_of c.self.inside.slice) c.self.inside.line (inside (content_of c.self.inside.slice) c.self.inside.caret c.pass_line.new.self c.self.inside.before c.pass_line.result.0 c.self.inside.line c.self.inside.total c.line_breaks-breaks.result c.self.invariant
-    (not_last (goal.at.returns c).Else-is_left) c.line_breaks-breaks.ensures c.pass_line.ensures.front c.pass_line.ensures.back c.pass_line.ensures.counts) c.self.inside.before c.plus-self-inside.result c.self.invariant.before_is
-    (after_is (content_of c.self.inside.slice) c.self.inside.caret c.pass_line.new.self c.self.inside.before c.pass_line.result.0 c.self.inside.line c.self.inside.total c.line_breaks-breaks.result c.self.invariant
-    (not_last (goal.at.returns c).Else-is_left) c.line_breaks-breaks.ensures c.pass_line.ensures.front c.pass_line.ensures.back c.pass_line.ensures.counts c.plus-self-inside.result c.plus-self-inside.ensures.sum) in
+    let step = right_of_line (content_of s.slice) s.line s.is_backward (inside (content_of c.self.inside.slice) c.self.inside.caret c.self.inside.before c.self.inside.line c.self.inside.total c.line_breaks-breaks.result c.self.invariant
+    (not_last (goal.at.returns c).Else-is_left) c.line_breaks-breaks.ensures) in
+    let item = c.between-2.ensures ∙ line_is (content_of c.self.inside.slice) c.self.inside.line (inside (content_of c.self.inside.slice) c.self.inside.caret c.self.inside.before c.self.inside.line c.self.inside.total c.line_breaks-breaks.result c.self.invariant
+    (not_last (goal.at.returns c).Else-is_left) c.line_breaks-breaks.ensures) c.self.inside.before c.pass_line-held.new.before c.self.invariant.before_is
+    (after_is (content_of c.self.inside.slice) c.self.inside.caret c.self.inside.before c.self.inside.line c.self.inside.total c.line_breaks-breaks.result c.self.invariant
+    (not_last (goal.at.returns c).Else-is_left) c.line_breaks-breaks.ensures c.pass_line-held.new.before c.pass_line-held.ensures.counts) in
     rw (c.if-is_left.false, ← c.self.view_is, item) (step.0, step.1, refl)
 
 pub between-requires-clause-held : goal.between-requires-clause-held
 between-requires-clause-held c =
     let s = c.self.inside in
-    line_held (content_of s.slice) c.pass_line_back.new.self c.minus-self-inside.result (s.line - 1) s.total (chars c.pass_line_back.result.1.now)
-    (prev_start (content_of s.slice) s.caret c.pass_line_back.new.self s.before c.pass_line_back.result.0 s.line s.total
-    (s.before.break_count - (s.line - 1)) c.line_breaks-breaks.result c.self.invariant (not_first (goal.at.between-requires-clause-held c).Then-is_left) c.line_breaks-breaks.ensures refl
-    c.pass_line_back.ensures.front c.pass_line_back.ensures.back c.pass_line_back.ensures.counts c.pass_line_back.ensures.chunks c.minus-self-inside.result c.minus-self-inside.ensures.sum)
-    c.pass_line_back.ensures.held
+    line_held (content_of s.slice) c.pass_line_back-held.new.self c.pass_line_back-held.new.before (s.line - 1) s.total (chars c.pass_line_back-held.result.now)
+    (prev_start (content_of s.slice) s.caret s.before s.line s.total
+    (s.before.break_count - (s.line - 1)) c.line_breaks-breaks.result c.self.invariant (not_first (goal.at.between-requires-clause-held c).Then-is_left) c.line_breaks-breaks.ensures refl c.pass_line_back-held.new.self c.pass_line_back-held.ensures.front c.pass_line_back-held.ensures.back c.pass_line_back-held.ensures.chunks c.pass_line_back-held.new.before c.pass_line_back-held.ensures.counts)
+    c.pass_line_back-held.ensures.held
 
 pub between-requires-2-clause-held : goal.between-requires-2-clause-held
 between-requires-2-clause-held c =
     let s = c.self.inside in
-    line_held (content_of s.slice) s.caret s.before s.line s.total (chars c.pass_line.result.1.now) c.self.invariant c.pass_line.ensures.held
+    line_held (content_of s.slice) s.caret s.before s.line s.total (chars c.pass_line-held.result.now) c.self.invariant c.pass_line-held.ensures.held
