@@ -1,7 +1,7 @@
 //! Reads commands from standard input, one a line, and writes one reply line for each.
 //!
-//! The status is 0 where the input ended, 2 after a bad line, 3 where memory was refused, and 4 where
-//! a read or a write failed. Standard error says which.
+//! The status is 0 where the input ended, 2 after a bad line, 3 where memory was refused, and 4
+//! where a read or a write failed. Standard error says which.
 #![tactic(auto)]
 
 use rope_language::{Ended, serve};

@@ -1,5 +1,5 @@
-//! Times the public calls of ropes, of each kind: on three texts of ten million bytes, on a rope that
-//! many edits have worn, on a person's own edits, and on texts that grow.
+//! Times the public calls of ropes, of each kind: on three texts of ten million bytes, on a rope
+//! that many edits have worn, on a person's own edits, and on texts that grow.
 //!
 //! The program in Rust of the folder `benchmarks/ropey` does the same work with the Rust crate
 //! ropey 1.6.1. All checksums of the two are the same, in small and in full: so what this crate's

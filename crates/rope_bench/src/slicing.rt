@@ -163,8 +163,8 @@ fn byte_and_char(sum: u64, slice: RopeSlice<'_>, numbers: &mut Numbers) -> u64 {
     mix(mix(sum, usize::from(byte.unwrap_or(0))), number)
 }
 
-/// Whether each chunk begins at the place that is asked for, or before it: which chunk it is depends
-/// on where chunks end.
+/// Whether each chunk begins at the place that is asked for, or before it: which chunk it is
+/// depends on where chunks end.
 fn chunks_at(sum: u64, slice: RopeSlice<'_>, numbers: &mut Numbers) -> u64 {
     let byte = numbers.up_to(slice.len_bytes());
     let (_, bytes, _, _) = slice.chunk_at_byte(byte);

@@ -15,7 +15,7 @@ pub fn all_fit(rope: &Rope, most: usize) -> bool
     rope.lines().all(|line| line.len_chars() <= most)
 }
 
-/// A line before the line `line_idx` that has at least `least` characters, sought from there back; none where there is none.
+/// A line before the line `line_idx` with at least `least` characters, sought from there back.
 pub fn long_line_before(rope: &Rope, line_idx: usize, least: usize) -> Option<RopeSlice<'_>>
     requires { line_idx ≤ line_count rope.now.breaks rope.now.text }
     ensures none { IfNone result (All (λ line. length line.text < least) (lines_before rope.now line_idx)) }

@@ -6,7 +6,7 @@ ghost use Rattle.rope_callers.specs.Search.{IsFirstPlace};
 
 use ropey::{Result, Rope};
 
-/// The first place of a character, counted in characters from 0, or none where the text doesn't have it.
+/// The first place of a character, counted in characters from 0; none where the text has none.
 pub fn find_char(rope: &Rope, c: char) -> Option<usize>
     ensures { IsFirstPlace c rope.now.text result }
 {

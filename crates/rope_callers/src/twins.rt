@@ -4,7 +4,7 @@ ghost use Rattle.rope_text.specs.Lines.{line, line_count};
 
 use ropey::Rope;
 
-/// How many characters the line `line_idx` has, its break among them; none where there is no such line.
+/// How many characters the line `line_idx` has, with its break; none past the last line.
 pub fn line_length(rope: &Rope, line_idx: usize) -> Option<usize>
     ensures { MatchOption result (line_count rope.now.breaks rope.now.text ≤ line_idx)
         (λ len. len ≡ length (line rope.now.breaks rope.now.text line_idx)) }

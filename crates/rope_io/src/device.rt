@@ -8,15 +8,15 @@ ghost use Rattle.rope_io.specs.Watching.{watched_inner, watched_failed, watched_
 
 use std::io::{self, ErrorKind, Read, Write};
 
-/// A device that can be asked whether it has failed: it carries a mark. Clauses also know how its last call failed, and
-/// how many have.
+/// A device that can be asked whether it has failed: it carries a mark. Clauses also know how its
+/// last call failed, and how many have.
 pub trait Mark {
     /// Whether the mark is set.
     ghost marked: { Self → Bool };
 
-    /// How the last read or write failed since the mark was last cleared, as the kind of its error. There is none where it
-    /// didn't fail, and none where nothing was read or written since. A write that is given bytes and takes none fails as
-    /// `WriteZero`.
+    /// How the last read or write failed since the mark was last cleared, as the kind of its error.
+    /// There is none where it didn't fail, and none where nothing was read or written since. A
+    /// write that is given bytes and takes none fails as `WriteZero`.
     ghost failure: { Self → Option ErrorKind };
 
     /// How many reads and writes have failed. It is never cleared, and stops at `u64::MAX`.
@@ -45,7 +45,8 @@ pub trait Source: Mark {
     /// The bytes that it will give from here on, where they are known.
     ghost remaining: { Self → Option (List ℕ) };
 
-    /// Reads and answers as `Read::read` does. It sets the mark exactly where it answers an error, and else leaves it.
+    /// Reads and answers as `Read::read` does. It sets the mark exactly where it answers an error,
+    /// and else leaves it.
     fn take(&mut self, buf: &mut [u8]) -> io::Result<usize>
         ensures bound { ReadsAtMost result buf.new }
         ensures bytes { ReadConsumes (remaining self.old) (remaining self.new) result buf.new }
@@ -63,8 +64,8 @@ pub trait Sink: Mark {
     /// The bytes that it holds, where they are known.
     ghost contents: { Self → Option (List ℕ) };
 
-    /// Writes and answers as `Write::write` does. It sets the mark exactly where it answers an error, or is given bytes and
-    /// takes none; else it leaves it.
+    /// Writes and answers as `Write::write` does. It sets the mark exactly where it answers an
+    /// error, or is given bytes and takes none; else it leaves it.
     fn give(&mut self, buf: &[u8]) -> io::Result<usize>
         ensures bound { WritesAtMost result buf.now }
         ensures bytes { WriteAppends (contents self.old) (contents self.new) result buf.now }
@@ -79,7 +80,8 @@ pub trait Sink: Mark {
     ghost cleared_contents: { (s : Self) → contents (Self.cleared s) ≡ contents s };
 }
 
-/// A reader or a writer, whether it has failed, and what clauses know of its failures. It passes reads and writes on.
+/// A reader or a writer, whether it has failed, and what clauses know of its failures. It passes
+/// reads and writes on.
 #[derive(Drop)]
 pub struct Watched<T> {
     inner: T,

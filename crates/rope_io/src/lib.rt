@@ -1,4 +1,5 @@
-//! Ropes read from devices and written to them: readers and writers that mark their failures, and the two loops.
+//! Ropes read from devices and written to them: readers and writers that mark their failures, and
+//! the two loops.
 //!
 //! Modules, lowest first:
 //! - `device`: readers and writers that mark their failures

@@ -32,12 +32,14 @@ fn write_bytes<S: Sink>(sink: &mut S, bytes: &[u8]) -> io::Result<()>
     Ok(())
 }
 
-/// Writes the whole text, and flushes nothing. The mark is cleared first. It takes no memory of its own.
+/// Writes the whole text, and flushes nothing. The mark is cleared first. It takes no memory of its
+/// own.
 ///
 /// # Errors
 ///
-/// An error of the sink is answered at once, an interrupted write's too, and a write that takes none of the bytes that are
-/// left is an error of the kind `WriteZero`. Then a beginning of the text has been written, and the sink is not called again.
+/// An error of the sink is answered at once, an interrupted write's too, and a write that takes
+/// none of the bytes that are left is an error of the kind `WriteZero`. Then a beginning of the
+/// text has been written, and the sink is not called again.
 pub fn write_slice<S: Sink>(slice: &RopeSlice<'_>, sink: &mut S) -> io::Result<()>
     ensures ok { OnOk result
         (Appends (S.contents sink.old) (S.contents sink.new) (encode_utf8_all (text_of slice.now))) }

@@ -1,4 +1,5 @@
-//! Trees cut in two, and two trees made one. What is passed in stays as it was; the results share its nodes.
+//! Trees cut in two, and two trees made one. What is passed in stays as it was; the results share
+//! its nodes.
 //!
 //! Modules, lowest first:
 //! - `cut`: the front and the back of a tree, and what lies between two places

@@ -15,15 +15,15 @@ use std::alloc::{AllocError, Global};
 ///   `join ROPE ROPE`, `fit ROPE` edit them;
 /// - `len PART`, `show PART`, `chunks PART`, `breaks PART`, `byte PART INDEX`, `char PART INDEX`,
 ///   `line PART INDEX`, `cmp PART PART`, `c2p PART INDEX`, `p2c PART LINE COLUMN` ask;
-/// - so do the conversions `b2c`, `b2l`, `c2b`, `c2l`, `c2u`, `u2c`, `l2b`, `l2c`, as `b2c PART INDEX`,
-///   of bytes, characters, lines and code units of UTF-16;
+/// - so do the conversions `b2c`, `b2l`, `c2b`, `c2l`, `c2u`, `u2c`, `l2b`, `l2c`, as `b2c PART
+///   INDEX`, of bytes, characters, lines and code units of UTF-16;
 /// - and `chunk PART b INDEX`, where `c` and `l` stand for characters and line breaks, and
 ///   `walk PART UNIT INDEX MOVES`.
 ///
 /// A PART is `ROPE`, or `ROPE:START..END` for a range of characters. A SET is `lf`, `crlf` or
-/// `unicode`, a TEXT is the rest of the line and may be empty, a CHAR is a TEXT of one character, and
-/// a BOUND is a number, or `-` where it is open. A UNIT is `bytes`, `chars`, `lines`, `chunks-b`,
-/// `chunks-c` or `chunks-l`; MOVES are one letter or more of `n`, `p` and `r`.
+/// `unicode`, a TEXT is the rest of the line and may be empty, a CHAR is a TEXT of one character,
+/// and a BOUND is a number, or `-` where it is open. A UNIT is `bytes`, `chars`, `lines`,
+/// `chunks-b`, `chunks-c` or `chunks-l`; MOVES are one letter or more of `n`, `p` and `r`.
 pub(crate) fn parse(alloc: Global, line: &str) -> Result<Option<Command>, AllocError> {
     let Some((name, words)) = line.split_once(' ') else {
         return Ok(lone(line));

@@ -81,7 +81,8 @@ impl Output {
         result
     }
 
-    /// Writes what was gathered, and flushes the writer, unless no reply was put since it was flushed.
+    /// Writes what was gathered, and flushes the writer, unless no reply was put since it was
+    /// flushed.
     pub(crate) fn flush<W: Write>(&mut self, writer: &mut W) -> io::Result<()>
         ensures written { OnOk result (Appends (W.contents writer.old) (W.contents writer.new) self.old) }
         ensures empty { OnOk result (self.new ≡ []) }

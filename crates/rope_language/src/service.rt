@@ -46,9 +46,9 @@ impl From<io::Error> for Fault {
 /// Reads lines to the reader's end, runs each on one session, and writes its reply.
 ///
 /// A line ends with LF, and the last one may lack it. The first line that is not of the language
-/// ends the run, and so does a refusal of memory for a line or its reply, and a read or a write that
-/// failed. The replies to the lines before it are written and flushed, unless it is a write that
-/// failed. A line past number `u64::MAX` is a bad line of that number.
+/// ends the run, and so does a refusal of memory for a line or its reply, and a read or a write
+/// that failed. The replies to the lines before it are written and flushed, unless it is a write
+/// that failed. A line past number `u64::MAX` is a bad line of that number.
 ///
 /// Before each read all replies so far are written and flushed, so whoever waits for a reply before
 /// the next line is sent gets it.
@@ -186,7 +186,8 @@ impl Input {
 
     /// Reads the next line, without its LF. There is none at the end of the input.
     ///
-    /// A read may wait for one who waits for the replies, so these are written and flushed before it.
+    /// A read may wait for one who waits for the replies, so these are written and flushed before
+    /// it.
     fn next_line<R: Read, W: Write>(
         &mut self,
         reader: &mut R,

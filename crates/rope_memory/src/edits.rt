@@ -88,7 +88,8 @@ fn apply_once(rope: &mut Rope, edit: Edit<'_>) -> Result<()> {
     }
 }
 
-/// Edits, again where memory was refused, and counts the refusals that changed something. Answers whether it is done.
+/// Edits, again where memory was refused, and counts the refusals that changed something. Answers
+/// whether it is done.
 pub fn apply(rope: &mut Rope, edit: Edit<'_>, faults: &mut usize) -> bool {
     let before = fingerprint(rope);
     let bytes = rope.len_bytes();
@@ -173,7 +174,8 @@ fn edit_and_show(rt: &impl Print, alloc: Global, rope: &mut Rope, faults: &mut u
     }
 }
 
-/// Makes ropes, inserts into them, prints what they are, and counts the refusals that changed something.
+/// Makes ropes, inserts into them, prints what they are, and counts the refusals that changed
+/// something.
 pub fn run(rt: &impl Print, alloc: Global, faults: &mut usize) -> bool {
     match made(alloc, "") {
         Some(mut rope) => edit_and_show(rt, alloc, &mut rope, faults),

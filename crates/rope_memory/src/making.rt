@@ -18,7 +18,8 @@ fn keeps_error(builder: &mut RopeBuilder) -> bool {
     answers == [Err(Error::OutOfMemory); 3]
 }
 
-/// A rope of the pieces by a builder. One that was refused has to answer the same error to every call, or is counted.
+/// A rope of the pieces by a builder. One that was refused has to answer the same error to every
+/// call, or is counted.
 fn build_once(mut builder: RopeBuilder, pieces: &[&str], faults: &mut usize) -> Option<Rope> {
     let is_taken = append_all(&mut builder, pieces).is_ok();
     let is_kept = is_taken || keeps_error(&mut builder);
@@ -136,7 +137,8 @@ fn make_all(rt: &impl Print, alloc: Global, long: &str) -> bool {
     true
 }
 
-/// Makes a rope of pieces, and prints what it is. A builder that forgot that it was refused is counted.
+/// Makes a rope of pieces, and prints what it is. A builder that forgot that it was refused is
+/// counted.
 fn build_and_show(rt: &impl Print, alloc: Global, long: &str, faults: &mut usize) -> bool {
     let pieces = ["é", long, "\r", "\n", long, "こ\r\n"];
     show_made(rt, build(alloc, &pieces, faults))
@@ -172,8 +174,8 @@ fn fill_and_show(rt: &impl Print, alloc: Global, long: &str, faults: &mut usize)
     }
 }
 
-/// Makes ropes of pieces and re-chunks a rope, prints what they are, and counts the refusals that changed or forgot
-/// something.
+/// Makes ropes of pieces and re-chunks a rope, prints what they are, and counts the refusals that
+/// changed or forgot something.
 pub fn run(rt: &impl Print, alloc: Global, faults: &mut usize) -> bool {
     match repeated(alloc, "a", 2_500) {
         Some(long) => {

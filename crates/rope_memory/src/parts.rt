@@ -19,7 +19,8 @@ fn clone(rope: &Rope, faults: &mut usize) -> Option<Rope> {
     None
 }
 
-/// Leaves the front of a rope and answers its back, again where memory was refused, as `clone` does.
+/// Leaves the front of a rope and answers its back, again where memory was refused, as `clone`
+/// does.
 fn split_off(rope: &mut Rope, char_idx: usize, faults: &mut usize) -> Option<Rope> {
     let before = fingerprint(rope);
     let bytes = rope.len_bytes();
@@ -47,7 +48,8 @@ fn split_and_join(rt: &impl Print, rope: &mut Rope, faults: &mut usize) -> bool 
     }
 }
 
-/// Edits of a rope that at last shares its nodes with another; the last puts lines in between a CR and an LF.
+/// Edits of a rope that at last shares its nodes with another; the last puts lines in between a CR
+/// and an LF.
 fn edit<'a>(
     rt: &impl Print,
     rope: &mut Rope,
@@ -101,7 +103,8 @@ fn double_and_edit(
     }
 }
 
-/// Takes the middle out, so that a CR meets an LF, takes the rope apart there and joins its parts, and doubles it.
+/// Takes the middle out, so that a CR meets an LF, takes the rope apart there and joins its parts,
+/// and doubles it.
 fn edit_beside(
     rt: &impl Print,
     alloc: Global,
@@ -138,8 +141,8 @@ fn made_of_lines(alloc: Global) -> Option<Rope> {
     }
 }
 
-/// Takes a rope apart and joins its parts, prints it after each edit, and counts the refusals or edits that changed
-/// what they had to leave.
+/// Takes a rope apart and joins its parts, prints it after each edit, and counts the refusals or
+/// edits that changed what they had to leave.
 pub fn run(rt: &impl Print, alloc: Global, faults: &mut usize) -> bool {
     match made_of_lines(alloc) {
         Some(mut rope) => show(rt, &rope) && edit_and_compare(rt, alloc, &mut rope, faults),

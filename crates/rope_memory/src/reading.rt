@@ -6,7 +6,8 @@ use ropey::{Error, Rope};
 use std::alloc::Global;
 use std::io::Print;
 
-/// A rope of the bytes, read again from their start where memory was refused, for which the reader isn't marked.
+/// A rope of the bytes, read again from their start where memory was refused, for which the reader
+/// isn't marked.
 fn read(alloc: Global, bytes: &[u8]) -> Option<Rope> {
     for _ in 0..TRIES {
         let mut source = Watched::new(bytes);

@@ -143,7 +143,8 @@ fn many_commands(alloc: Global) -> Option<[Command; 14]> {
     }
 }
 
-/// Runs the commands, and where memory was refused those that have no reply yet, on the ropes that the others left.
+/// Runs the commands, and where memory was refused those that have no reply yet, on the ropes that
+/// the others left.
 fn run_all(session: &mut Session, commands: &[Command], replies: &mut Vec<Reply>) -> bool {
     for _ in 0..TRIES {
         let Some(left) = commands.get(replies.len()..) else {
@@ -225,8 +226,8 @@ fn run_at_once(rt: &impl Print, alloc: Global) -> bool {
     }
 }
 
-/// What was written, where memory was refused for none of it: a command for which it was is given as a reply, and what
-/// follows goes on without it.
+/// What was written, where memory was refused for none of it: a command for which it was is given
+/// as a reply, and what follows goes on without it.
 fn complete(written: &[u8]) -> Option<&str> {
     match str::from_utf8(written) {
         Ok(text) if !text.contains("error: Out of memory\n") => Some(text),

@@ -52,8 +52,8 @@ fn copies_once(alloc: Global, copier: Copier, rope: &Rope, text: &str) -> Result
     }
 }
 
-/// Copies, again where memory was refused, and counts another text or a refusal that changed the rope. Answers whether
-/// it is done.
+/// Copies, again where memory was refused, and counts another text or a refusal that changed the
+/// rope. Answers whether it is done.
 fn copies(alloc: Global, copier: Copier, rope: &Rope, text: &str, faults: &mut usize) -> bool {
     let before = fingerprint(rope);
     let mut is_kept = true;
@@ -82,7 +82,8 @@ fn copy_all(alloc: Global, rope: &Rope, text: &str, faults: &mut usize) -> bool 
     true
 }
 
-/// Copies the text of a rope by each call, and prints how often it was another or a refusal changed the rope.
+/// Copies the text of a rope by each call, and prints how often it was another or a refusal changed
+/// the rope.
 fn show_copied(
     rt: &impl Print,
     alloc: Global,
@@ -103,8 +104,8 @@ fn copy_out(rt: &impl Print, alloc: Global, text: &str, faults: &mut usize) -> b
     }
 }
 
-/// Copies the texts of a long and of a short rope, and counts the texts that were others and the refusals that
-/// changed a rope.
+/// Copies the texts of a long and of a short rope, and counts the texts that were others and the
+/// refusals that changed a rope.
 pub fn run(rt: &impl Print, alloc: Global, faults: &mut usize) -> bool {
     match repeated(alloc, "é\r\n", 1_000) {
         Some(long) => {

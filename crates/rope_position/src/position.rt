@@ -15,8 +15,8 @@ use ropey::Result;
 pub struct Position {
     /// The line, counted from 0.
     pub line: usize,
-    /// The code units of UTF-16 from the start of the line up to the place. The line's break is among them, so a place
-    /// inside a break or behind the last line's text has a column too.
+    /// The code units of UTF-16 from the start of the line up to the place. The line's break is
+    /// among them, so a place inside a break or behind the last line's text has a column too.
     pub column: usize,
 }
 
@@ -28,8 +28,8 @@ pub trait Positions {
     ///
     /// # Errors
     ///
-    /// `CharIndexOutOfBounds`, with the index and the number of characters, exactly where the index is past
-    /// `len_chars()`.
+    /// `CharIndexOutOfBounds`, with the index and the number of characters, exactly where the index
+    /// is past `len_chars()`.
     fn try_char_to_position(&self, char_idx: usize) -> Result<Position>
         ensures { result ≡ checked (char_index_error char_idx (length (shown self.now).text))
             (position_at (shown self.now).breaks (shown self.now).text char_idx) };
@@ -38,8 +38,9 @@ pub trait Positions {
     ///
     /// # Errors
     ///
-    /// First `LineIndexOutOfBounds`, with the line and the number of lines, where there is no such line; then
-    /// `Utf16IndexOutOfBounds`, with the column and the line's number of code units, where the column is past them.
+    /// First `LineIndexOutOfBounds`, with the line and the number of lines, where there is no such
+    /// line; then `Utf16IndexOutOfBounds`, with the column and the line's number of code units,
+    /// where the column is past them.
     fn try_position_to_char(&self, position: Position) -> Result<usize>
         ensures { result ≡ checked (of_text.position_error (shown self.now).breaks
             (shown self.now).text position.line position.column)
@@ -58,12 +59,12 @@ pub trait Positions {
         }
     }
 
-    /// The last character, counted from 0, of the position's line that begins at the position or before it: the one
-    /// that holds it, also where the column is inside its surrogate pair. At the line's end it is where the next
-    /// line starts, or the end of the text.
+    /// The last character, counted from 0, of the position's line that begins at the position or
+    /// before it: the one that holds it, also where the column is inside its surrogate pair. At the
+    /// line's end it is where the next line starts, or the end of the text.
     ///
-    /// There is such a line, and the column is at most its number of code units. Costs a few look-ups; takes no
-    /// memory.
+    /// There is such a line, and the column is at most its number of code units. Costs a few
+    /// look-ups; takes no memory.
     fn position_to_char(&self, position: Position) -> usize
         requires { of_text.position_error (shown self.now).breaks (shown self.now).text position.line position.column
             ≡ None }

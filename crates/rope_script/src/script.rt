@@ -34,7 +34,8 @@ pub enum Command {
     /// Puts the text of a second rope behind that of the first. The second stays as it is, and it
     /// may be the first. Ropes with different line breaks are not joined, also where one is empty.
     Join(usize, usize),
-    /// Re-chunks the text of a rope, into at most one chunk for each 981 bytes and one for the rest.
+    /// Re-chunks the text of a rope, into at most one chunk for each 981 bytes and one for the
+    /// rest.
     Shrink(usize),
     /// Asks a rope, or its characters from a start up to an end.
     Ask(usize, Option<(usize, usize)>, Query),

@@ -48,7 +48,8 @@ impl<'a> Model for Bytes<'a> {
 }
 
 impl<'a> RopeSlice<'a> {
-    /// A cursor over the bytes, before the first, facing forward. Costs one or two look-ups; takes no memory.
+    /// A cursor over the bytes, before the first, facing forward. Costs one or two look-ups; takes
+    /// no memory.
     #[inline(always)]
     pub fn bytes(&self) -> Bytes<'a>
         ensures { result ≡ at_start (encode_utf8_all (text_of self.now)) }
@@ -56,8 +57,8 @@ impl<'a> RopeSlice<'a> {
         self.bytes_at(0)
     }
 
-    /// A cursor over the bytes, before the byte `byte_idx`, counted from 0, facing forward; for `len_bytes()` it
-    /// stands past the last one.
+    /// A cursor over the bytes, before the byte `byte_idx`, counted from 0, facing forward; for
+    /// `len_bytes()` it stands past the last one.
     ///
     /// The index is at most `len_bytes()`. Costs one or two look-ups; takes no memory.
     #[inline(always)]
@@ -78,8 +79,8 @@ impl<'a> RopeSlice<'a> {
         }
     }
 
-    /// As `bytes_at`, or `None` exactly where the index is past `len_bytes()`. Costs one or two look-ups; takes no
-    /// memory.
+    /// As `bytes_at`, or `None` exactly where the index is past `len_bytes()`. Costs one or two
+    /// look-ups; takes no memory.
     pub fn get_bytes_at(&self, byte_idx: usize) -> Option<Bytes<'a>>
         ensures { GivesWithin byte_idx (byte_len (text_of self.now)) result
             (λ bytes. bytes ≡ at_place (encode_utf8_all (text_of self.now)) byte_idx) }

@@ -45,7 +45,8 @@ impl<'a> Model for Chars<'a> {
 }
 
 impl<'a> RopeSlice<'a> {
-    /// A cursor over the characters, before the first, facing forward. Costs one or two look-ups; takes no memory.
+    /// A cursor over the characters, before the first, facing forward. Costs one or two look-ups;
+    /// takes no memory.
     #[inline(always)]
     pub fn chars(&self) -> Chars<'a>
         ensures { result ≡ at_start (text_of self.now) }
@@ -53,8 +54,8 @@ impl<'a> RopeSlice<'a> {
         self.chars_at(0)
     }
 
-    /// A cursor over the characters, before the character `char_idx`, counted from 0, facing forward; for
-    /// `len_chars()` it stands past the last one.
+    /// A cursor over the characters, before the character `char_idx`, counted from 0, facing
+    /// forward; for `len_chars()` it stands past the last one.
     ///
     /// The index is at most `len_chars()`. Costs one or two look-ups; takes no memory.
     #[inline(always)]
@@ -75,8 +76,8 @@ impl<'a> RopeSlice<'a> {
         }
     }
 
-    /// As `chars_at`, or `None` exactly where the index is past `len_chars()`. Costs one or two look-ups; takes no
-    /// memory.
+    /// As `chars_at`, or `None` exactly where the index is past `len_chars()`. Costs one or two
+    /// look-ups; takes no memory.
     pub fn get_chars_at(&self, char_idx: usize) -> Option<Chars<'a>>
         ensures { GivesWithin char_idx (length (text_of self.now)) result
             (λ chars. chars ≡ at_place (text_of self.now) char_idx) }

@@ -23,7 +23,8 @@ pub type ChunksAt<'a> = (Chunks<'a>, usize, usize, usize);
 
 /// A cursor over the chunks of a slice. It takes no memory.
 ///
-/// It stands at a chunk, before it or past it. An empty slice has no chunk: its cursor stands at a text that it never gives.
+/// It stands at a chunk, before it or past it. An empty slice has no chunk: its cursor stands at a
+/// text that it never gives.
 ///
 /// As `Debug` it shows whether it stands past its chunk and which way it faces, and no text.
 #[derive(Drop)]
@@ -47,9 +48,10 @@ impl<'a> Model for Chunks<'a> {
 }
 
 impl<'a> RopeSlice<'a> {
-    // A cursor before the chunk that holds a byte or a character, facing forward; at the end of the text past the last chunk.
-    // With it the bytes, the characters and the line breaks of the text before its place.
-    // Inlined: the unit is a constant at each call, and of a slice in one chunk the cursor is its text and two flags.
+    // A cursor before the chunk that holds a byte or a character, facing forward; at the end of the
+    // text past the last chunk. With it the bytes, the characters and the line breaks of the text
+    // before its place. Inlined: the unit is a constant at each call, and of a slice in one chunk
+    // the cursor is its text and two flags.
     #[inline(always)]
     fn chunks_from(&self, unit: Unit, idx: usize) -> ChunksAt<'a>
         requires unit { IsItem unit }
@@ -73,7 +75,8 @@ impl<'a> RopeSlice<'a> {
         (chunks, before.bytes, before.chars, before.break_count)
     }
 
-    /// A cursor over the chunks, before the first, facing forward. Costs one or two look-ups; takes no memory.
+    /// A cursor over the chunks, before the first, facing forward. Costs one or two look-ups; takes
+    /// no memory.
     #[inline(always)]
     pub fn chunks(&self) -> Chunks<'a>
         ensures { result ≡ at_start (chunks_of self.now) }
@@ -81,9 +84,9 @@ impl<'a> RopeSlice<'a> {
         self.chunks_from(Unit::Char, 0).0
     }
 
-    /// A cursor over the chunks, before the chunk that holds the byte `byte_idx`, facing forward; for `len_bytes()`
-    /// it stands past the last chunk. With it the numbers of bytes, of characters and of line breaks that end
-    /// before the cursor.
+    /// A cursor over the chunks, before the chunk that holds the byte `byte_idx`, facing forward;
+    /// for `len_bytes()` it stands past the last chunk. With it the numbers of bytes, of characters
+    /// and of line breaks that end before the cursor.
     ///
     /// The index is at most `len_bytes()`. Costs one or two look-ups; takes no memory.
     #[inline(always)]
@@ -95,9 +98,9 @@ impl<'a> RopeSlice<'a> {
         self.chunks_from(Unit::Byte, byte_idx)
     }
 
-    /// A cursor over the chunks, before the chunk that holds the character `char_idx`, facing forward; for
-    /// `len_chars()` it stands past the last chunk. With it the numbers of bytes, of characters and of line breaks
-    /// that end before the cursor.
+    /// A cursor over the chunks, before the chunk that holds the character `char_idx`, facing
+    /// forward; for `len_chars()` it stands past the last chunk. With it the numbers of bytes, of
+    /// characters and of line breaks that end before the cursor.
     ///
     /// The index is at most `len_chars()`. Costs one or two look-ups; takes no memory.
     #[inline(always)]
@@ -109,9 +112,10 @@ impl<'a> RopeSlice<'a> {
         self.chunks_from(Unit::Char, char_idx)
     }
 
-    /// A cursor over the chunks, before the first chunk by whose end `line_break_idx` line breaks have ended, or
-    /// else before the last, facing forward; for `len_lines()` it stands past the last chunk. With it the numbers
-    /// of bytes, of characters and of line breaks that end before the cursor.
+    /// A cursor over the chunks, before the first chunk by whose end `line_break_idx` line breaks
+    /// have ended, or else before the last, facing forward; for `len_lines()` it stands past the
+    /// last chunk. With it the numbers of bytes, of characters and of line breaks that end before
+    /// the cursor.
     ///
     /// The index is at most `len_lines()`. Costs one or two look-ups; takes no memory.
     #[inline(always)]
@@ -130,8 +134,8 @@ impl<'a> RopeSlice<'a> {
         self.chunks_from(Unit::Char, char_idx)
     }
 
-    /// As `chunks_at_byte`, or `None` exactly where the index is past `len_bytes()`. Costs one or two look-ups;
-    /// takes no memory.
+    /// As `chunks_at_byte`, or `None` exactly where the index is past `len_bytes()`. Costs one or
+    /// two look-ups; takes no memory.
     pub fn get_chunks_at_byte(&self, byte_idx: usize) -> Option<ChunksAt<'a>>
         ensures { GivesWithin byte_idx (byte_len (text_of self.now)) result
             (StandsBefore (content_of self.now)
@@ -140,8 +144,8 @@ impl<'a> RopeSlice<'a> {
         Some(self.chunks_at_byte(within(byte_idx, self.len_bytes())?))
     }
 
-    /// As `chunks_at_char`, or `None` exactly where the index is past `len_chars()`. Costs one or two look-ups;
-    /// takes no memory.
+    /// As `chunks_at_char`, or `None` exactly where the index is past `len_chars()`. Costs one or
+    /// two look-ups; takes no memory.
     pub fn get_chunks_at_char(&self, char_idx: usize) -> Option<ChunksAt<'a>>
         ensures { GivesWithin char_idx (length (text_of self.now)) result
             (StandsBefore (content_of self.now)
@@ -150,8 +154,8 @@ impl<'a> RopeSlice<'a> {
         Some(self.chunks_at_char(within(char_idx, self.len_chars())?))
     }
 
-    /// As `chunks_at_line_break`, or `None` exactly where the index is past `len_lines()`. Costs one or two
-    /// look-ups; takes no memory.
+    /// As `chunks_at_line_break`, or `None` exactly where the index is past `len_lines()`. Costs
+    /// one or two look-ups; takes no memory.
     pub fn get_chunks_at_line_break(&self, line_break_idx: usize) -> Option<ChunksAt<'a>>
         ensures { GivesWithin line_break_idx (line_count (breaks_of self.now) (text_of self.now))
             result (StandsBefore (content_of self.now)

@@ -14,7 +14,8 @@ use rope_text::str_utils::{byte_to_line_of, byte_to_surrogates_of, char_to_byte_
 use rope_text::{Steps, TextInfo};
 use rope_tree::{Found, Node, Unit, convert_in, count, leaf_at};
 
-// The counts of the text before a line that is not the first, and what follows there of the leaf in which the break before it ends.
+// The counts of the text before a line that is not the first, and what follows there of the leaf in
+// which the break before it ends.
 #[inline(always)]
 fn line_start_at(node: &Node, line_idx: usize) -> (TextInfo, &str)
     requires later { 0 < line_idx }
@@ -34,7 +35,8 @@ fn line_start_at(node: &Node, line_idx: usize) -> (TextInfo, &str)
     (found.before.plus(front), &leaf[front.bytes..])
 }
 
-// A place in a leaf: the leaf, with what stands before it, and how many of its bytes and of its characters stand before the place.
+// A place in a leaf: the leaf, with what stands before it, and how many of its bytes and of its
+// characters stand before the place.
 #[derive(Drop)]
 struct LeafPlace<'a> {
     found: Found<'a>,
@@ -67,11 +69,13 @@ impl Before {
     }
 }
 
-/// One character or more of a tree's text. It keeps the counts of the text before its start and before its end, so
-/// that a length is a difference of two of them, and a conversion is one of the tree's.
+/// One character or more of a tree's text. It keeps the counts of the text before its start and
+/// before its end, so that a length is a difference of two of them, and a conversion is one of the
+/// tree's.
 ///
-/// The breaks before the start are those that end there or before it; those before the end are the breaks of the text up to
-/// there by itself. So a CR LF that is cut at an end gives a break to each side.
+/// The breaks before the start are those that end there or before it; those before the end are the
+/// breaks of the text up to there by itself. So a CR LF that is cut at an end gives a break to each
+/// side.
 #[derive(Clone, Copy)]
 pub struct Excerpt<'a> {
     pub node: &'a Node,
@@ -138,7 +142,8 @@ impl<'a> Excerpt<'a> {
         Some(&held[..char_to_byte_idx(held, count)])
     }
 
-    // The place of a character: the leaf that holds it, and how many of the leaf's bytes and characters stand before it.
+    // The place of a character: the leaf that holds it, and how many of the leaf's bytes and
+    // characters stand before it.
     #[inline(always)]
     fn place_of_char(&self, char_idx: usize) -> LeafPlace<'a>
         requires { char_idx < length (text_of self.now) }
@@ -157,7 +162,8 @@ impl<'a> Excerpt<'a> {
         }
     }
 
-    // The place of the character that begins at a byte; none where the byte lies inside a character.
+    // The place of the character that begins at a byte; none where the byte lies inside a
+    // character.
     #[inline(always)]
     fn place_of_byte(&self, byte_idx: usize) -> Option<LeafPlace<'a>>
         requires { byte_idx < byte_len (text_of self.now) }
@@ -256,7 +262,8 @@ impl<'a> Excerpt<'a> {
         self.end_at(self.place_of_char(char_idx))
     }
 
-    /// The `start` of its part from the character on that begins at a byte; none where the byte lies inside a character.
+    /// The `start` of its part from the character on that begins at a byte; none where the byte
+    /// lies inside a character.
     #[inline(always)]
     pub(crate) fn start_of_byte(&self, byte_idx: usize) -> Option<TextInfo>
         requires { byte_idx < byte_len (text_of self.now) }
@@ -271,7 +278,8 @@ impl<'a> Excerpt<'a> {
         Some(self.start_at(self.place_of_byte(byte_idx)?))
     }
 
-    /// The `end` of its part up to the character that begins at a byte; none where the byte lies inside a character.
+    /// The `end` of its part up to the character that begins at a byte; none where the byte lies
+    /// inside a character.
     #[inline(always)]
     pub(crate) fn end_of_byte(&self, byte_idx: usize) -> Option<TextInfo>
         requires { byte_idx ≤ byte_len (text_of self.now) }
@@ -286,7 +294,8 @@ impl<'a> Excerpt<'a> {
         Some(self.end_at(self.place_of_byte(byte_idx)?))
     }
 
-    // The counts of its text up to a place of the tree's text behind its start; past its end those of all of it.
+    // The counts of its text up to a place of the tree's text behind its start; past its end those
+    // of all of it.
     fn counts_to(&self, place: TextInfo) -> TextInfo
         requires later { self.now.start.chars < place.chars }
         requires within { place.chars ≤ length (text self.now.node.now) }
@@ -318,8 +327,9 @@ impl<'a> Excerpt<'a> {
         self.counts_to(line_start_at(self.node, place).0)
     }
 
-    /// The counts of its text before a line, and before the next one; past the last line those of all of it. And what the leaf
-    /// in which the line starts has from there on. One look-up, where the line ends before that leaf does.
+    /// The counts of its text before a line, and before the next one; past the last line those of
+    /// all of it. And what the leaf in which the line starts has from there on. One look-up, where
+    /// the line ends before that leaf does.
     #[inline(always)]
     pub(crate) fn around_line(&self, line_idx: usize) -> LinePlace<'a>
         requires { line_idx < line_count (breaks_of self.now) (text_of self.now) }

@@ -10,8 +10,8 @@ use std::hash::{Hash, Hasher};
 // How many bytes a hasher is handed at once.
 const BLOCK_BYTES: usize = 256;
 
-// Puts the bytes behind the held ones of the block, hands over each block that is full, and answers how many are held then. Where
-// none is held, whole blocks are handed over from where they lie.
+// Puts the bytes behind the held ones of the block, hands over each block that is full, and answers
+// how many are held then. Where none is held, whole blocks are handed over from where they lie.
 fn feed_piece<H: Hasher>(state: &mut H, block: &mut [u8], held: usize, bytes: &[u8]) -> usize
     requires size { length block.old ≡ 256 }
     requires room { held < 256 }
@@ -50,8 +50,8 @@ fn put(block: &mut [u8], held: usize, bytes: &[u8])
     block[held..held + bytes.len()].copy_from_slice(bytes);
 }
 
-/// A hasher is handed the bytes of the text in blocks of 256, the last one shorter where need be, and then 0xff: however it
-/// is cut.
+/// A hasher is handed the bytes of the text in blocks of 256, the last one shorter where need be,
+/// and then 0xff: however it is cut.
 impl<'a> Hash for RopeSlice<'a> {
     ghost use Rattle.std.specs.Cmp.Rules.{hashing};
     ghost use Rattle.rope_slice.specs.Slice.{writes_of};

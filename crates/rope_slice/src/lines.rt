@@ -33,7 +33,8 @@ use std::marker::Model;
 
 /// A cursor over the lines of a slice, each with its break. It takes no memory.
 ///
-/// A slice has one line more than it has line breaks: after a break at its end there is an empty line.
+/// A slice has one line more than it has line breaks: after a break at its end there is an empty
+/// line.
 ///
 /// As `Debug` it shows where it stands and which way it faces, and no text.
 #[derive(Drop)]
@@ -77,8 +78,8 @@ impl<'a> RopeSlice<'a> {
         }
     }
 
-    // The counts of the text before a line, and before the next one; past the last line those of all of it. And what the chunk
-    // in which the line starts has from there on.
+    // The counts of the text before a line, and before the next one; past the last line those of
+    // all of it. And what the chunk in which the line starts has from there on.
     #[inline(always)]
     fn around_line(&self, line_idx: usize) -> LinePlace<'a>
         requires { line_idx < line_count (breaks_of self.now) (text_of self.now) }
@@ -88,7 +89,8 @@ impl<'a> RopeSlice<'a> {
         ensures held { IsInChunk (text_of self.now) (chunks_of self.now) result.start.chars
             (chars result.held.now) }
     {
-        // For the proof: `info` says that a slice has at most `isize::MAX` bytes, so the counts up to the next line fit.
+        // For the proof: `info` says that a slice has at most `isize::MAX` bytes, so the counts up
+        // to the next line fit.
         let _ = self.info();
         match self {
             RopeSlice::InTree(excerpt) => excerpt.around_line(line_idx),
@@ -96,8 +98,9 @@ impl<'a> RopeSlice<'a> {
         }
     }
 
-    // The slice between two places, by the counts of the text up to them. The first lies in no CR LF. `held` is what a
-    // chunk has from there on: a slice that ends in it is its text, of which nothing is looked up again.
+    // The slice between two places, by the counts of the text up to them. The first lies in no CR
+    // LF. `held` is what a chunk has from there on: a slice that ends in it is its text, of which
+    // nothing is looked up again.
     #[inline(always)]
     fn between(&self, from: TextInfo, to: TextInfo, held: &'a str) -> RopeSlice<'a>
         requires from_is { from
@@ -134,7 +137,8 @@ impl<'a> RopeSlice<'a> {
 
     /// The line `line_idx`, counted from 0, with its line break, as a slice.
     ///
-    /// The index is below `len_lines()`. Costs a few look-ups, and counts the line; takes no memory.
+    /// The index is below `len_lines()`. Costs a few look-ups, and counts the line; takes no
+    /// memory.
     pub fn line(&self, line_idx: usize) -> RopeSlice<'a>
         requires { line_idx < line_count (breaks_of self.now) (text_of self.now) }
         ensures { content_of result ≡ line_of (content_of self.now) line_idx }
@@ -143,8 +147,8 @@ impl<'a> RopeSlice<'a> {
         self.between(line.start, line.end, line.held)
     }
 
-    /// The line `line_idx`, counted from 0, with its line break, or `None` exactly where the index is `len_lines()`
-    /// or past it. Costs a few look-ups, and counts the line; takes no memory.
+    /// The line `line_idx`, counted from 0, with its line break, or `None` exactly where the index
+    /// is `len_lines()` or past it. Costs a few look-ups, and counts the line; takes no memory.
     pub fn get_line(&self, line_idx: usize) -> Option<RopeSlice<'a>>
         ensures { MatchOption result (line_count (breaks_of self.now) (text_of self.now) ≤ line_idx)
             (λ slice. (line_idx < line_count (breaks_of self.now) (text_of self.now))
@@ -153,7 +157,8 @@ impl<'a> RopeSlice<'a> {
         Some(self.line(within(line_idx, self.len_lines() - 1)?))
     }
 
-    /// A cursor over the lines, before the first, facing forward. Costs one or two look-ups; takes no memory.
+    /// A cursor over the lines, before the first, facing forward. Costs one or two look-ups; takes
+    /// no memory.
     #[inline(always)]
     pub fn lines(&self) -> Lines<'a>
         ensures { result ≡ at_start (lines_of (content_of self.now)) }
@@ -161,8 +166,8 @@ impl<'a> RopeSlice<'a> {
         self.lines_at(0)
     }
 
-    /// A cursor over the lines, before the line `line_idx`, counted from 0, facing forward; for `len_lines()` it
-    /// stands past the last line.
+    /// A cursor over the lines, before the line `line_idx`, counted from 0, facing forward; for
+    /// `len_lines()` it stands past the last line.
     ///
     /// The index is at most `len_lines()`. Costs one or two look-ups; takes no memory.
     #[inline(always)]
@@ -173,7 +178,8 @@ impl<'a> RopeSlice<'a> {
         self.lines_and_counts_at(line_idx).0
     }
 
-    /// As `lines_at`, with the counts of the text before the line. Costs one or two look-ups; takes no memory.
+    /// As `lines_at`, with the counts of the text before the line. Costs one or two look-ups; takes
+    /// no memory.
     #[inline(always)]
     pub fn lines_and_counts_at(&self, line_idx: usize) -> (Lines<'a>, TextInfo)
         requires { line_idx ≤ line_count (breaks_of self.now) (text_of self.now) }
@@ -194,8 +200,8 @@ impl<'a> RopeSlice<'a> {
         (lines, before)
     }
 
-    /// As `lines_at`, or `None` exactly where the index is past `len_lines()`. Costs one or two look-ups; takes no
-    /// memory.
+    /// As `lines_at`, or `None` exactly where the index is past `len_lines()`. Costs one or two
+    /// look-ups; takes no memory.
     pub fn get_lines_at(&self, line_idx: usize) -> Option<Lines<'a>>
         ensures { GivesWithin line_idx (line_count (breaks_of self.now) (text_of self.now)) result
             (λ lines. lines ≡ at_place (lines_of (content_of self.now)) line_idx) }
@@ -205,8 +211,8 @@ impl<'a> RopeSlice<'a> {
 }
 
 impl<'a> Lines<'a> {
-    // One line to the left, or to the right. Inlined, so that of the slice only what the caller asks for is worked out; the text is
-    // read in a call.
+    // One line to the left, or to the right. Inlined, so that of the slice only what the caller
+    // asks for is worked out; the text is read in a call.
     #[inline(always)]
     fn step(&mut self, is_left: bool) -> Option<RopeSlice<'a>>
         ensures { MatchBool is_left (GoesLeft (λ x. content_of x) self.old result self.new)
@@ -229,7 +235,8 @@ impl<'a> Lines<'a> {
         Some(self.slice.between(here, self.before, held))
     }
 
-    /// The line behind, to which it steps back; or none at that end, where it stays. Takes no memory.
+    /// The line behind, to which it steps back; or none at that end, where it stays. Takes no
+    /// memory.
     #[inline(always)]
     pub fn prev(&mut self) -> Option<RopeSlice<'a>>
         ensures { StepsBack (λ x. content_of x) self.old result self.new }
@@ -318,8 +325,8 @@ impl<'a> Model for Caret<'a> {
     ghost invariant = { λ a. IsCaret a.span a.inside };
 }
 
-// From the end of a chunk to the end of a line: the place in the last chunk, and the counts of what was passed. Never
-// inlined, so that a step within one chunk is kept short.
+// From the end of a chunk to the end of a line: the place in the last chunk, and the counts of what
+// was passed. Never inlined, so that a step within one chunk is kept short.
 #[inline(never)]
 fn pass_chunks(span: &mut Span<'_>, breaks: LineBreaks) -> (usize, TextInfo)
     requires { AreChunks span.old }
@@ -338,7 +345,8 @@ fn pass_chunks(span: &mut Span<'_>, breaks: LineBreaks) -> (usize, TextInfo)
     (byte_len_of(span.chunk()), passed)
 }
 
-// From the start of a chunk back to the start of a line: the place in the last chunk, and the counts of what was passed.
+// From the start of a chunk back to the start of a line: the place in the last chunk, and the
+// counts of what was passed.
 fn pass_chunks_back(span: &mut Span<'_>, skip: usize, breaks: LineBreaks) -> (usize, TextInfo)
     requires { AreChunks span.old }
     ensures passes { PassesBack breaks skip (concat span.old.before)
@@ -361,9 +369,10 @@ fn pass_chunks_back(span: &mut Span<'_>, skip: usize, breaks: LineBreaks) -> (us
 }
 
 impl<'a> Caret<'a> {
-    // Goes on past the next line break, or to the end, and adds what it passed to the counts of the text before. Answers what the
-    // chunk in which that starts has from there on. The counts are kept by the callee: were they answered, the caller would load as
-    // vectors what was just stored in words, and stall.
+    // Goes on past the next line break, or to the end, and adds what it passed to the counts of the
+    // text before. Answers what the chunk in which that starts has from there on. The counts are
+    // kept by the callee: were they answered, the caller would load as vectors what was just stored
+    // in words, and stall.
     #[inline(never)]
     fn pass_line(&mut self, before: &mut TextInfo, breaks: LineBreaks) -> &'a str
         requires { IsSmall before.old }
@@ -387,8 +396,9 @@ impl<'a> Caret<'a> {
         held
     }
 
-    // Goes back past `skip` line breaks, and on to the end of the one before them, or to the start, and takes what it passed from
-    // the counts of the text before. Answers what the chunk has from the new place on. The place is in no CR LF.
+    // Goes back past `skip` line breaks, and on to the end of the one before them, or to the start,
+    // and takes what it passed from the counts of the text before. Answers what the chunk has from
+    // the new place on. The place is in no CR LF.
     #[inline(never)]
     fn pass_line_back(&mut self, before: &mut TextInfo, skip: usize, breaks: LineBreaks) -> &'a str
         requires apart { parts_crlf self.old.front self.old.back ≡ false }

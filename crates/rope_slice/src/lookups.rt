@@ -1,8 +1,9 @@
-//! Bytes, characters and chunks of a slice by their index, and conversions between indices of bytes, characters, UTF-16
-//! code units and lines: all counted from 0 at the slice's start.
+//! Bytes, characters and chunks of a slice by their index, and conversions between indices of
+//! bytes, characters, UTF-16 code units and lines: all counted from 0 at the slice's start.
 //!
-//! Of the slice `1..3` of `"héllo"`, `char(0)` is `é`, and `chunk_at_char(1)` is `("él", 0, 0, 0)`. For the slice `3..`
-//! of `"one\ntwo"`, `char_to_line(1)` is 1 and `line_to_char(1)` is 1: the slice starts with the line break.
+//! Of the slice `1..3` of `"héllo"`, `char(0)` is `é`, and `chunk_at_char(1)` is `("él", 0, 0, 0)`.
+//! For the slice `3..` of `"one\ntwo"`, `char_to_line(1)` is 1 and `line_to_char(1)` is 1: the
+//! slice starts with the line break.
 ghost use Rattle.std.specs.Prelude.{◌≡◌, ◌<◌, ◌≤◌, length, slice_get, Some, Err, MatchOption, IsOkAnd, OnSome, IfSome, IfNone, true};
 ghost use Rattle.std.specs.Str.{chars, encode_utf8_all};
 ghost use Rattle.rope_text.specs.Text.{byte_len, utf16_len};
@@ -64,10 +65,11 @@ impl<'a> RopeSlice<'a> {
         }
     }
 
-    // The chunk that holds a byte or a character; at the end of the text the last chunk. Or the one that holds the last character
-    // of a line break, counted from 0. With it the bytes, the characters and the line breaks that end before it. With no chunk it
-    // is the empty text, with nothing before it.
-    // Inlined: the unit is a constant at most calls, and a search for one kind of count has no test for it.
+    // The chunk that holds a byte or a character; at the end of the text the last chunk. Or the one
+    // that holds the last character of a line break, counted from 0. With it the bytes, the
+    // characters and the line breaks that end before it. With no chunk it is the empty text, with
+    // nothing before it. Inlined: the unit is a constant at most calls, and a search for one kind
+    // of count has no test for it.
     #[inline(always)]
     fn chunk_at(&self, unit: Unit, idx: usize) -> ChunkAt<'a>
         requires { MayHold unit (breaks_of self.now) (text_of self.now) idx }
@@ -105,8 +107,9 @@ impl<'a> RopeSlice<'a> {
         self.chunk_at(unit, idx)
     }
 
-    /// The chunk that holds the byte `byte_idx`, and at the end of the text the last chunk. With it the numbers of
-    /// bytes, of characters and of line breaks that end before the chunk; with no chunk at all `("", 0, 0, 0)`.
+    /// The chunk that holds the byte `byte_idx`, and at the end of the text the last chunk. With it
+    /// the numbers of bytes, of characters and of line breaks that end before the chunk; with no
+    /// chunk at all `("", 0, 0, 0)`.
     ///
     /// The index is at most `len_bytes()`. Costs one or two look-ups; takes no memory.
     #[inline(always)]
@@ -118,9 +121,9 @@ impl<'a> RopeSlice<'a> {
         self.chunk_at(Unit::Byte, byte_idx)
     }
 
-    /// The chunk that holds the character `char_idx`, and at the end of the text the last chunk. With it the
-    /// numbers of bytes, of characters and of line breaks that end before the chunk; with no chunk at all
-    /// `("", 0, 0, 0)`.
+    /// The chunk that holds the character `char_idx`, and at the end of the text the last chunk.
+    /// With it the numbers of bytes, of characters and of line breaks that end before the chunk;
+    /// with no chunk at all `("", 0, 0, 0)`.
     ///
     /// The index is at most `len_chars()`. Costs one or two look-ups; takes no memory.
     #[inline(always)]
@@ -132,9 +135,9 @@ impl<'a> RopeSlice<'a> {
         self.chunk_at(Unit::Char, char_idx)
     }
 
-    /// The first chunk by whose end `line_break_idx` line breaks have ended, or else the last chunk. With it the
-    /// numbers of bytes, of characters and of line breaks that end before the chunk; with no chunk at all
-    /// `("", 0, 0, 0)`.
+    /// The first chunk by whose end `line_break_idx` line breaks have ended, or else the last
+    /// chunk. With it the numbers of bytes, of characters and of line breaks that end before the
+    /// chunk; with no chunk at all `("", 0, 0, 0)`.
     ///
     /// The index is at most `len_lines()`. Costs one or two look-ups; takes no memory.
     pub fn chunk_at_line_break(&self, line_break_idx: usize) -> ChunkAt<'a>
@@ -153,8 +156,8 @@ impl<'a> RopeSlice<'a> {
         self.chunk_apart(Unit::LineBreak, line_break_idx - 1)
     }
 
-    /// The whole text, exactly where the slice has at most one chunk, and else `None`. Costs at most two look-ups;
-    /// takes no memory.
+    /// The whole text, exactly where the slice has at most one chunk, and else `None`. Costs at
+    /// most two look-ups; takes no memory.
     pub fn as_str(&self) -> Option<&'a str>
         ensures one { OnSome result (length (chunks_of self.now) ≤ 1) }
         ensures more { IfNone result (1 < length (chunks_of self.now)) }
@@ -168,8 +171,8 @@ impl<'a> RopeSlice<'a> {
         (byte_len_of(chunk) == len).then_some(chunk)
     }
 
-    /// The byte `byte_idx`, counted from 0, or `None` exactly where the index is `len_bytes()` or past it. Costs
-    /// one or two look-ups; takes no memory.
+    /// The byte `byte_idx`, counted from 0, or `None` exactly where the index is `len_bytes()` or
+    /// past it. Costs one or two look-ups; takes no memory.
     pub fn get_byte(&self, byte_idx: usize) -> Option<u8>
         ensures { result ≡ slice_get (encode_utf8_all (text_of self.now)) byte_idx }
     {
@@ -177,8 +180,8 @@ impl<'a> RopeSlice<'a> {
         Some(self.byte(within(byte_idx, last)?))
     }
 
-    /// The character `char_idx`, counted from 0, or `None` exactly where the index is `len_chars()` or past it.
-    /// Costs one or two look-ups; takes no memory.
+    /// The character `char_idx`, counted from 0, or `None` exactly where the index is `len_chars()`
+    /// or past it. Costs one or two look-ups; takes no memory.
     pub fn get_char(&self, char_idx: usize) -> Option<char>
         ensures { result ≡ slice_get (text_of self.now) char_idx }
     {
@@ -190,8 +193,8 @@ impl<'a> RopeSlice<'a> {
     ///
     /// # Errors
     ///
-    /// `ByteIndexOutOfBounds`, with the index and the number of bytes, exactly where the index is past
-    /// `len_bytes()`.
+    /// `ByteIndexOutOfBounds`, with the index and the number of bytes, exactly where the index is
+    /// past `len_bytes()`.
     pub fn try_chunk_at_byte(&self, byte_idx: usize) -> Result<ChunkAt<'a>>
         ensures { MatchOption (byte_index_error byte_idx (byte_len (text_of self.now)))
             (IsOkAnd result (ShowsChunk (content_of self.now)
@@ -203,8 +206,8 @@ impl<'a> RopeSlice<'a> {
         Ok(self.chunk_at_byte(idx))
     }
 
-    /// As `chunk_at_char`, or `None` exactly where the index is past `len_chars()`. Costs one or two look-ups;
-    /// takes no memory.
+    /// As `chunk_at_char`, or `None` exactly where the index is past `len_chars()`. Costs one or
+    /// two look-ups; takes no memory.
     pub fn get_chunk_at_char(&self, char_idx: usize) -> Option<ChunkAt<'a>>
         ensures { GivesWithin char_idx (length (text_of self.now)) result
             (ShowsChunk (content_of self.now) (chunk_index_at_char (chunks_of self.now) char_idx)) }
@@ -212,8 +215,8 @@ impl<'a> RopeSlice<'a> {
         Some(self.chunk_at_char(within(char_idx, self.len_chars())?))
     }
 
-    /// As `chunk_at_line_break`, or `None` exactly where the index is past `len_lines()`. Costs one or two
-    /// look-ups; takes no memory.
+    /// As `chunk_at_line_break`, or `None` exactly where the index is past `len_lines()`. Costs one
+    /// or two look-ups; takes no memory.
     pub fn get_chunk_at_line_break(&self, line_break_idx: usize) -> Option<ChunkAt<'a>>
         ensures { GivesWithin line_break_idx (line_count (breaks_of self.now) (text_of self.now))
             result (ShowsChunk (content_of self.now)
@@ -222,9 +225,9 @@ impl<'a> RopeSlice<'a> {
         Some(self.chunk_at_line_break(within(line_break_idx, self.len_lines())?))
     }
 
-    // The index in the unit `to` of the place that an index in the unit `from` names: the character that holds the byte or
-    // the code unit, the line on which the place lies, or the place at which the line starts. The index may be that of the
-    // end, which of lines is the one past the last.
+    // The index in the unit `to` of the place that an index in the unit `from` names: the character
+    // that holds the byte or the code unit, the line on which the place lies, or the place at which
+    // the line starts. The index may be that of the end, which of lines is the one past the last.
     #[inline(always)]
     fn convert(&self, from: Unit, to: Unit, idx: usize) -> usize
         requires units { are_converted from to ≡ true }
@@ -232,8 +235,9 @@ impl<'a> RopeSlice<'a> {
         ensures { result ≡ converted from to (breaks_of self.now) (text_of self.now) idx }
     {
         match self {
-            // The tree's answer, less what lies before the start. Where a slice ends between CR and LF, its last line starts at that
-            // end, while the tree's line starts behind the LF: so the answer is cut at the end.
+            // The tree's answer, less what lies before the start. Where a slice ends between CR and
+            // LF, its last line starts at that end, while the tree's line starts behind the LF: so
+            // the answer is cut at the end.
             RopeSlice::InTree(excerpt) => {
                 let first = first_sought(from);
                 if idx < first {
@@ -253,7 +257,8 @@ impl<'a> RopeSlice<'a> {
         }
     }
 
-    // The index in the unit `to` of the place that any index in the unit `from` names, or the refusal of the index.
+    // The index in the unit `to` of the place that any index in the unit `from` names, or the
+    // refusal of the index.
     #[inline(always)]
     fn try_convert(&self, from: Unit, to: Unit, idx: usize) -> Result<usize>
         requires { are_converted from to ≡ true }
@@ -271,8 +276,8 @@ impl<'a> RopeSlice<'a> {
         Ok(self.convert(from, to, within(idx, len).ok_or(error)?))
     }
 
-    /// The character, counted from 0, that holds the byte `byte_idx`, also where the byte is inside the character;
-    /// at the end of the text, the number of characters.
+    /// The character, counted from 0, that holds the byte `byte_idx`, also where the byte is inside
+    /// the character; at the end of the text, the number of characters.
     ///
     /// The index is at most `len_bytes()`. Costs one or two look-ups; takes no memory.
     pub fn byte_to_char(&self, byte_idx: usize) -> usize
@@ -286,8 +291,8 @@ impl<'a> RopeSlice<'a> {
     ///
     /// # Errors
     ///
-    /// `ByteIndexOutOfBounds`, with the index and the number of bytes, exactly where the index is past
-    /// `len_bytes()`.
+    /// `ByteIndexOutOfBounds`, with the index and the number of bytes, exactly where the index is
+    /// past `len_bytes()`.
     pub fn try_byte_to_char(&self, byte_idx: usize) -> Result<usize>
         ensures { result ≡ checked (byte_index_error byte_idx (byte_len (text_of self.now)))
             (byte_to_char (text_of self.now) byte_idx) }
@@ -295,8 +300,9 @@ impl<'a> RopeSlice<'a> {
         self.try_convert(Unit::Byte, Unit::Char, byte_idx)
     }
 
-    /// The line, counted from 0, on which the byte `byte_idx` lies: how many line breaks end at or before it. A
-    /// byte inside a break of several bytes, as between CR and LF, lies on the line that the break ends.
+    /// The line, counted from 0, on which the byte `byte_idx` lies: how many line breaks end at or
+    /// before it. A byte inside a break of several bytes, as between CR and LF, lies on the line
+    /// that the break ends.
     ///
     /// The index is at most `len_bytes()`. Costs one or two look-ups; takes no memory.
     pub fn byte_to_line(&self, byte_idx: usize) -> usize
@@ -310,8 +316,8 @@ impl<'a> RopeSlice<'a> {
     ///
     /// # Errors
     ///
-    /// `ByteIndexOutOfBounds`, with the index and the number of bytes, exactly where the index is past
-    /// `len_bytes()`.
+    /// `ByteIndexOutOfBounds`, with the index and the number of bytes, exactly where the index is
+    /// past `len_bytes()`.
     pub fn try_byte_to_line(&self, byte_idx: usize) -> Result<usize>
         ensures { result ≡ checked (byte_index_error byte_idx (byte_len (text_of self.now)))
             (byte_to_line (breaks_of self.now) (text_of self.now) byte_idx) }
@@ -319,8 +325,8 @@ impl<'a> RopeSlice<'a> {
         self.try_convert(Unit::Byte, Unit::LineBreak, byte_idx)
     }
 
-    /// The byte, counted from 0, at which the character `char_idx` starts; at the end of the text, the number of
-    /// bytes.
+    /// The byte, counted from 0, at which the character `char_idx` starts; at the end of the text,
+    /// the number of bytes.
     ///
     /// The index is at most `len_chars()`. Costs one or two look-ups; takes no memory.
     pub fn char_to_byte(&self, char_idx: usize) -> usize
@@ -334,8 +340,8 @@ impl<'a> RopeSlice<'a> {
     ///
     /// # Errors
     ///
-    /// `CharIndexOutOfBounds`, with the index and the number of characters, exactly where the index is past
-    /// `len_chars()`.
+    /// `CharIndexOutOfBounds`, with the index and the number of characters, exactly where the index
+    /// is past `len_chars()`.
     pub fn try_char_to_byte(&self, char_idx: usize) -> Result<usize>
         ensures { result ≡ checked (char_index_error char_idx (length (text_of self.now)))
             (char_to_byte (text_of self.now) char_idx) }
@@ -343,8 +349,8 @@ impl<'a> RopeSlice<'a> {
         self.try_convert(Unit::Char, Unit::Byte, char_idx)
     }
 
-    /// The line, counted from 0, on which the character `char_idx` lies: how many line breaks end at or before it.
-    /// The place between CR and LF lies on the line that they end.
+    /// The line, counted from 0, on which the character `char_idx` lies: how many line breaks end
+    /// at or before it. The place between CR and LF lies on the line that they end.
     ///
     /// The index is at most `len_chars()`. Costs one or two look-ups; takes no memory.
     pub fn char_to_line(&self, char_idx: usize) -> usize
@@ -358,8 +364,8 @@ impl<'a> RopeSlice<'a> {
     ///
     /// # Errors
     ///
-    /// `CharIndexOutOfBounds`, with the index and the number of characters, exactly where the index is past
-    /// `len_chars()`.
+    /// `CharIndexOutOfBounds`, with the index and the number of characters, exactly where the index
+    /// is past `len_chars()`.
     pub fn try_char_to_line(&self, char_idx: usize) -> Result<usize>
         ensures { result ≡ checked (char_index_error char_idx (length (text_of self.now)))
             (char_to_line (breaks_of self.now) (text_of self.now) char_idx) }
@@ -367,8 +373,8 @@ impl<'a> RopeSlice<'a> {
         self.try_convert(Unit::Char, Unit::LineBreak, char_idx)
     }
 
-    /// The UTF-16 code unit, counted from 0, at which the character `char_idx` starts; at the end of the text, the
-    /// number of code units.
+    /// The UTF-16 code unit, counted from 0, at which the character `char_idx` starts; at the end
+    /// of the text, the number of code units.
     ///
     /// The index is at most `len_chars()`. Costs one or two look-ups; takes no memory.
     pub fn char_to_utf16_cu(&self, char_idx: usize) -> usize
@@ -382,8 +388,8 @@ impl<'a> RopeSlice<'a> {
     ///
     /// # Errors
     ///
-    /// `CharIndexOutOfBounds`, with the index and the number of characters, exactly where the index is past
-    /// `len_chars()`.
+    /// `CharIndexOutOfBounds`, with the index and the number of characters, exactly where the index
+    /// is past `len_chars()`.
     pub fn try_char_to_utf16_cu(&self, char_idx: usize) -> Result<usize>
         ensures { result ≡ checked (char_index_error char_idx (length (text_of self.now)))
             (char_to_utf16 (text_of self.now) char_idx) }
@@ -391,8 +397,9 @@ impl<'a> RopeSlice<'a> {
         self.try_convert(Unit::Char, Unit::CodeUnit, char_idx)
     }
 
-    /// The character, counted from 0, that holds the UTF-16 code unit `utf16_cu_idx`, also where that is the second
-    /// half of a surrogate pair; at the end of the text, the number of characters.
+    /// The character, counted from 0, that holds the UTF-16 code unit `utf16_cu_idx`, also where
+    /// that is the second half of a surrogate pair; at the end of the text, the number of
+    /// characters.
     ///
     /// The index is at most `len_utf16_cu()`. Costs one or two look-ups; takes no memory.
     pub fn utf16_cu_to_char(&self, utf16_cu_idx: usize) -> usize
@@ -406,8 +413,8 @@ impl<'a> RopeSlice<'a> {
     ///
     /// # Errors
     ///
-    /// `Utf16IndexOutOfBounds`, with the index and the number of code units, exactly where the index is past
-    /// `len_utf16_cu()`.
+    /// `Utf16IndexOutOfBounds`, with the index and the number of code units, exactly where the
+    /// index is past `len_utf16_cu()`.
     pub fn try_utf16_cu_to_char(&self, utf16_cu_idx: usize) -> Result<usize>
         ensures { result ≡ checked (utf16_index_error utf16_cu_idx (utf16_len (text_of self.now)))
             (utf16_to_char (text_of self.now) utf16_cu_idx) }
@@ -415,7 +422,8 @@ impl<'a> RopeSlice<'a> {
         self.try_convert(Unit::CodeUnit, Unit::Char, utf16_cu_idx)
     }
 
-    /// The byte, counted from 0, at which the line `line_idx` starts; for `len_lines()`, the end of the text.
+    /// The byte, counted from 0, at which the line `line_idx` starts; for `len_lines()`, the end of
+    /// the text.
     ///
     /// The index is at most `len_lines()`. Costs one or two look-ups; takes no memory.
     pub fn line_to_byte(&self, line_idx: usize) -> usize
@@ -429,8 +437,8 @@ impl<'a> RopeSlice<'a> {
     ///
     /// # Errors
     ///
-    /// `LineIndexOutOfBounds`, with the index and the number of lines, exactly where the index is past
-    /// `len_lines()`.
+    /// `LineIndexOutOfBounds`, with the index and the number of lines, exactly where the index is
+    /// past `len_lines()`.
     pub fn try_line_to_byte(&self, line_idx: usize) -> Result<usize>
         ensures { result ≡ checked
             (line_index_error line_idx (line_count (breaks_of self.now) (text_of self.now)))
@@ -439,7 +447,8 @@ impl<'a> RopeSlice<'a> {
         self.try_convert(Unit::LineBreak, Unit::Byte, line_idx)
     }
 
-    /// The character, counted from 0, at which the line `line_idx` starts; for `len_lines()`, the end of the text.
+    /// The character, counted from 0, at which the line `line_idx` starts; for `len_lines()`, the
+    /// end of the text.
     ///
     /// The index is at most `len_lines()`. Costs one or two look-ups; takes no memory.
     pub fn line_to_char(&self, line_idx: usize) -> usize
@@ -453,8 +462,8 @@ impl<'a> RopeSlice<'a> {
     ///
     /// # Errors
     ///
-    /// `LineIndexOutOfBounds`, with the index and the number of lines, exactly where the index is past
-    /// `len_lines()`.
+    /// `LineIndexOutOfBounds`, with the index and the number of lines, exactly where the index is
+    /// past `len_lines()`.
     pub fn try_line_to_char(&self, line_idx: usize) -> Result<usize>
         ensures { result ≡ checked
             (line_index_error line_idx (line_count (breaks_of self.now) (text_of self.now)))

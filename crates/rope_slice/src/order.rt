@@ -33,8 +33,8 @@ fn are_same_blocks(left: &[u8], right: &[u8], at: usize, next: usize) -> bool
     (x.simd_ne(y) | z.simd_ne(w)).to_bitmask() == 0
 }
 
-// Whether two pieces of the same length are the same. The last two blocks may overlap: so no bytes are left over to be compared one
-// by one, unless the pieces are shorter than a block.
+// Whether two pieces of the same length are the same. The last two blocks may overlap: so no bytes
+// are left over to be compared one by one, unless the pieces are shorter than a block.
 fn are_same(left: &[u8], right: &[u8]) -> bool
     requires { length left.now ≡ length right.now }
     ensures { IsTrue result ↔ (left.now ≡ right.now) }
@@ -65,8 +65,8 @@ fn filled<'a>(front: &'a [u8], pieces: &mut Pieces<'a>) -> &'a [u8]
     pieces.next_piece()
 }
 
-// The lexicographic order of two lists of bytes, each given as its first piece and the pieces after it. A first piece is empty only
-// where the list is.
+// The lexicographic order of two lists of bytes, each given as its first piece and the pieces after
+// it. A first piece is empty only where the list is.
 fn order_of_pieces<'a>(left: (&'a [u8], Pieces<'a>), right: (&'a [u8], Pieces<'a>)) -> Ordering
     requires left { length left.0.now ≡ 0 → left.1 ≡ [] }
     requires right { length right.0.now ≡ 0 → right.1 ≡ [] }
@@ -109,7 +109,8 @@ impl<'a> RopeSlice<'a> {
     }
 }
 
-/// Slices are equal exactly if their texts are, however they are cut and whatever their sets of line breaks.
+/// Slices are equal exactly if their texts are, however they are cut and whatever their sets of
+/// line breaks.
 impl<'a> PartialEq for RopeSlice<'a> {
     ghost use Rattle.std.specs.Prelude.{◌==◌};
     ghost use lib.Pointwise.{pointwise};

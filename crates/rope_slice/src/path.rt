@@ -1,4 +1,5 @@
-//! A leaf of a tree, from which a cursor goes to the leaves beside it; and a leaf within a part of the text. No step takes memory.
+//! A leaf of a tree, from which a cursor goes to the leaves beside it; and a leaf within a part of
+//! the text. No step takes memory.
 ghost use Rattle.std.specs.Prelude.{◌≡◌, ◌+◌, ◌-◌, ◌<◌, ◌≤◌, ◌∷◌, []};
 ghost use Rattle.std.specs.Bool.{OnTrue, OnFalse};
 ghost use Rattle.std.specs.List.{concat};
@@ -20,12 +21,14 @@ use std::marker::Model;
 
 /// A leaf of a tree, seen as the leaves before it, the leaf, and the leaves after it.
 ///
-/// It keeps the list in which the leaf stands, so that most steps are one in that list. Where the list ends, the next leaf is
-/// looked up from the root by its first byte, or by its last: once in some twenty steps.
+/// It keeps the list in which the leaf stands, so that most steps are one in that list. Where the
+/// list ends, the next leaf is looked up from the root by its first byte, or by its last: once in
+/// some twenty steps.
 #[derive(Drop)]
 pub(crate) struct Path<'a> {
     root: &'a Node,
-    // the children of the node over the leaf, and which of them it is; none where the tree is that leaf
+    // the children of the node over the leaf, and which of them it is; none where the tree is that
+    // leaf
     nodes: &'a [Node],
     at: usize,
     leaf: &'a str,
@@ -56,15 +59,16 @@ fn lowest_text(node: &Node) -> &str
     }
 }
 
-// Prefetch: reads the head of each leaf of a list, so that a walk that comes to one after the other doesn't miss on each. Answers
-// whether all have bytes, as leaves have: a caller that tests it keeps the compiler from dropping the reads.
+// Prefetch: reads the head of each leaf of a list, so that a walk that comes to one after the other
+// doesn't miss on each. Answers whether all have bytes, as leaves have: a caller that tests it
+// keeps the compiler from dropping the reads.
 fn touch_heads(nodes: &[Node]) -> bool {
     nodes.iter().all(|node| node.info().bytes > 0)
 }
 
 impl<'a> Path<'a> {
-    /// The way to the leaf that holds a place of a tree's text, and the counts of the text before the leaf. It enters each
-    /// node on the way once.
+    /// The way to the leaf that holds a place of a tree's text, and the counts of the text before
+    /// the leaf. It enters each node on the way once.
     // Inlined, since a call would answer the way through memory.
     #[inline(always)]
     pub(crate) fn at(root: &'a Node, unit: Unit, idx: usize) -> (Path<'a>, TextInfo)
@@ -112,7 +116,8 @@ impl<'a> Path<'a> {
         self.leaf
     }
 
-    // The leaf that holds a byte of the tree's text. Never inlined: most steps stay in the list of the leaf.
+    // The leaf that holds a byte of the tree's text. Never inlined: most steps stay in the list of
+    // the leaf.
     #[inline(never)]
     fn look_up(&self, byte_idx: usize) -> Path<'a>
         requires { byte_idx < byte_len (concat (leaves self.now)) }
@@ -169,7 +174,8 @@ impl<'a> Path<'a> {
         true
     }
 
-    /// Goes to the next leaf, or backward to the one before. Answers whether there is one; else it stays.
+    /// Goes to the next leaf, or backward to the one before. Answers whether there is one; else it
+    /// stays.
     pub(crate) fn step(&mut self, is_backward: bool) -> bool
         ensures moved { OnTrue result (IsBeside is_backward self.old self.new) }
         ensures stays { OnFalse result (self.new ≡ self.old) }
@@ -183,7 +189,8 @@ impl<'a> Path<'a> {
     }
 }
 
-/// A chunk of an excerpt of a tree, seen as the chunks before it, the chunk, and the chunks after it.
+/// A chunk of an excerpt of a tree, seen as the chunks before it, the chunk, and the chunks after
+/// it.
 #[derive(Drop)]
 pub(crate) struct TreeSpan<'a> {
     path: Path<'a>,
@@ -206,8 +213,8 @@ impl<'a> Model for TreeSpan<'a> {
 }
 
 impl<'a> TreeSpan<'a> {
-    /// The chunk of an excerpt that holds a byte or a character; at the end of the text the last chunk. With it the bytes, the
-    /// characters and the line breaks of the text before it.
+    /// The chunk of an excerpt that holds a byte or a character; at the end of the text the last
+    /// chunk. With it the bytes, the characters and the line breaks of the text before it.
     // Inlined, since a call would answer the way through memory.
     #[inline(always)]
     pub(crate) fn holding(excerpt: &Excerpt<'a>, unit: Unit, idx: usize) -> (TreeSpan<'a>, Before)
@@ -242,7 +249,8 @@ impl<'a> TreeSpan<'a> {
         &leaf[low..high]
     }
 
-    /// Goes to the next chunk, or backward to the one before. Answers whether there is one; else it stays.
+    /// Goes to the next chunk, or backward to the one before. Answers whether there is one; else it
+    /// stays.
     pub(crate) fn step(&mut self, is_backward: bool) -> bool
         ensures moved { OnTrue result (IsBeside is_backward self.old self.new) }
         ensures stays { OnFalse result (self.new ≡ self.old) }

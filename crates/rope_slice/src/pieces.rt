@@ -8,8 +8,8 @@ use crate::slice::RopeSlice;
 use rope_tree::Unit;
 use std::marker::Model;
 
-/// The bytes of a slice from a place on, in pieces as the leaves hold them, forward only. Nothing is read before the next piece is
-/// asked for.
+/// The bytes of a slice from a place on, in pieces as the leaves hold them, forward only. Nothing
+/// is read before the next piece is asked for.
 #[derive(Drop)]
 pub(crate) struct Pieces<'a> {
     // none for a plain text
@@ -32,7 +32,8 @@ impl<'a> Model for Pieces<'a> {
 }
 
 impl<'a> Pieces<'a> {
-    /// The first piece of a slice's bytes, and the pieces after it. The first one is empty only where the slice is.
+    /// The first piece of a slice's bytes, and the pieces after it. The first one is empty only
+    /// where the slice is.
     pub(crate) fn of(slice: &RopeSlice<'a>) -> (&'a [u8], Pieces<'a>)
         ensures bytes { result.0.now ++ result.1 ≡ encode_utf8_all (text_of slice.now) }
         ensures some { length result.0.now ≡ 0 → result.1 ≡ [] }

@@ -8,8 +8,8 @@ ghost use Rattle.rope_slice.specs.Edge.{line_info, IsInfo-prop};
 
 use rope_text::{LineBreaks, TextInfo};
 
-/// The place of a line: the counts of the text before it, and before the next line or, of the last one, those of all of the text.
-/// And what the chunk in which the line starts has from there on.
+/// The place of a line: the counts of the text before it, and before the next line or, of the last
+/// one, those of all of the text. And what the chunk in which the line starts has from there on.
 #[derive(Clone, Copy)]
 pub(crate) struct LinePlace<'a> {
     pub start: TextInfo,
@@ -49,8 +49,8 @@ impl<'a> Plain<'a> {
         TextInfo::before_line(self.as_str(), self.info, line_idx, self.breaks)
     }
 
-    /// The counts of the text before a line, and before the next one; past the last line those of all of it. And the text from
-    /// the line on.
+    /// The counts of the text before a line, and before the next one; past the last line those of
+    /// all of it. And the text from the line on.
     pub(crate) fn around_line(&self, line_idx: usize) -> LinePlace<'a>
         requires within { line_idx < line_count self.now.breaks (text_of self.now) }
         requires fits { byte_len (text_of self.now) < 2 ^ 63 }

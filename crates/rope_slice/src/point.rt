@@ -13,7 +13,8 @@ pub(crate) fn end_of(count: usize, is_left: bool) -> usize
     if is_left { 0 } else { count }
 }
 
-// Goes to the chunk beside a span's own. The span is moved in and out, so that no call is told where the caller's lies.
+// Goes to the chunk beside a span's own. The span is moved in and out, so that no call is told
+// where the caller's lies.
 #[inline(never)]
 fn chunk_beside<'a>(mut span: Span<'a>, is_left: bool) -> (Span<'a>, Option<&'a str>)
     ensures moved { IfSome result.1 (λ chunk. IsBeside is_left span.entry result.0) }
@@ -26,10 +27,11 @@ fn chunk_beside<'a>(mut span: Span<'a>, is_left: bool) -> (Span<'a>, Option<&'a 
     (span, has_moved.then_some(chunk))
 }
 
-// Goes to the chunk to the left, or to the right, if there is one, and answers it, and its end from which it is entered. The work
-// is kept out of the callers, whose steps within a chunk are to stay short. It is given a copy of the span: were it told where the
-// span lies, it could reach the cursor round it too, and a loop over a cursor would read and write the cursor's place in memory at
-// each step.
+// Goes to the chunk to the left, or to the right, if there is one, and answers it, and its end from
+// which it is entered. The work is kept out of the callers, whose steps within a chunk are to stay
+// short. It is given a copy of the span: were it told where the span lies, it could reach the
+// cursor round it too, and a loop over a cursor would read and write the cursor's place in memory
+// at each step.
 pub(crate) fn step_chunk<'a>(span: &mut Span<'a>, is_left: bool) -> Option<(&'a str, usize)>
     ensures moved { IfSome result (λ found. IsBeside is_left span.old span.new) }
     ensures chunk { IfSome result (λ found. IsChunkAt span.new found.0.now) }

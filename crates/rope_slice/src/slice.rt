@@ -1,7 +1,8 @@
 //! The slice, its lengths, and slices of it.
 //!
-//! `RopeSlice::from("one\ntwo")` is a slice of a plain text: it has 7 characters, 2 lines and one chunk. The slice `2..9`
-//! of `"hello world"` is `"llo wor"`, and of that the slice `1..4` is `"lo "`. No call takes memory.
+//! `RopeSlice::from("one\ntwo")` is a slice of a plain text: it has 7 characters, 2 lines and one
+//! chunk. The slice `2..9` of `"hello world"` is `"llo wor"`, and of that the slice `1..4` is `"lo
+//! "`. No call takes memory.
 ghost use Rattle.std.specs.Prelude.{◌≡◌, ◌≤◌, length, true, ◌↔◌, None, Some, Ok, Err, IfOk, IfErr, IfSome, IsSome};
 ghost use Rattle.std.specs.List.{slice_range};
 ghost use Rattle.std.specs.Str.{chars};
@@ -34,12 +35,13 @@ pub(crate) fn within(idx: usize, len: usize) -> Option<usize>
 
 /// A part of a rope's text, or a plain text, borrowed for `'a`.
 ///
-/// It counts its own text: one that ends after the CR of a CR LF has that CR as a line break, and one that starts
-/// at the LF has that LF, where they are breaks of its set. Its chunks are the rope's, clipped to it, and empty
-/// ones dropped; a plain text is one chunk of any length, or none. Copying a slice takes constant time and no
-/// memory.
+/// It counts its own text: one that ends after the CR of a CR LF has that CR as a line break, and
+/// one that starts at the LF has that LF, where they are breaks of its set. Its chunks are the
+/// rope's, clipped to it, and empty ones dropped; a plain text is one chunk of any length, or none.
+/// Copying a slice takes constant time and no memory.
 ///
-/// Which of the two it is says nothing about its text, and only tells a rope that is made of it whether there are nodes to share.
+/// Which of the two it is says nothing about its text, and only tells a rope that is made of it
+/// whether there are nodes to share.
 #[derive(Clone, Copy)]
 pub enum RopeSlice<'a> {
     /// One character or more of a rope's text.
@@ -52,8 +54,8 @@ impl<'a> RopeSlice<'a> {
     ghost use Rattle.rope_slice.specs.Slice.{content_of, text_of, chunks_of, breaks_of};
     ghost use Rattle.rope_slice.specs.Ranges.{GivesChars, GivesBytes, IsByteSlice};
 
-    /// A slice of a plain text, with this set of line breaks. The text is read once, to be counted; takes no
-    /// memory.
+    /// A slice of a plain text, with this set of line breaks. The text is read once, to be counted;
+    /// takes no memory.
     pub fn from_str_with(text: &'a str, breaks: LineBreaks) -> RopeSlice<'a>
         ensures text { text_of result ≡ chars text.now }
         ensures chunks { chunks_of result ≡ single_chunk (chars text.now) }
@@ -97,7 +99,8 @@ impl<'a> RopeSlice<'a> {
         match self {
             RopeSlice::InTree(excerpt) => excerpt.info(),
             RopeSlice::Alone(plain) => {
-                // For the proof: `as_bytes` says that a text in memory has at most `isize::MAX` bytes, as a slice must.
+                // For the proof: `as_bytes` says that a text in memory has at most `isize::MAX`
+                // bytes, as a slice must.
                 let _ = plain.as_str().as_bytes();
                 plain.info
             }
@@ -201,11 +204,11 @@ impl<'a> RopeSlice<'a> {
         }
     }
 
-    /// The characters of a range, as a slice that borrows them: their text, the chunks clipped to them, and the
-    /// same set of line breaks. Nothing is copied.
+    /// The characters of a range, as a slice that borrows them: their text, the chunks clipped to
+    /// them, and the same set of line breaks. Nothing is copied.
     ///
-    /// The range's bounds are at most `len_chars()`, and its start is at most its end. Costs a few look-ups, or a
-    /// count of the text where it is plain; takes no memory.
+    /// The range's bounds are at most `len_chars()`, and its start is at most its end. Costs a few
+    /// look-ups, or a count of the text where it is plain; takes no memory.
     #[inline(always)]
     pub fn slice<R: IndexRange>(&self, range: R) -> RopeSlice<'a>
         requires { HasCharRange (text_of self.now) (R.given_start range) (R.given_end range) }
@@ -215,8 +218,9 @@ impl<'a> RopeSlice<'a> {
         self.get_slice(range).unwrap()
     }
 
-    /// As `slice`, or `None` exactly where a bound is past `len_chars()` or the range's start is past its end.
-    /// Costs a few look-ups, or a count of the text where it is plain; takes no memory.
+    /// As `slice`, or `None` exactly where a bound is past `len_chars()` or the range's start is
+    /// past its end. Costs a few look-ups, or a count of the text where it is plain; takes no
+    /// memory.
     #[inline(always)]
     pub fn get_slice<R: IndexRange>(&self, range: R) -> Option<RopeSlice<'a>>
         ensures { GivesChars (content_of self.now) (R.given_start range) (R.given_end range)
@@ -226,14 +230,14 @@ impl<'a> RopeSlice<'a> {
         Some(self.char_range(start, end))
     }
 
-    /// As `byte_slice`, for any range. Costs a few look-ups, or a count of the text where it is plain; takes no
-    /// memory.
+    /// As `byte_slice`, for any range. Costs a few look-ups, or a count of the text where it is
+    /// plain; takes no memory.
     ///
     /// # Errors
     ///
     /// First `ByteRangeInvalid`, where both bounds are given and the start is past the end; then
-    /// `ByteRangeOutOfBounds`, where a given bound is past `len_bytes()`; then `ByteRangeNotCharBoundary`, where a
-    /// given bound lies inside a character.
+    /// `ByteRangeOutOfBounds`, where a given bound is past `len_bytes()`; then
+    /// `ByteRangeNotCharBoundary`, where a given bound lies inside a character.
     #[inline(always)]
     pub fn try_byte_slice<R: IndexRange>(&self, range: R) -> Result<RopeSlice<'a>>
         ensures ok { IfOk result
@@ -257,8 +261,8 @@ impl<'a> RopeSlice<'a> {
         }
     }
 
-    /// As `byte_slice`, or `None` exactly where `try_byte_slice` returns an error. Costs a few look-ups, or a count
-    /// of the text where it is plain; takes no memory.
+    /// As `byte_slice`, or `None` exactly where `try_byte_slice` returns an error. Costs a few
+    /// look-ups, or a count of the text where it is plain; takes no memory.
     #[inline(always)]
     pub fn get_byte_slice<R: IndexRange>(&self, range: R) -> Option<RopeSlice<'a>>
         ensures { GivesBytes (content_of self.now) (R.given_start range) (R.given_end range)
@@ -269,8 +273,9 @@ impl<'a> RopeSlice<'a> {
 
     /// The bytes of a range, as a slice that borrows them, as `slice` does.
     ///
-    /// The range's bounds are at most `len_bytes()`, its start is at most its end, and no bound lies inside a
-    /// character. Costs a few look-ups, or a count of the text where it is plain; takes no memory.
+    /// The range's bounds are at most `len_bytes()`, its start is at most its end, and no bound
+    /// lies inside a character. Costs a few look-ups, or a count of the text where it is plain;
+    /// takes no memory.
     #[inline(always)]
     pub fn byte_slice<R: IndexRange>(&self, range: R) -> RopeSlice<'a>
         requires { HasByteRange (text_of self.now) (R.given_start range) (R.given_end range) }
@@ -286,7 +291,8 @@ impl<'a> From<&'a str> for RopeSlice<'a> {
 
     ghost from_gives = { λ text slice. content_of slice ≡ plain_content Unicode (chars text.now) };
 
-    /// A slice of a plain text, with Unicode's line breaks. The text is read once, to be counted; takes no memory.
+    /// A slice of a plain text, with Unicode's line breaks. The text is read once, to be counted;
+    /// takes no memory.
     fn from(text: &'a str) -> RopeSlice<'a>
         ensures content { content_of result ≡ plain_content Unicode (chars text.now) }
         ensures text { text_of result ≡ chars text.now }

@@ -40,8 +40,9 @@ impl<'a> Model for Span<'a> {
 }
 
 impl<'a> Span<'a> {
-    /// The chunk of a slice that holds a byte or a character; at the end of the text the last chunk. With it the bytes, the
-    /// characters and the line breaks of the text before it. An empty slice has no chunk: then it is the empty text.
+    /// The chunk of a slice that holds a byte or a character; at the end of the text the last
+    /// chunk. With it the bytes, the characters and the line breaks of the text before it. An empty
+    /// slice has no chunk: then it is the empty text.
     // Inlined, since a call would answer the way through memory.
     #[inline(always)]
     pub(crate) fn holding(slice: &RopeSlice<'a>, unit: Unit, idx: usize) -> (Span<'a>, Before)
@@ -69,10 +70,12 @@ impl<'a> Span<'a> {
         }
     }
 
-    /// The chunk of a slice that holds a character, and the byte of the chunk at which that character starts. At the end of the
-    /// text it is the last chunk, and its end. An empty slice has no chunk: then it is the empty text. The caller has the slice's
-    /// counts, and passes them in.
-    // Inlined, since a call would answer the way through memory. ASCII: the byte index is the character index, and no byte is read.
+    /// The chunk of a slice that holds a character, and the byte of the chunk at which that
+    /// character starts. At the end of the text it is the last chunk, and its end. An empty slice
+    /// has no chunk: then it is the empty text. The caller has the slice's counts, and passes them
+    /// in.
+    // Inlined, since a call would answer the way through memory. ASCII: the byte index is the
+    // character index, and no byte is read.
     #[inline(always)]
     pub(crate) fn at(slice: &RopeSlice<'a>, info: TextInfo, char_idx: usize) -> (Span<'a>, usize)
         requires info { info ≡ info_of (breaks_of slice.now) (text_of slice.now) }
@@ -94,8 +97,8 @@ impl<'a> Span<'a> {
         (span, byte)
     }
 
-    /// The chunk of a slice in which a place lies, or ends, and the byte of the chunk at which that is. The caller has the counts of
-    /// the text before the place, so no byte is read.
+    /// The chunk of a slice in which a place lies, or ends, and the byte of the chunk at which that
+    /// is. The caller has the counts of the text before the place, so no byte is read.
     // Inlined, since a call would answer the way through memory.
     #[inline(always)]
     pub(crate) fn behind(slice: &RopeSlice<'a>, before: TextInfo) -> (Span<'a>, usize)
@@ -133,7 +136,8 @@ impl<'a> Span<'a> {
         self.chunk
     }
 
-    /// Goes to the next chunk, or backward to the one before. Answers whether there is one; else it stays.
+    /// Goes to the next chunk, or backward to the one before. Answers whether there is one; else it
+    /// stays.
     // Inlined: a plain text has none, which costs no call.
     #[inline(always)]
     pub(crate) fn step(&mut self, is_backward: bool) -> bool

@@ -48,8 +48,8 @@ impl<'a> RopeSlice<'a> {
         Ok(text)
     }
 
-    /// The text: borrowed exactly where the slice has at most one chunk, which takes no memory and never fails;
-    /// else a copy.
+    /// The text: borrowed exactly where the slice has at most one chunk, which takes no memory and
+    /// never fails; else a copy.
     ///
     /// # Errors
     ///

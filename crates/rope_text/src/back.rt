@@ -1,4 +1,5 @@
-//! Searches backward for a line break: with it what the text from there on counts, in one pass over its bytes, in blocks of 32.
+//! Searches backward for a line break: with it what the text from there on counts, in one pass over
+//! its bytes, in blocks of 32.
 ghost use Rattle.std.specs.Prelude.{◌≡◌, ◌+◌, ◌<◌, ◌≤◌, false, length};
 ghost use Rattle.rope_text.specs.Scan.{GoesBack, HasRoom, back_from};
 
@@ -6,7 +7,8 @@ use crate::LineBreaks;
 use crate::bits::{mark_from_end, ones_before, ones_between};
 use crate::lanes::{Mark, is_mark, masks_of};
 
-/// A place that was come to on the way back from the end of a text's front, and what the text between counts.
+/// A place that was come to on the way back from the end of a text's front, and what the text
+/// between counts.
 #[derive(Clone, Copy)]
 pub(crate) struct Back {
     pub at: usize,
@@ -16,8 +18,8 @@ pub(crate) struct Back {
     pub left: usize,
 }
 
-/// Goes back over single bytes to the byte `to`, or to the break that is looked for. Answers whether it came to that break. Cold: a
-/// line has one or two such bytes at its end.
+/// Goes back over single bytes to the byte `to`, or to the break that is looked for. Answers
+/// whether it came to that break. Cold: a line has one or two such bytes at its end.
 #[inline(never)]
 fn back_by_bytes(bytes: &[u8], from: Back, to: usize, breaks: LineBreaks) -> (Back, bool)
     requires room { HasRoom from }
@@ -77,8 +79,9 @@ fn back_by_block(bytes: &[u8], back: Back, breaks: LineBreaks) -> (Back, bool)
     (before, true)
 }
 
-/// Goes back from the byte `end` over `skip` breaks, and on to the one before them, at whose last character it ends; or to the start.
-/// Answers whether it came to that break. Inlined: a set that is known leaves no test for it in the loop.
+/// Goes back from the byte `end` over `skip` breaks, and on to the one before them, at whose last
+/// character it ends; or to the start. Answers whether it came to that break. Inlined: a set that
+/// is known leaves no test for it in the loop.
 #[inline(always)]
 pub(crate) fn back_to_break(
     bytes: &[u8],
@@ -90,7 +93,8 @@ pub(crate) fn back_to_break(
     ensures goes { GoesBack breaks bytes.now (back_from end skip) result.0 result.1 }
     ensures start { result.1 ≡ false → result.0.at ≡ 0 }
 {
-    // The break at the line's end is one byte nearly always; and a block is read two bytes past its end.
+    // The break at the line's end is one byte nearly always; and a block is read two bytes past its
+    // end.
     let near = end.saturating_sub(1).min(bytes.len().saturating_sub(2));
     let start = Back {
         at: end,

@@ -1,5 +1,5 @@
-//! Places where the bytes of a text may be cut: inside no character, and not between CR and LF. No call takes
-//! memory.
+//! Places where the bytes of a text may be cut: inside no character, and not between CR and LF. No
+//! call takes memory.
 //!
 //! Of the bytes of `"a\r\nb"`, the places 0, 1, 3 and 4 may be cut, and 2 may not.
 #![tactic(auto, using(crate::proofs::CutFacts::boundary_of_cut))]
@@ -8,7 +8,8 @@ ghost use Rattle.std.specs.Prelude.{◌≡◌, ℕ, ◌-◌, ◌<◌, ◌≤◌,
 ghost use Rattle.std.specs.Str.{IsUtf8, IsCharBoundary};
 ghost use Rattle.rope_text.specs.Cuts.{is_cut, distance};
 
-/// Whether a text may be cut into `left` and `right`, neither of which is empty. Reads two bytes; takes no memory.
+/// Whether a text may be cut into `left` and `right`, neither of which is empty. Reads two bytes;
+/// takes no memory.
 pub fn seam_is_break(left: &[u8], right: &[u8]) -> bool
     requires left { 0 < length left.now }
     requires right { 0 < length right.now }
@@ -18,8 +19,8 @@ pub fn seam_is_break(left: &[u8], right: &[u8]) -> bool
     (y < 0x80 || y >= 0xC0) && (x != b'\r' || y != b'\n')
 }
 
-/// Whether the text may be cut before the byte `at`, which is at most its length. Either end may be cut. Reads the
-/// bytes around the place; takes no memory.
+/// Whether the text may be cut before the byte `at`, which is at most its length. Either end may be
+/// cut. Reads the bytes around the place; takes no memory.
 pub fn is_break(at: usize, text: &[u8]) -> bool
     requires { at ≤ length text.now }
     ensures value { result ≡ is_cut text.now at }
@@ -27,8 +28,8 @@ pub fn is_break(at: usize, text: &[u8]) -> bool
     at == 0 || at == text.len() || seam_is_break(&text[..at], &text[at..])
 }
 
-/// The last place before the byte `at` where the text may be cut, or 0 where `at` is 0. `at` is at most the length.
-/// Reads the bytes around the place; takes no memory.
+/// The last place before the byte `at` where the text may be cut, or 0 where `at` is 0. `at` is at
+/// most the length. Reads the bytes around the place; takes no memory.
 pub fn prev_break(at: usize, text: &[u8]) -> usize
     requires { at ≤ length text.now }
     ensures boundary { IsUtf8 text.now → IsCharBoundary text.now result }
@@ -47,8 +48,8 @@ pub fn prev_break(at: usize, text: &[u8]) -> usize
     i
 }
 
-/// The first place after the byte `at` where the text may be cut, or the end where `at` is the end. `at` is at most
-/// the length. Reads the bytes around the place; takes no memory.
+/// The first place after the byte `at` where the text may be cut, or the end where `at` is the end.
+/// `at` is at most the length. Reads the bytes around the place; takes no memory.
 pub fn next_break(at: usize, text: &[u8]) -> usize
     requires { at ≤ length text.now }
     ensures boundary { IsUtf8 text.now → IsCharBoundary text.now result }
@@ -69,9 +70,9 @@ pub fn next_break(at: usize, text: &[u8]) -> usize
     i
 }
 
-/// The place inside the text, nearest to the byte `at`, where it may be cut, the later one of two that are as near;
-/// the end, where there is no such place inside. `at` is at most the length. Reads the bytes around the place;
-/// takes no memory.
+/// The place inside the text, nearest to the byte `at`, where it may be cut, the later one of two
+/// that are as near; the end, where there is no such place inside. `at` is at most the length.
+/// Reads the bytes around the place; takes no memory.
 pub fn nearest_internal_break(at: usize, text: &[u8]) -> usize
     requires { at ≤ length text.now }
     ensures boundary { IsUtf8 text.now → IsCharBoundary text.now result }
@@ -99,9 +100,10 @@ pub fn nearest_internal_break(at: usize, text: &[u8]) -> usize
     right
 }
 
-/// The place `at` itself, where it may be cut; else the nearest such place before it, if `bias_left`, or after it. Where none inside
-/// the text lies on that side, it is the nearest on the other side, which may be an end of the text. `at` is at most the length.
-/// Reads the bytes around the place; takes no memory.
+/// The place `at` itself, where it may be cut; else the nearest such place before it, if
+/// `bias_left`, or after it. Where none inside the text lies on that side, it is the nearest on the
+/// other side, which may be an end of the text. `at` is at most the length. Reads the bytes around
+/// the place; takes no memory.
 pub fn find_good_split(at: usize, text: &[u8], bias_left: bool) -> usize
     requires { at ≤ length text.now }
     ensures boundary { IsUtf8 text.now → IsCharBoundary text.now result }

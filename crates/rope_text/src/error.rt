@@ -1,7 +1,7 @@
 //! Why calls are refused.
 //!
-//! `Error::CharIndexOutOfBounds(8, 5)` prints `Char index out of bounds: char index 8, Rope/RopeSlice char length
-//! 5`.
+//! `Error::CharIndexOutOfBounds(8, 5)` prints `Char index out of bounds: char index 8,
+//! Rope/RopeSlice char length 5`.
 ghost use Rattle.std.specs.Prelude.{◌≡◌, Some};
 ghost use Rattle.rope_text.specs.declared.error.Error.TheVariants.{OutOfMemory};
 ghost use Rattle.rope_text.specs.ErrorText.{error_text, range_text};

@@ -1,8 +1,8 @@
-//! Counts over the bytes of a text, 32 bytes at once; over runs of blocks of 64 bytes, what each block counts is added up in 16
-//! lanes, and the lanes are summed once a run.
+//! Counts over the bytes of a text, 32 bytes at once; over runs of blocks of 64 bytes, what each
+//! block counts is added up in 16 lanes, and the lanes are summed once a run.
 //!
-//! Most functions take what they count as an argument, which is a constant at nearly all calls: where the compiler expands such a
-//! call, it keeps the code for that mark alone.
+//! Most functions take what they count as an argument, which is a constant at nearly all calls:
+//! where the compiler expands such a call, it keeps the code for that mark alone.
 #![tactic(auto, using(crate::proofs::Blocks::begins_le, crate::proofs::Blocks::pairs_le, crate::proofs::Blocks::byte_break_count_le, crate::proofs::Blocks::marks_le))]
 
 ghost use Rattle.std.specs.Prelude.{◌≡◌, ◌+◌, ◌-◌, ◌*◌, ◌<◌, ◌≤◌, length, cond, count_by, drop, List, ℕ, take};
@@ -39,8 +39,8 @@ pub(crate) fn ahead(mark: Mark) -> usize
     }
 }
 
-// 1 in each lane of `x` where a mark begins, else 0; of the breaks the ASCII ones alone. The lanes of `y` are the bytes
-// behind those of `x`.
+// 1 in each lane of `x` where a mark begins, else 0; of the breaks the ASCII ones alone. The lanes
+// of `y` are the bytes behind those of `x`.
 fn ones<const N: usize>(x: Simd<u8, N>, y: Simd<u8, N>, mark: Mark) -> Simd<u8, N>
     requires { N ≤ 64 }
     ensures { (ks : List ℕ) (g h : ℕ → ℕ) → length ks ≡ N → ((k : ℕ) → g k < 256)
@@ -94,8 +94,8 @@ fn ascii_mask(bytes: &[u8], at: usize, mark: Mark) -> u64
     ones(x, y, mark).simd_eq(u8x32::splat(1)).to_bitmask()
 }
 
-/// Which of the 32 bytes from `at` on begin a mark. For breaks that may take several bytes, those behind the block are read too,
-/// since one may go on there.
+/// Which of the 32 bytes from `at` on begin a mark. For breaks that may take several bytes, those
+/// behind the block are read too, since one may go on there.
 pub(crate) fn known_mask(bytes: &[u8], at: usize, mark: Mark) -> u64
     requires { (at + 32) + ahead mark ≤ length bytes.now }
     ensures { IsBlockMask mark bytes.now at result }
@@ -119,7 +119,8 @@ pub(crate) struct Masks {
     pub pairs: u64,
 }
 
-/// Which of the 32 bytes from `at` on begin a break of the set, a character, and one of two code units: of ASCII by one test more.
+/// Which of the 32 bytes from `at` on begin a break of the set, a character, and one of two code
+/// units: of ASCII by one test more.
 #[inline(always)]
 pub(crate) fn masks_of(bytes: &[u8], at: usize, breaks: LineBreaks) -> Masks
     requires { at + 34 ≤ length bytes.now }
@@ -143,7 +144,8 @@ pub(crate) fn masks_of(bytes: &[u8], at: usize, breaks: LineBreaks) -> Masks
     }
 }
 
-// Never inlined: with the masks of all three sets side by side, the compiler would put the chosen one together bit by bit.
+// Never inlined: with the masks of all three sets side by side, the compiler would put the chosen
+// one together bit by bit.
 #[inline(never)]
 fn mask_apart<const HAS_CR: bool>(bytes: &[u8], at: usize) -> u64
     requires { (at + 32) + ahead (Mark.Break (lf_or_cr_lf HAS_CR)) ≤ length bytes.now }
@@ -218,8 +220,9 @@ fn marks_byte_by_byte(bytes: &[u8], from: usize, to: usize, mark: Mark) -> usize
     total
 }
 
-/// How many marks begin from the byte `from` on and before `to`. Where they fit into one block, they are counted at once: near
-/// the end by the last block that can be read, of which what lies before `from` is left out.
+/// How many marks begin from the byte `from` on and before `to`. Where they fit into one block,
+/// they are counted at once: near the end by the last block that can be read, of which what lies
+/// before `from` is left out.
 pub(crate) fn marks_between(bytes: &[u8], from: usize, to: usize, mark: Mark) -> usize
     requires from { from ≤ to }
     requires to { to ≤ length bytes.now }
@@ -233,10 +236,12 @@ pub(crate) fn marks_between(bytes: &[u8], from: usize, to: usize, mark: Mark) ->
     marks_byte_by_byte(bytes, from, to, mark)
 }
 
-// A text of so many bytes or more is counted at four places at once: it comes from slow memory, and the four misses overlap.
+// A text of so many bytes or more is counted at four places at once: it comes from slow memory, and
+// the four misses overlap.
 const LONG_BYTES: usize = 65_536;
 
-// The first whole blocks of a long text, none of a shorter one: their end, and how many marks begin in them.
+// The first whole blocks of a long text, none of a shorter one: their end, and how many marks begin
+// in them.
 #[inline(always)]
 fn marks_in_quarters(bytes: &[u8], to: usize, mark: Mark) -> (usize, usize)
     requires { to ≤ length bytes.now - ahead mark }
@@ -259,8 +264,8 @@ fn marks_in_quarters(bytes: &[u8], to: usize, mark: Mark) -> (usize, usize)
     (4 * quarter, first + second + third + fourth)
 }
 
-// The same of breaks, for each set. It is a function of its own, since with it the caller would be too long to be expanded for
-// each set.
+// The same of breaks, for each set. It is a function of its own, since with it the caller would be
+// too long to be expanded for each set.
 fn breaks_in_quarters(bytes: &[u8], to: usize, breaks: LineBreaks) -> (usize, usize)
     requires { to ≤ length bytes.now - 2 }
     ensures bound { result.0 ≤ to }
@@ -270,7 +275,8 @@ fn breaks_in_quarters(bytes: &[u8], to: usize, breaks: LineBreaks) -> (usize, us
     known_set!(breaks => marks_in_quarters(bytes, to, Mark::Break(breaks)))
 }
 
-/// How many marks begin from the byte `from` on and before `to`. Inlined, since each caller's mark is a constant.
+/// How many marks begin from the byte `from` on and before `to`. Inlined, since each caller's mark
+/// is a constant.
 #[inline(always)]
 pub(crate) fn count_marks(bytes: &[u8], from: usize, to: usize, mark: Mark) -> usize
     requires from { from ≤ to }
@@ -319,8 +325,8 @@ fn is_multibyte_break(x: u8, y: u8, z: u8) -> bool
     (x == 0xC2 && y == 0x85) || (x == 0xE2 && y == 0x80 && (z == 0xA8 || z == 0xA9))
 }
 
-// How many NEL, LS and PS begin in the 64 bytes from `at` on, where they are breaks: their first bytes are rare, and each is
-// looked at by itself.
+// How many NEL, LS and PS begin in the 64 bytes from `at` on, where they are breaks: their first
+// bytes are rare, and each is looked at by itself.
 fn multibyte_in(bytes: &[u8], at: usize, breaks: LineBreaks) -> usize
     requires { at + 66 ≤ length bytes.now }
     ensures { result ≡ multibyte_of breaks bytes.now at 64 }
@@ -350,8 +356,8 @@ fn sum_of(lanes: u8x16) -> usize
     lanes.cast::<u16>().strict_reduce_sum() as usize
 }
 
-// The counts of a run of whole blocks from `from` on and before `to`, behind which two more bytes are read. It has one block
-// at least, if one is there.
+// The counts of a run of whole blocks from `from` on and before `to`, behind which two more bytes
+// are read. It has one block at least, if one is there.
 #[inline(always)]
 fn count_run(bytes: &[u8], from: usize, to: usize, breaks: LineBreaks) -> TextInfo
     requires from { from ≤ to }
@@ -391,8 +397,8 @@ fn count_run(bytes: &[u8], from: usize, to: usize, breaks: LineBreaks) -> TextIn
     }
 }
 
-/// The counts of whole blocks from `from` on and before `to`, behind which two more bytes are read: fewer bytes than a block are
-/// left. Inlined, so that what a caller makes no use of isn't counted.
+/// The counts of whole blocks from `from` on and before `to`, behind which two more bytes are read:
+/// fewer bytes than a block are left. Inlined, so that what a caller makes no use of isn't counted.
 #[inline(always)]
 pub(crate) fn count_blocks(bytes: &[u8], from: usize, to: usize, breaks: LineBreaks) -> TextInfo
     requires from { from ≤ to }
@@ -436,8 +442,8 @@ pub(crate) fn count_breaks_before(bytes: &[u8], to: usize, breaks: LineBreaks) -
     })
 }
 
-// What the bytes count, in blocks. Never inlined: in one function with the count of a few bytes, it would make that one's counts go
-// through memory, too, and they would have to be waited for.
+// What the bytes count, in blocks. Never inlined: in one function with the count of a few bytes, it
+// would make that one's counts go through memory, too, and they would have to be waited for.
 #[inline(never)]
 fn count_many(bytes: &[u8], breaks: LineBreaks) -> TextInfo
     ensures { AreCounts breaks bytes.now result }

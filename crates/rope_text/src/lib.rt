@@ -44,10 +44,12 @@ pub const MAX_TEXT_BYTES: usize = isize::MAX as usize;
 /// The most bytes that a leaf holds.
 pub const MAX_BYTES: usize = 984;
 
-/// The fewest bytes of a leaf that is cut off a longer text: a place that may be cut is never more than three bytes back.
+/// The fewest bytes of a leaf that is cut off a longer text: a place that may be cut is never more
+/// than three bytes back.
 pub const MIN_CUT_BYTES: usize = MAX_BYTES - 3;
 
-/// The most bytes of a text that goes into a leaf: wherever it goes, a full leaf with it in can be cut into two leaves.
+/// The most bytes of a text that goes into a leaf: wherever it goes, a full leaf with it in can be
+/// cut into two leaves.
 pub const MAX_SHORT_BYTES: usize = 981;
 
 /// The most bytes that a leaf and a text that goes into it have together.
@@ -59,11 +61,12 @@ pub const MIN_BYTES: usize = 462;
 /// The fewest bytes that two neighbouring leaves have together.
 pub const MIN_TWO_LEAVES_BYTES: usize = 492;
 
-/// A leaf of so many bytes may stand beside any other, since every leaf has at least one. Where a leaf without room is cut in two,
-/// each half has at least so many.
+/// A leaf of so many bytes may stand beside any other, since every leaf has at least one. Where a
+/// leaf without room is cut in two, each half has at least so many.
 pub const MIN_HALF_BYTES: usize = MIN_TWO_LEAVES_BYTES - 1;
 
-/// How many bytes of a device are held at once. If so many are held and no text stands at their front, they are refused.
+/// How many bytes of a device are held at once. If so many are held and no text stands at their
+/// front, they are refused.
 pub const BUFFER_BYTES: usize = 2 * MAX_BYTES;
 
 /// The most children that an inner node has.
@@ -72,9 +75,9 @@ pub const MAX_CHILDREN: usize = 24;
 /// The fewest children that an inner node has, unless it is the root.
 pub const MIN_CHILDREN: usize = 12;
 
-/// The leaves under a node that is made with others of its level: fewer than it can have, so that it has room for the other half
-/// when a leaf is cut in two, and no node on the way has to be made anew. All leaves are full then, so the first insert into each of
-/// them cuts it.
+/// The leaves under a node that is made with others of its level: fewer than it can have, so that
+/// it has room for the other half when a leaf is cut in two, and no node on the way has to be made
+/// anew. All leaves are full then, so the first insert into each of them cuts it.
 pub const FRESH_LEAVES: usize = 20;
 
 /// The same of the children of a node over nodes, which part more seldom.

@@ -1,4 +1,5 @@
-//! Ranges of indices: the six kinds of Rust. `2..5`, `2..=4` and, in a text of 5 characters, `2..` are the same.
+//! Ranges of indices: the six kinds of Rust. `2..5`, `2..=4` and, in a text of 5 characters, `2..`
+//! are the same.
 ghost use Rattle.std.specs.Prelude.{◌≡◌, ℕ, ◌-◌, ◌<◌, None, Some, Option, MatchOption, Ok, Err};
 ghost use Rattle.std.specs.Range.{range_inclusive_start, range_inclusive_end};
 ghost use Rattle.rope_text.specs.Range.{excluded_end};
@@ -17,8 +18,8 @@ pub trait IndexRange: Drop {
     fn start(&self) -> Option<usize>
         ensures { result ≡ given_start self.now };
 
-    /// The index past the last, or `None` where the range has no end. An inclusive end is one more than what is
-    /// given, and `usize::MAX` at most. Takes constant time and no memory.
+    /// The index past the last, or `None` where the range has no end. An inclusive end is one more
+    /// than what is given, and `usize::MAX` at most. Takes constant time and no memory.
     fn end(&self) -> Option<usize>
         ensures { result ≡ given_end self.now };
 }
@@ -111,8 +112,8 @@ impl IndexRange for RangeToInclusive<usize> {
 ///
 /// # Errors
 ///
-/// First `CharRangeOutOfBounds`, with the bounds and the number of characters, where a bound is past `len`; then
-/// `CharRangeInvalid`, where the start is past the end.
+/// First `CharRangeOutOfBounds`, with the bounds and the number of characters, where a bound is
+/// past `len`; then `CharRangeInvalid`, where the start is past the end.
 pub fn char_bounds<R: IndexRange>(range: &R, len: usize) -> Result<(usize, usize)>
     ensures { MatchOption (char_range_error (R.given_start range.now) (R.given_end range.now) len)
         (result ≡ Ok (range_start (R.given_start range.now), range_end (R.given_end range.now) len))

@@ -1,6 +1,6 @@
-//! Searches for places in the bytes of a text: whole blocks of 32 bytes are counted until the one that holds
-//! the place, and that one is halved. What is left behind the last block is gone through byte by byte.
-//! A place that isn't there is the end.
+//! Searches for places in the bytes of a text: whole blocks of 32 bytes are counted until the one
+//! that holds the place, and that one is halved. What is left behind the last block is gone through
+//! byte by byte. A place that isn't there is the end.
 //!
 //! The first line break of a text is found with what the text before it counts, in one pass.
 #![tactic(auto, using(crate::proofs::Blocks::begins_le, crate::proofs::Blocks::pairs_le, crate::proofs::Blocks::byte_break_count_le))]
@@ -53,7 +53,8 @@ pub(crate) fn find_from(bytes: &[u8], from: usize, n: usize, mark: Mark) -> usiz
     find(bytes, at, left, mark)
 }
 
-/// The blocks before the character `n`, two at a time: their end, and which character it is from there on.
+/// The blocks before the character `n`, two at a time: their end, and which character it is from
+/// there on.
 pub(crate) fn skip_chars(bytes: &[u8], n: usize) -> (usize, usize)
     ensures { IsPassed Mark.Char bytes.now n result.0 result.1 }
 {
@@ -69,8 +70,8 @@ pub(crate) fn skip_chars(bytes: &[u8], n: usize) -> (usize, usize)
     (at, left)
 }
 
-/// The same from the end, where it is known how many characters there are: the last two blocks that begin at or before the
-/// character `n`, or the start, and which character it is from there on.
+/// The same from the end, where it is known how many characters there are: the last two blocks that
+/// begin at or before the character `n`, or the start, and which character it is from there on.
 pub(crate) fn skip_chars_back(bytes: &[u8], n: usize, chars: usize) -> (usize, usize)
     requires within { n ≤ chars }
     requires chars { chars ≡ count_by begins_char bytes.now }
@@ -89,8 +90,8 @@ pub(crate) fn skip_chars_back(bytes: &[u8], n: usize, chars: usize) -> (usize, u
     (0, n)
 }
 
-/// The same of breaks, by single blocks. The bytes at the end that only say which breaks begin before
-/// them are counted by themselves, since no block is read there.
+/// The same of breaks, by single blocks. The bytes at the end that only say which breaks begin
+/// before them are counted by themselves, since no block is read there.
 pub(crate) fn skip_breaks_back(
     bytes: &[u8],
     n: usize,
@@ -119,7 +120,8 @@ pub(crate) fn skip_breaks_back(
     (0, n)
 }
 
-/// The byte at which the character begins that holds the code unit `n`, counted from the byte `from` on, byte by byte.
+/// The byte at which the character begins that holds the code unit `n`, counted from the byte
+/// `from` on, byte by byte.
 pub(crate) fn find_unit(bytes: &[u8], from: usize, n: usize) -> usize
     requires { from ≤ length bytes.now }
     ensures { IsUnitPlaceOf bytes.now from n result }
@@ -137,7 +139,8 @@ pub(crate) fn find_unit(bytes: &[u8], from: usize, n: usize) -> usize
     bytes.len()
 }
 
-/// The byte at which the character `n` begins, and how many breaks begin before it. Inlined, since each caller's set is a constant.
+/// The byte at which the character `n` begins, and how many breaks begin before it. Inlined, since
+/// each caller's set is a constant.
 #[inline(always)]
 pub(crate) fn line_of_char(bytes: &[u8], n: usize, breaks: LineBreaks) -> (usize, usize)
     ensures place { IsPlaceOf Mark.Char bytes.now 0 n result.0 }
@@ -159,7 +162,8 @@ pub(crate) fn line_of_char(bytes: &[u8], n: usize, breaks: LineBreaks) -> (usize
     (to, break_count + more)
 }
 
-/// The whole blocks before some break: their end and their characters, and which break it is from there on.
+/// The whole blocks before some break: their end and their characters, and which break it is from
+/// there on.
 #[derive(Clone, Copy)]
 struct Blocks {
     end: usize,
@@ -215,8 +219,8 @@ pub(crate) fn width_of(byte: u8) -> usize
     }
 }
 
-/// The bytes and the characters before the line `line_idx`, or all of them where no line has that number. Inlined, so that what a
-/// caller makes no use of isn't counted.
+/// The bytes and the characters before the line `line_idx`, or all of them where no line has that
+/// number. Inlined, so that what a caller makes no use of isn't counted.
 #[inline(always)]
 pub(crate) fn front_of_line(text: &str, line_idx: usize, breaks: LineBreaks) -> (usize, usize)
     ensures bytes { result.0 ≡ line_to_byte breaks (chars text.now) line_idx }
@@ -236,7 +240,8 @@ pub(crate) fn front_of_line(text: &str, line_idx: usize, breaks: LineBreaks) -> 
 }
 
 /// The bytes before a place, with no line break among them, and what they count.
-// In this order: with the two counts side by side, the compiler would add them up in one vector register, which takes longer.
+// In this order: with the two counts side by side, the compiler would add them up in one vector
+// register, which takes longer.
 #[derive(Clone, Copy)]
 pub(crate) struct Front {
     pub chars: usize,
@@ -244,8 +249,8 @@ pub(crate) struct Front {
     pub pairs: usize,
 }
 
-// Goes on from a place near the end to the next break, or to the end of the last block that can be read; a place behind that end
-// stays.
+// Goes on from a place near the end to the next break, or to the end of the last block that can be
+// read; a place behind that end stays.
 fn go_in_last_block(bytes: &[u8], from: Front, breaks: LineBreaks) -> Front
     requires near { length bytes.now ≤ from.at + 34 }
     requires front { IsFront breaks bytes.now from.chars from.at from.pairs }
@@ -267,8 +272,8 @@ fn go_in_last_block(bytes: &[u8], from: Front, breaks: LineBreaks) -> Front
     }
 }
 
-// The same to the next break or to the end of the bytes. Never inlined: it is needed once a chunk, and would only make its
-// callers longer.
+// The same to the next break or to the end of the bytes. Never inlined: it is needed once a chunk,
+// and would only make its callers longer.
 #[inline(never)]
 fn go_to_end(bytes: &[u8], from: Front, breaks: LineBreaks) -> Front
     requires near { length bytes.now ≤ from.at + 34 }
@@ -286,8 +291,9 @@ fn go_to_end(bytes: &[u8], from: Front, breaks: LineBreaks) -> Front
     Front { chars, at, pairs }
 }
 
-/// The bytes before the one at which the last character of the first line break begins, or all, and what they count: a block at a
-/// time. A set that is known where this is called leaves no test for it in the loop.
+/// The bytes before the one at which the last character of the first line break begins, or all, and
+/// what they count: a block at a time. A set that is known where this is called leaves no test for
+/// it in the loop.
 #[inline(always)]
 pub(crate) fn to_first_break(bytes: &[u8], breaks: LineBreaks) -> Front
     ensures front { IsFront breaks bytes.now result.chars result.at result.pairs }

@@ -1,7 +1,9 @@
-//! Counts of what a call did in a tree. After a look-up in a rope of one chunk, `nodes` is 1 and `compares` is 0.
+//! Counts of what a call did in a tree. After a look-up in a rope of one chunk, `nodes` is 1 and
+//! `compares` is 0.
 ghost use Rattle.std.specs.Prelude.{◌≡◌};
 
-/// What a counted call did: the nodes that it entered, the totals that it compared, the nodes that it made.
+/// What a counted call did: the nodes that it entered, the totals that it compared, the nodes that
+/// it made.
 #[derive(Clone, Copy, Debug, Default, PartialEq, Eq)]
 pub struct Steps {
     /// The nodes that were entered.

@@ -1,6 +1,7 @@
 //! The counts of a text: bytes, characters, surrogate pairs and line breaks.
 //!
-//! Of `"é\r\n"`, with a set that has CR, they are 4 bytes, 3 characters, no surrogate pair and 1 line break.
+//! Of `"é\r\n"`, with a set that has CR, they are 4 bytes, 3 characters, no surrogate pair and 1
+//! line break.
 ghost use Rattle.std.specs.Prelude.{◌≡◌, ◌+◌, ◌<◌, ◌≤◌, ◌^◌, [], ◌++◌, false, length, take, List, ℕ};
 ghost use Rattle.std.specs.Str.{chars};
 ghost use Rattle.rope_text.specs.Breaks.{break_count};
@@ -19,7 +20,8 @@ use crate::str_utils::{
 };
 use crate::{LineBreaks, known_set};
 
-/// How many bytes, characters, surrogate pairs in UTF-16 and line breaks a text has. Copying it takes no memory.
+/// How many bytes, characters, surrogate pairs in UTF-16 and line breaks a text has. Copying it
+/// takes no memory.
 #[derive(Clone, Copy, Debug, Default, PartialEq, Eq)]
 pub struct TextInfo {
     /// The characters.
@@ -58,15 +60,16 @@ impl TextInfo {
         count_all(text.as_bytes(), breaks)
     }
 
-    /// The counts of a text up to the end of its first line break of the set, or of all of it. Reads the text once, up
-    /// to there; takes no memory.
+    /// The counts of a text up to the end of its first line break of the set, or of all of it.
+    /// Reads the text once, up to there; takes no memory.
     // Inlined: a call would store the counts and load them again.
     #[inline(always)]
     pub fn of_first_line(text: &str, breaks: LineBreaks) -> TextInfo
         ensures { result ≡ info_of breaks (first_line breaks (chars text.now)) }
     {
         let bytes = text.as_bytes();
-        // Each set has a loop of its own, since marks that come from one of three places are slow to put together.
+        // Each set has a loop of its own, since marks that come from one of three places are slow
+        // to put together.
         let front = known_set!(breaks => to_first_break(bytes, breaks));
         let mut line = TextInfo {
             bytes: front.at,
@@ -82,9 +85,9 @@ impl TextInfo {
         line
     }
 
-    /// Of the text before the byte `end`, where its last line starts, or the line `skip` line breaks before it: that byte, and
-    /// the counts from there up to `end`. `end` lies in no character and no CR LF. Reads the text once, from `end` back to there;
-    /// takes no memory.
+    /// Of the text before the byte `end`, where its last line starts, or the line `skip` line
+    /// breaks before it: that byte, and the counts from there up to `end`. `end` lies in no
+    /// character and no CR LF. Reads the text once, from `end` back to there; takes no memory.
     // Inlined: a call would store the counts and load them again.
     #[inline(always)]
     pub fn of_last_line(
@@ -116,9 +119,10 @@ impl TextInfo {
         (start, line)
     }
 
-    /// The counts of the text before the line `line_idx`, which is not the first, by the line breaks of the set, of a text whose
-    /// counts are known. Reads the side of that line that has fewer line breaks, and counts no characters where there are as many of
-    /// them as bytes; takes no memory.
+    /// The counts of the text before the line `line_idx`, which is not the first, by the line
+    /// breaks of the set, of a text whose counts are known. Reads the side of that line that has
+    /// fewer line breaks, and counts no characters where there are as many of them as bytes; takes
+    /// no memory.
     pub fn before_line(text: &str, info: TextInfo, line_idx: usize, breaks: LineBreaks) -> TextInfo
         requires later { 0 < line_idx }
         requires within { line_idx ≤ break_count breaks (chars text.now) }
@@ -140,8 +144,9 @@ impl TextInfo {
         front
     }
 
-    /// The counts of the text before a character, by itself: of a text whose counts are known, and the byte at which that character
-    /// begins. Reads the shorter of the two sides, or the front where the place lies in a CR LF; takes no memory.
+    /// The counts of the text before a character, by itself: of a text whose counts are known, and
+    /// the byte at which that character begins. Reads the shorter of the two sides, or the front
+    /// where the place lies in a CR LF; takes no memory.
     pub fn of_front(
         text: &str,
         info: TextInfo,
@@ -166,8 +171,8 @@ impl TextInfo {
         }
     }
 
-    /// The sums: the counts of two texts joined, unless CR meets LF there, which makes one line break less. Each
-    /// sum is below 2^64. Takes constant time and no memory.
+    /// The sums: the counts of two texts joined, unless CR meets LF there, which makes one line
+    /// break less. Each sum is below 2^64. Takes constant time and no memory.
     pub fn plus(self, other: TextInfo) -> TextInfo
         requires { HasSum self other }
         ensures sum { result ≡ info_sum self other }
@@ -183,8 +188,8 @@ impl TextInfo {
         }
     }
 
-    /// The differences: the counts of what follows a front, unless CR meets LF there. No count of the front is
-    /// greater than the text's. Takes constant time and no memory.
+    /// The differences: the counts of what follows a front, unless CR meets LF there. No count of
+    /// the front is greater than the text's. Takes constant time and no memory.
     pub fn minus(self, front: TextInfo) -> TextInfo
         requires { HasPart self front }
         ensures sum { info_sum front result ≡ self }

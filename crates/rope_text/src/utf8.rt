@@ -28,8 +28,8 @@ use std::simd::prelude::*;
 //    64  above the last character
 //   128  two continuations, which are right behind the first byte of three or four
 //
-// Each table has the faults that half a byte leaves possible, and a fault is there if all three have
-// it. Byte shuffles work on 16 lanes, so each table is written twice.
+// Each table has the faults that half a byte leaves possible, and a fault is there if all three
+// have it. Byte shuffles work on 16 lanes, so each table is written twice.
 const BY_FIRST_HIGH: [u8; 32] = [
     2, 2, 2, 2, 2, 2, 2, 2, 128, 128, 128, 128, 5, 1, 25, 97, 2, 2, 2, 2, 2, 2, 2, 2, 128, 128,
     128, 128, 5, 1, 25, 97,
@@ -56,9 +56,9 @@ fn look_up(table: u8x32, places: u8x32) -> u8x32
     table.swizzle_dyn_within::<16>(places)
 }
 
-// Whether in some lane the byte of `b` can't follow those of `x`, `y` and `z`, which stand before it
-// in this order. Where `x` or `y` begins a character that is not yet at its end, `b` and `z` have to
-// be two continuations.
+// Whether in some lane the byte of `b` can't follow those of `x`, `y` and `z`, which stand before
+// it in this order. Where `x` or `y` begins a character that is not yet at its end, `b` and `z`
+// have to be two continuations.
 #[inline(always)]
 fn has_fault(x: u8x32, y: u8x32, z: u8x32, b: u8x32) -> bool
     ensures { (ks : List ℕ) (f g h i : ℕ → ℕ) → length ks ≡ 32

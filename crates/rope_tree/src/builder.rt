@@ -136,7 +136,8 @@ fn cut_leaves(
     Ok(())
 }
 
-/// Builds a tree of texts that are passed in one after the other. It is seen as the text so far and the set of line breaks.
+/// Builds a tree of texts that are passed in one after the other. It is seen as the text so far and
+/// the set of line breaks.
 #[derive(Drop)]
 pub struct Builder {
     alloc: Global,

@@ -86,7 +86,8 @@ impl Summary {
     }
 }
 
-/// A text of at most `MAX_BYTES` bytes, its counts and its set of line breaks. It is seen as the tree that is a leaf.
+/// A text of at most `MAX_BYTES` bytes, its counts and its set of line breaks. It is seen as the
+/// tree that is a leaf.
 #[derive(Drop)]
 pub(crate) struct Leaf {
     summary: Summary,
@@ -129,7 +130,8 @@ impl Leaf {
             summary: Summary::new(LineBreaks::Lf, TextInfo::new()),
             text: NodeText::new(),
         };
-        // Matched by hand: `?` would move the leaf that a refusal gives back on the path that succeeds, too.
+        // Matched by hand: `?` would move the leaf that a refusal gives back on the path that
+        // succeeds, too.
         let Ok(mut leaf) = Rc::new(alloc, empty) else {
             return Err(AllocError);
         };

@@ -5,10 +5,10 @@
 //! one row, and misses on two cache lines at most. Trees share nodes, whose owners are counted; a
 //! node with more than one is copied before it is changed.
 //!
-//! Any two neighbouring leaves have 492 bytes or more together, so that the memory of a tree follows
-//! its text. An insert needn't look after that: a full leaf is cut into two of 491 bytes or more, and
-//! any neighbour has one. A removal compares with the neighbours' lengths, which the totals tell. No
-//! leaf is merged with another but by a join, so that an edit changes one leaf.
+//! Any two neighbouring leaves have 492 bytes or more together, so that the memory of a tree
+//! follows its text. An insert needn't look after that: a full leaf is cut into two of 491 bytes or
+//! more, and any neighbour has one. A removal compares with the neighbours' lengths, which the
+//! totals tell. No leaf is merged with another but by a join, so that an edit changes one leaf.
 //!
 //! No CR LF lies in two leaves. So each leaf's line breaks are counted without its neighbours, and
 //! the totals are sums.

@@ -21,8 +21,8 @@ pub struct Found<'a> {
     pub before: TextInfo,
 }
 
-/// The leaf that holds the place `at`. It takes no memory, enters each node on the way once, and compares at most five
-/// totals in each inner one.
+/// The leaf that holds the place `at`. It takes no memory, enters each node on the way once, and
+/// compares at most five totals in each inner one.
 #[inline(always)]
 pub fn leaf_at<'a>(node: &'a Node, unit: Unit, at: usize, steps: &mut Steps) -> Found<'a>
     requires within { at < count_of unit (info_of node.now.breaks (text node.now)) }

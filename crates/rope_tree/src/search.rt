@@ -101,9 +101,9 @@ fn shift_wide(totals: &mut [TextInfo], from: usize, old: TextInfo, new: TextInfo
     }
 }
 
-/// The same counts, in a place of their own. A call takes counts by their address: were those that an
-/// edit has just stored in words passed on as they are, the narrow path would load them as vectors,
-/// and stall.
+/// The same counts, in a place of their own. A call takes counts by their address: were those that
+/// an edit has just stored in words passed on as they are, the narrow path would load them as
+/// vectors, and stall.
 #[inline(always)]
 fn copied(info: TextInfo) -> TextInfo
     ensures { result ≡ info }

@@ -28,12 +28,14 @@ pub fn is_lf(node: &Node, at: usize) -> bool
 
 /// Puts a text of 1 to 981 bytes before the character `at`, by the first of three ways that can:
 ///
-/// 1. Where the nodes stand, if the leaf has room, or can be cut into two, since the list that it is
-///    in has room for one more. It takes memory for copies of shared nodes, and for a second leaf.
+/// 1. Where the nodes stand, if the leaf has room, or can be cut into two, since the list that it
+///    is in has room for one more. It takes memory for copies of shared nodes, and for a second
+///    leaf.
 /// 2. By a second descent (`Node::insert_parting`), if that list is full, but one above it isn't:
 ///    each full list below that one becomes two new ones.
-/// 3. Else, as where all lists up to the root are full, by a new tree, which shares the nodes off the
-///    way. It takes the old one's place last of all, so that a refusal leaves the tree as it was.
+/// 3. Else, as where all lists up to the root are full, by a new tree, which shares the nodes off
+///    the way. It takes the old one's place last of all, so that a refusal leaves the tree as it
+///    was.
 pub fn insert_at(maker: &mut Maker, root: &mut Node, at: usize, added: &str) -> Made<()>
     requires within { at ≤ length (text root.old) }
     requires some { 1 ≤ length added.now }

@@ -1,6 +1,7 @@
 //! Ropes compared and hashed by their texts, however they are cut. No call takes memory.
 //!
-//! A rope of `"ab"` made at once equals one made of `"a"` and then `"b"`, and comes before one of `"b"`.
+//! A rope of `"ab"` made at once equals one made of `"a"` and then `"b"`, and comes before one of
+//! `"b"`.
 ghost use Rattle.std.proofs.Common.{rules};
 ghost use Rattle.std.specs.Cmp.Rules.{comparing};
 ghost use Rattle.std.specs.Ordering.{on};
@@ -23,8 +24,8 @@ impl Rope {
     }
 }
 
-/// Ropes are equal exactly if their texts are, however they are cut and whatever their sets of line breaks. Reads
-/// both texts up to where they differ.
+/// Ropes are equal exactly if their texts are, however they are cut and whatever their sets of line
+/// breaks. Reads both texts up to where they differ.
 impl PartialEq for Rope {
     ghost use Rattle.std.specs.Prelude.{◌==◌};
     ghost use lib.Pointwise.{pointwise};
@@ -43,8 +44,8 @@ impl Eq for Rope {
     ghost laws = { Prim.search (comparing, rules) };
 }
 
-/// The lexicographic order of the bytes of the texts, however they are cut. Reads both texts up to where they
-/// differ.
+/// The lexicographic order of the bytes of the texts, however they are cut. Reads both texts up to
+/// where they differ.
 impl Ord for Rope {
     ghost cmp = { on text_of text_cmp };
 
@@ -73,8 +74,8 @@ impl PartialOrd for Rope {
     }
 }
 
-/// A hasher is given the bytes of the text in blocks of 256, the last one shorter where need be, and then 0xff,
-/// however the rope is cut.
+/// A hasher is given the bytes of the text in blocks of 256, the last one shorter where need be,
+/// and then 0xff, however the rope is cut.
 impl Hash for Rope {
     ghost use Rattle.std.specs.Cmp.Rules.{hashing};
     ghost use Rattle.ropey.specs.Compared.{writes_of};

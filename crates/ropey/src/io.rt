@@ -1,10 +1,11 @@
 //! Ropes read from readers and written to writers.
 //!
-//! `Rope::from_reader(alloc, b"one\n".as_slice())` returns a rope of `"one\n"`, and `write_to(&mut bytes)` writes
-//! it into a vector.
+//! `Rope::from_reader(alloc, b"one\n".as_slice())` returns a rope of `"one\n"`, and `write_to(&mut
+//! bytes)` writes it into a vector.
 //!
-//! A reader or a writer may be handed over, or lent as a `Source` or a `Sink`, which marks its failures: then it
-//! can be asked afterwards whether it was the device that failed. `Watched` makes one of any reader or writer.
+//! A reader or a writer may be handed over, or lent as a `Source` or a `Sink`, which marks its
+//! failures: then it can be asked afterwards whether it was the device that failed. `Watched` makes
+//! one of any reader or writer.
 ghost use Rattle.std.specs.Prelude.{◌≡◌, ℕ, List, Bool, Option, true, ◌↔◌, OnOk, IfOk, IsErr};
 ghost use Rattle.std.specs.Io.KnownBytes.{Appends};
 ghost use Rattle.std.specs.Str.{encode_utf8_all};
@@ -26,14 +27,16 @@ use std::alloc::Global;
 use std::io::{self, Read, Write};
 
 impl Rope {
-    /// A rope of the text that a reader gives up to its end, read as UTF-8, with Unicode's line breaks, in at most
-    /// (n + 980) / 981 chunks for n bytes. Takes time and memory in proportion to the text.
+    /// A rope of the text that a reader gives up to its end, read as UTF-8, with Unicode's line
+    /// breaks, in at most (n + 980) / 981 chunks for n bytes. Takes time and memory in proportion
+    /// to the text.
     ///
     /// # Errors
     ///
-    /// `Read`, with the reader's error, at once where a read fails, an interrupted one too. `InvalidData`, where
-    /// bytes are no UTF-8: at the end of the input, or once 1,968 bytes have been read from the first one that is
-    /// not. `Rope(TooLong)`, where the text so far has more than `isize::MAX` bytes, and `Rope(OutOfMemory)`.
+    /// `Read`, with the reader's error, at once where a read fails, an interrupted one too.
+    /// `InvalidData`, where bytes are no UTF-8: at the end of the input, or once 1,968 bytes have
+    /// been read from the first one that is not. `Rope(TooLong)`, where the text so far has more
+    /// than `isize::MAX` bytes, and `Rope(OutOfMemory)`.
     pub fn from_reader<T: Read + Drop>(alloc: Global, reader: T) -> ReadResult<Rope>
         ensures answer { (left : Option (List ℕ)) × (failed : Bool)
             × Reads text_of (T.remaining reader) left failed result }
@@ -47,9 +50,9 @@ impl Rope {
     ///
     /// # Errors
     ///
-    /// `Read`, `InvalidData` and `Rope`, as for `from_reader`; the mark is set afterwards exactly where the answer
-    /// is `Read`. Then one read has failed, with the kind of the error that is returned, and the source was not
-    /// called again.
+    /// `Read`, `InvalidData` and `Rope`, as for `from_reader`; the mark is set afterwards exactly
+    /// where the answer is `Read`. Then one read has failed, with the kind of the error that is
+    /// returned, and the source was not called again.
     pub fn from_watched<S: Source>(alloc: Global, source: &mut S) -> ReadResult<Rope>
         // The bytes that were given decide the answer,
         ensures answer { Reads text_of (S.remaining source.old) (S.remaining source.new)
@@ -87,9 +90,9 @@ impl Rope {
     ///
     /// # Errors
     ///
-    /// `Read`, `InvalidData` and `Rope`, as for `from_reader`; the mark is set afterwards exactly where the answer
-    /// is `Read`. Then one read has failed, with the kind of the error that is returned, and the source was not
-    /// called again.
+    /// `Read`, `InvalidData` and `Rope`, as for `from_reader`; the mark is set afterwards exactly
+    /// where the answer is `Read`. Then one read has failed, with the kind of the error that is
+    /// returned, and the source was not called again.
     pub fn from_watched_with<S: Source>(
         alloc: Global,
         source: &mut S,
@@ -107,12 +110,13 @@ impl Rope {
         Ok(Rope { root, alloc })
     }
 
-    /// Writes the whole text as UTF-8, chunk by chunk, and does not flush. Takes no memory of its own.
+    /// Writes the whole text as UTF-8, chunk by chunk, and does not flush. Takes no memory of its
+    /// own.
     ///
     /// # Errors
     ///
-    /// A write's error, at once, an interrupted one too; of the kind `WriteZero` where the writer takes none of the
-    /// bytes that it is given. Then a beginning of the text has been written.
+    /// A write's error, at once, an interrupted one too; of the kind `WriteZero` where the writer
+    /// takes none of the bytes that it is given. Then a beginning of the text has been written.
     pub fn write_to<T: Write + Drop>(&self, writer: T) -> io::Result<()> {
         self.write_watched(&mut Watched::new(writer))
     }
@@ -121,10 +125,10 @@ impl Rope {
     ///
     /// # Errors
     ///
-    /// A write's error, at once, an interrupted one too; of the kind `WriteZero` where the writer takes none of the
-    /// bytes that it is given. Then a beginning of the text has been written. The mark is set afterwards exactly
-    /// where an error is returned; then one write has failed, with that error's kind, and the sink was not called
-    /// again.
+    /// A write's error, at once, an interrupted one too; of the kind `WriteZero` where the writer
+    /// takes none of the bytes that it is given. Then a beginning of the text has been written. The
+    /// mark is set afterwards exactly where an error is returned; then one write has failed, with
+    /// that error's kind, and the sink was not called again.
     pub fn write_watched<S: Sink>(&self, sink: &mut S) -> io::Result<()>
         ensures ok { OnOk result
             (Appends (S.contents sink.old) (S.contents sink.new) (encode_utf8_all self.now.text)) }

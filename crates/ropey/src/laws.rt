@@ -7,8 +7,9 @@ ghost use Rattle.ropey.specs.View.{RopeView};
 use crate::rope::Rope;
 use std::hash::Hash;
 
-/// It does nothing; its contract is the law. Two ropes are equal exactly if their texts are, however they are cut; their
-/// order is total, and only equal ropes tie; equal ropes hand any hasher the same writes.
+/// It does nothing; its contract is the law. Two ropes are equal exactly if their texts are,
+/// however they are cut; their order is total, and only equal ropes tie; equal ropes hand any
+/// hasher the same writes.
 pub fn texts_are_compared()
     ensures equal { (a b : RopeView) → (IsTrue (⟦<Rope as PartialEq>⟧.eq a b) ↔ (a.text ≡ b.text)) }
     ensures total { IsTotalOrder ⟦<Rope as Ord>⟧.cmp }

@@ -1,17 +1,18 @@
-//! Bytes, characters and chunks of a rope by their index, and conversions between indices of bytes, characters, UTF-16
-//! code units and lines, all counted from 0.
+//! Bytes, characters and chunks of a rope by their index, and conversions between indices of bytes,
+//! characters, UTF-16 code units and lines, all counted from 0.
 //!
-//! Of `"héllo"`, `byte(1)` is 0xC3 and `char(1)` is `é`. For the text `"é\r\nx"` with Unicode's line breaks,
-//! `byte_to_char(1)` is 0, since byte 1 lies inside the `é`; `char_to_byte(1)` is 2; `char_to_line(2)` is 0, since the
-//! place between CR and LF lies on the first line; `line_to_char(1)` is 3.
+//! Of `"héllo"`, `byte(1)` is 0xC3 and `char(1)` is `é`. For the text `"é\r\nx"` with Unicode's
+//! line breaks, `byte_to_char(1)` is 0, since byte 1 lies inside the `é`; `char_to_byte(1)` is 2;
+//! `char_to_line(2)` is 0, since the place between CR and LF lies on the first line;
+//! `line_to_char(1)` is 3.
 //!
-//! With a chunk come the numbers of bytes, characters and line breaks before it. A rope of `"one\ntwo"` has one chunk,
-//! and `chunk_at_char(5)` is `("one\ntwo", 0, 0, 0)`. A caller that reads a text around a place takes the chunk there,
-//! and goes on with `chunks_at_char`.
+//! With a chunk come the numbers of bytes, characters and line breaks before it. A rope of
+//! `"one\ntwo"` has one chunk, and `chunk_at_char(5)` is `("one\ntwo", 0, 0, 0)`. A caller that
+//! reads a text around a place takes the chunk there, and goes on with `chunks_at_char`.
 //!
-//! The calls that count their steps stand last: the nodes that they enter, and the running totals that they compare an
-//! index with. Each sets the counts to 0 first. In a rope of one chunk, `byte_counted(0, &mut steps)` leaves
-//! `steps.nodes` at 1 and `steps.compares` at 0.
+//! The calls that count their steps stand last: the nodes that they enter, and the running totals
+//! that they compare an index with. Each sets the counts to 0 first. In a rope of one chunk,
+//! `byte_counted(0, &mut steps)` leaves `steps.nodes` at 1 and `steps.compares` at 0.
 ghost use Rattle.std.specs.Prelude.{◌≡◌, ◌<◌, ◌≤◌, length, slice_get, Some, ℕ, IfOk};
 ghost use Rattle.std.specs.Str.{encode_utf8_all};
 ghost use Rattle.rope_text.specs.Text.{byte_len, utf16_len};
@@ -53,8 +54,9 @@ impl Rope {
         self.char_counted(char_idx, &mut Steps::new())
     }
 
-    /// The chunk that holds the byte `byte_idx`, and at the end of the text the last chunk. With it the numbers of
-    /// bytes, of characters and of line breaks that end before the chunk; with no chunk at all `("", 0, 0, 0)`.
+    /// The chunk that holds the byte `byte_idx`, and at the end of the text the last chunk. With it
+    /// the numbers of bytes, of characters and of line breaks that end before the chunk; with no
+    /// chunk at all `("", 0, 0, 0)`.
     ///
     /// The index is at most `len_bytes()`. Costs one look-up; takes no memory.
     pub fn chunk_at_byte(&self, byte_idx: usize) -> ChunkAt<'_>
@@ -65,9 +67,9 @@ impl Rope {
         self.whole().chunk_at_byte(byte_idx)
     }
 
-    /// The chunk that holds the character `char_idx`, and at the end of the text the last chunk. With it the
-    /// numbers of bytes, of characters and of line breaks that end before the chunk; with no chunk at all
-    /// `("", 0, 0, 0)`.
+    /// The chunk that holds the character `char_idx`, and at the end of the text the last chunk.
+    /// With it the numbers of bytes, of characters and of line breaks that end before the chunk;
+    /// with no chunk at all `("", 0, 0, 0)`.
     ///
     /// The index is at most `len_chars()`. Costs one look-up; takes no memory.
     pub fn chunk_at_char(&self, char_idx: usize) -> ChunkAt<'_>
@@ -78,9 +80,9 @@ impl Rope {
         self.whole().chunk_at_char(char_idx)
     }
 
-    /// The first chunk by whose end `line_break_idx` line breaks have ended, or else the last chunk. With it the
-    /// numbers of bytes, of characters and of line breaks that end before the chunk; with no chunk at all
-    /// `("", 0, 0, 0)`.
+    /// The first chunk by whose end `line_break_idx` line breaks have ended, or else the last
+    /// chunk. With it the numbers of bytes, of characters and of line breaks that end before the
+    /// chunk; with no chunk at all `("", 0, 0, 0)`.
     ///
     /// The index is at most `len_lines()`. Costs one look-up; takes no memory.
     pub fn chunk_at_line_break(&self, line_break_idx: usize) -> ChunkAt<'_>
@@ -91,8 +93,8 @@ impl Rope {
         self.whole().chunk_at_line_break(line_break_idx)
     }
 
-    /// The byte `byte_idx`, counted from 0, or `None` exactly where the index is `len_bytes()` or past it. Costs
-    /// one look-up; takes no memory.
+    /// The byte `byte_idx`, counted from 0, or `None` exactly where the index is `len_bytes()` or
+    /// past it. Costs one look-up; takes no memory.
     pub fn get_byte(&self, byte_idx: usize) -> Option<u8>
         ensures { result ≡ slice_get (encode_utf8_all self.now.text) byte_idx }
     {
@@ -102,8 +104,8 @@ impl Rope {
         None
     }
 
-    /// The character `char_idx`, counted from 0, or `None` exactly where the index is `len_chars()` or past it.
-    /// Costs one look-up; takes no memory.
+    /// The character `char_idx`, counted from 0, or `None` exactly where the index is `len_chars()`
+    /// or past it. Costs one look-up; takes no memory.
     pub fn get_char(&self, char_idx: usize) -> Option<char>
         ensures { result ≡ slice_get self.now.text char_idx }
     {
@@ -113,8 +115,8 @@ impl Rope {
         None
     }
 
-    /// As `chunk_at_byte`, or `None` exactly where the index is past `len_bytes()`. Costs one look-up; takes no
-    /// memory.
+    /// As `chunk_at_byte`, or `None` exactly where the index is past `len_bytes()`. Costs one
+    /// look-up; takes no memory.
     pub fn get_chunk_at_byte(&self, byte_idx: usize) -> Option<ChunkAt<'_>>
         ensures { GivesWithin byte_idx (byte_len self.now.text) result
             (ShowsChunk (content self.now) (chunk_index_at_byte self.now.chunks byte_idx)) }
@@ -122,8 +124,8 @@ impl Rope {
         self.whole().try_chunk_at_byte(byte_idx).ok()
     }
 
-    /// As `chunk_at_char`, or `None` exactly where the index is past `len_chars()`. Costs one look-up; takes no
-    /// memory.
+    /// As `chunk_at_char`, or `None` exactly where the index is past `len_chars()`. Costs one
+    /// look-up; takes no memory.
     pub fn get_chunk_at_char(&self, char_idx: usize) -> Option<ChunkAt<'_>>
         ensures { GivesWithin char_idx (length self.now.text) result
             (ShowsChunk (content self.now) (chunk_index_at_char self.now.chunks char_idx)) }
@@ -131,8 +133,8 @@ impl Rope {
         self.whole().get_chunk_at_char(char_idx)
     }
 
-    /// As `chunk_at_line_break`, or `None` exactly where the index is past `len_lines()`. Costs one look-up; takes
-    /// no memory.
+    /// As `chunk_at_line_break`, or `None` exactly where the index is past `len_lines()`. Costs one
+    /// look-up; takes no memory.
     pub fn get_chunk_at_line_break(&self, line_break_idx: usize) -> Option<ChunkAt<'_>>
         ensures { GivesWithin line_break_idx (line_count self.now.breaks self.now.text) result
             (ShowsChunk (content self.now)
@@ -141,8 +143,8 @@ impl Rope {
         self.whole().get_chunk_at_line_break(line_break_idx)
     }
 
-    /// The character, counted from 0, that holds the byte `byte_idx`, also where the byte is inside the character;
-    /// at the end of the text, the number of characters.
+    /// The character, counted from 0, that holds the byte `byte_idx`, also where the byte is inside
+    /// the character; at the end of the text, the number of characters.
     ///
     /// The index is at most `len_bytes()`. Costs one look-up; takes no memory.
     pub fn byte_to_char(&self, byte_idx: usize) -> usize
@@ -157,8 +159,8 @@ impl Rope {
     ///
     /// # Errors
     ///
-    /// `ByteIndexOutOfBounds`, with the index and the number of bytes, exactly where the index is past
-    /// `len_bytes()`.
+    /// `ByteIndexOutOfBounds`, with the index and the number of bytes, exactly where the index is
+    /// past `len_bytes()`.
     pub fn try_byte_to_char(&self, byte_idx: usize) -> Result<usize>
         ensures { result ≡ checked (byte_index_error byte_idx (byte_len self.now.text))
             (byte_to_char self.now.text byte_idx) }
@@ -166,8 +168,9 @@ impl Rope {
         Ok(self.byte_to_char(self.within_bytes(byte_idx)?))
     }
 
-    /// The line, counted from 0, on which the byte `byte_idx` lies: how many line breaks end at or before it. A
-    /// byte inside a break of several bytes, as between CR and LF, lies on the line that the break ends.
+    /// The line, counted from 0, on which the byte `byte_idx` lies: how many line breaks end at or
+    /// before it. A byte inside a break of several bytes, as between CR and LF, lies on the line
+    /// that the break ends.
     ///
     /// The index is at most `len_bytes()`. Costs one look-up; takes no memory.
     pub fn byte_to_line(&self, byte_idx: usize) -> usize
@@ -181,8 +184,8 @@ impl Rope {
     ///
     /// # Errors
     ///
-    /// `ByteIndexOutOfBounds`, with the index and the number of bytes, exactly where the index is past
-    /// `len_bytes()`.
+    /// `ByteIndexOutOfBounds`, with the index and the number of bytes, exactly where the index is
+    /// past `len_bytes()`.
     pub fn try_byte_to_line(&self, byte_idx: usize) -> Result<usize>
         ensures { result ≡ checked (byte_index_error byte_idx (byte_len self.now.text))
             (byte_to_line self.now.breaks self.now.text byte_idx) }
@@ -190,8 +193,8 @@ impl Rope {
         Ok(self.byte_to_line(self.within_bytes(byte_idx)?))
     }
 
-    /// The byte, counted from 0, at which the character `char_idx` starts; at the end of the text, the number of
-    /// bytes.
+    /// The byte, counted from 0, at which the character `char_idx` starts; at the end of the text,
+    /// the number of bytes.
     ///
     /// The index is at most `len_chars()`. Costs one look-up; takes no memory.
     pub fn char_to_byte(&self, char_idx: usize) -> usize
@@ -205,8 +208,8 @@ impl Rope {
     ///
     /// # Errors
     ///
-    /// `CharIndexOutOfBounds`, with the index and the number of characters, exactly where the index is past
-    /// `len_chars()`.
+    /// `CharIndexOutOfBounds`, with the index and the number of characters, exactly where the index
+    /// is past `len_chars()`.
     pub fn try_char_to_byte(&self, char_idx: usize) -> Result<usize>
         ensures { result ≡ checked (char_index_error char_idx (length self.now.text))
             (char_to_byte self.now.text char_idx) }
@@ -214,8 +217,8 @@ impl Rope {
         Ok(self.char_to_byte(self.within_chars(char_idx)?))
     }
 
-    /// The line, counted from 0, on which the character `char_idx` lies: how many line breaks end at or before it.
-    /// The place between CR and LF lies on the line that the pair ends.
+    /// The line, counted from 0, on which the character `char_idx` lies: how many line breaks end
+    /// at or before it. The place between CR and LF lies on the line that the pair ends.
     ///
     /// The index is at most `len_chars()`. Costs one look-up; takes no memory.
     pub fn char_to_line(&self, char_idx: usize) -> usize
@@ -230,8 +233,8 @@ impl Rope {
     ///
     /// # Errors
     ///
-    /// `CharIndexOutOfBounds`, with the index and the number of characters, exactly where the index is past
-    /// `len_chars()`.
+    /// `CharIndexOutOfBounds`, with the index and the number of characters, exactly where the index
+    /// is past `len_chars()`.
     pub fn try_char_to_line(&self, char_idx: usize) -> Result<usize>
         ensures { result ≡ checked (char_index_error char_idx (length self.now.text))
             (char_to_line self.now.breaks self.now.text char_idx) }
@@ -239,8 +242,8 @@ impl Rope {
         Ok(self.char_to_line(self.within_chars(char_idx)?))
     }
 
-    /// The UTF-16 code unit, counted from 0, at which the character `char_idx` starts; at the end of the text, the
-    /// number of code units.
+    /// The UTF-16 code unit, counted from 0, at which the character `char_idx` starts; at the end
+    /// of the text, the number of code units.
     ///
     /// The index is at most `len_chars()`. Costs one look-up; takes no memory.
     pub fn char_to_utf16_cu(&self, char_idx: usize) -> usize
@@ -254,8 +257,8 @@ impl Rope {
     ///
     /// # Errors
     ///
-    /// `CharIndexOutOfBounds`, with the index and the number of characters, exactly where the index is past
-    /// `len_chars()`.
+    /// `CharIndexOutOfBounds`, with the index and the number of characters, exactly where the index
+    /// is past `len_chars()`.
     pub fn try_char_to_utf16_cu(&self, char_idx: usize) -> Result<usize>
         ensures { result ≡ checked (char_index_error char_idx (length self.now.text))
             (char_to_utf16 self.now.text char_idx) }
@@ -263,8 +266,9 @@ impl Rope {
         Ok(self.char_to_utf16_cu(self.within_chars(char_idx)?))
     }
 
-    /// The character, counted from 0, that holds the UTF-16 code unit `utf16_cu_idx`, also where that is the second
-    /// half of a surrogate pair; at the end of the text, the number of characters.
+    /// The character, counted from 0, that holds the UTF-16 code unit `utf16_cu_idx`, also where
+    /// that is the second half of a surrogate pair; at the end of the text, the number of
+    /// characters.
     ///
     /// The index is at most `len_utf16_cu()`. Costs one look-up; takes no memory.
     pub fn utf16_cu_to_char(&self, utf16_cu_idx: usize) -> usize
@@ -278,8 +282,8 @@ impl Rope {
     ///
     /// # Errors
     ///
-    /// `Utf16IndexOutOfBounds`, with the index and the number of code units, exactly where the index is past
-    /// `len_utf16_cu()`.
+    /// `Utf16IndexOutOfBounds`, with the index and the number of code units, exactly where the
+    /// index is past `len_utf16_cu()`.
     pub fn try_utf16_cu_to_char(&self, utf16_cu_idx: usize) -> Result<usize>
         ensures { result ≡ checked (utf16_index_error utf16_cu_idx (utf16_len self.now.text))
             (utf16_to_char self.now.text utf16_cu_idx) }
@@ -287,7 +291,8 @@ impl Rope {
         Ok(self.utf16_cu_to_char(self.within_code_units(utf16_cu_idx)?))
     }
 
-    /// The byte, counted from 0, at which the line `line_idx` starts; for `len_lines()`, the end of the text.
+    /// The byte, counted from 0, at which the line `line_idx` starts; for `len_lines()`, the end of
+    /// the text.
     ///
     /// The index is at most `len_lines()`. Costs one look-up; takes no memory.
     pub fn line_to_byte(&self, line_idx: usize) -> usize
@@ -301,8 +306,8 @@ impl Rope {
     ///
     /// # Errors
     ///
-    /// `LineIndexOutOfBounds`, with the index and the number of lines, exactly where the index is past
-    /// `len_lines()`.
+    /// `LineIndexOutOfBounds`, with the index and the number of lines, exactly where the index is
+    /// past `len_lines()`.
     pub fn try_line_to_byte(&self, line_idx: usize) -> Result<usize>
         ensures { result ≡ checked
             (line_index_error line_idx (line_count self.now.breaks self.now.text))
@@ -311,7 +316,8 @@ impl Rope {
         Ok(self.line_to_byte(self.within_lines(line_idx)?))
     }
 
-    /// The character, counted from 0, at which the line `line_idx` starts; for `len_lines()`, the end of the text.
+    /// The character, counted from 0, at which the line `line_idx` starts; for `len_lines()`, the
+    /// end of the text.
     ///
     /// The index is at most `len_lines()`. Costs one look-up; takes no memory.
     pub fn line_to_char(&self, line_idx: usize) -> usize
@@ -328,8 +334,8 @@ impl Rope {
     ///
     /// # Errors
     ///
-    /// `LineIndexOutOfBounds`, with the index and the number of lines, exactly where the index is past
-    /// `len_lines()`.
+    /// `LineIndexOutOfBounds`, with the index and the number of lines, exactly where the index is
+    /// past `len_lines()`.
     pub fn try_line_to_char(&self, line_idx: usize) -> Result<usize>
         ensures { result ≡ checked
             (line_index_error line_idx (line_count self.now.breaks self.now.text))
@@ -401,8 +407,9 @@ impl Rope {
         &self.root
     }
 
-    /// As `byte_to_char`, under the same condition, and sets `steps` to what it did: at most one node a level
-    /// entered, at most five totals compared in each inner node on the way, none made. Takes no memory.
+    /// As `byte_to_char`, under the same condition, and sets `steps` to what it did: at most one
+    /// node a level entered, at most five totals compared in each inner node on the way, none made.
+    /// Takes no memory.
     pub fn byte_to_char_counted(&self, byte_idx: usize, steps: &mut Steps) -> usize
         requires { byte_idx ≤ byte_len self.now.text }
         ensures value { result ≡ byte_to_char self.now.text byte_idx }
@@ -411,8 +418,9 @@ impl Rope {
         convert(self.begin(steps), Byte, Char, byte_idx, steps)
     }
 
-    /// As `byte_to_line`, under the same condition, and sets `steps` to what it did: at most one node a level
-    /// entered, at most five totals compared in each inner node on the way, none made. Takes no memory.
+    /// As `byte_to_line`, under the same condition, and sets `steps` to what it did: at most one
+    /// node a level entered, at most five totals compared in each inner node on the way, none made.
+    /// Takes no memory.
     pub fn byte_to_line_counted(&self, byte_idx: usize, steps: &mut Steps) -> usize
         requires { byte_idx ≤ byte_len self.now.text }
         ensures value { result ≡ byte_to_line self.now.breaks self.now.text byte_idx }
@@ -421,8 +429,9 @@ impl Rope {
         convert(self.begin(steps), Byte, LineBreak, byte_idx, steps)
     }
 
-    /// As `char_to_byte`, under the same condition, and sets `steps` to what it did: at most one node a level
-    /// entered, at most five totals compared in each inner node on the way, none made. Takes no memory.
+    /// As `char_to_byte`, under the same condition, and sets `steps` to what it did: at most one
+    /// node a level entered, at most five totals compared in each inner node on the way, none made.
+    /// Takes no memory.
     pub fn char_to_byte_counted(&self, char_idx: usize, steps: &mut Steps) -> usize
         requires { char_idx ≤ length self.now.text }
         ensures value { result ≡ char_to_byte self.now.text char_idx }
@@ -431,8 +440,9 @@ impl Rope {
         convert(self.begin(steps), Char, Byte, char_idx, steps)
     }
 
-    /// As `char_to_line`, under the same condition, and sets `steps` to what it did: at most one node a level
-    /// entered, at most five totals compared in each inner node on the way, none made. Takes no memory.
+    /// As `char_to_line`, under the same condition, and sets `steps` to what it did: at most one
+    /// node a level entered, at most five totals compared in each inner node on the way, none made.
+    /// Takes no memory.
     pub fn char_to_line_counted(&self, char_idx: usize, steps: &mut Steps) -> usize
         requires { char_idx ≤ length self.now.text }
         ensures value { result ≡ char_to_line self.now.breaks self.now.text char_idx }
@@ -441,8 +451,9 @@ impl Rope {
         convert(self.begin(steps), Char, LineBreak, char_idx, steps)
     }
 
-    /// As `char_to_utf16_cu`, under the same condition, and sets `steps` to what it did: at most one node a level
-    /// entered, at most five totals compared in each inner node on the way, none made. Takes no memory.
+    /// As `char_to_utf16_cu`, under the same condition, and sets `steps` to what it did: at most
+    /// one node a level entered, at most five totals compared in each inner node on the way, none
+    /// made. Takes no memory.
     pub fn char_to_utf16_cu_counted(&self, char_idx: usize, steps: &mut Steps) -> usize
         requires { char_idx ≤ length self.now.text }
         ensures value { result ≡ char_to_utf16 self.now.text char_idx }
@@ -451,8 +462,9 @@ impl Rope {
         convert(self.begin(steps), Char, CodeUnit, char_idx, steps)
     }
 
-    /// As `utf16_cu_to_char`, under the same condition, and sets `steps` to what it did: at most one node a level
-    /// entered, at most five totals compared in each inner node on the way, none made. Takes no memory.
+    /// As `utf16_cu_to_char`, under the same condition, and sets `steps` to what it did: at most
+    /// one node a level entered, at most five totals compared in each inner node on the way, none
+    /// made. Takes no memory.
     pub fn utf16_cu_to_char_counted(&self, utf16_cu_idx: usize, steps: &mut Steps) -> usize
         requires { utf16_cu_idx ≤ utf16_len self.now.text }
         ensures value { result ≡ utf16_to_char self.now.text utf16_cu_idx }
@@ -461,8 +473,9 @@ impl Rope {
         convert(self.begin(steps), CodeUnit, Char, utf16_cu_idx, steps)
     }
 
-    /// As `line_to_byte`, under the same condition, and sets `steps` to what it did: at most one node a level
-    /// entered, at most five totals compared in each inner node on the way, none made. Takes no memory.
+    /// As `line_to_byte`, under the same condition, and sets `steps` to what it did: at most one
+    /// node a level entered, at most five totals compared in each inner node on the way, none made.
+    /// Takes no memory.
     pub fn line_to_byte_counted(&self, line_idx: usize, steps: &mut Steps) -> usize
         requires { line_idx ≤ line_count self.now.breaks self.now.text }
         ensures value { result ≡ line_to_byte self.now.breaks self.now.text line_idx }
@@ -472,8 +485,9 @@ impl Rope {
         convert(self.begin(steps), LineBreak, Byte, line_idx, steps)
     }
 
-    /// As `line_to_char`, under the same condition, and sets `steps` to what it did: at most one node a level
-    /// entered, at most five totals compared in each inner node on the way, none made. Takes no memory.
+    /// As `line_to_char`, under the same condition, and sets `steps` to what it did: at most one
+    /// node a level entered, at most five totals compared in each inner node on the way, none made.
+    /// Takes no memory.
     pub fn line_to_char_counted(&self, line_idx: usize, steps: &mut Steps) -> usize
         requires { line_idx ≤ line_count self.now.breaks self.now.text }
         ensures value { result ≡ line_to_char self.now.breaks self.now.text line_idx }
@@ -483,8 +497,9 @@ impl Rope {
         convert(self.begin(steps), LineBreak, Char, line_idx, steps)
     }
 
-    /// As `byte`, under the same condition, and sets `steps` to what it did: exactly one node a level entered, one
-    /// to five totals compared in each inner node on the way, none made. Takes no memory.
+    /// As `byte`, under the same condition, and sets `steps` to what it did: exactly one node a
+    /// level entered, one to five totals compared in each inner node on the way, none made. Takes
+    /// no memory.
     pub fn byte_counted(&self, byte_idx: usize, steps: &mut Steps) -> u8
         requires { byte_idx < byte_len self.now.text }
         ensures value { slice_get (encode_utf8_all self.now.text) byte_idx ≡ Some result }
@@ -494,8 +509,9 @@ impl Rope {
         byte_at(self.begin(steps), byte_idx, steps)
     }
 
-    /// As `char`, under the same condition, and sets `steps` to what it did: exactly one node a level entered, one
-    /// to five totals compared in each inner node on the way, none made. Takes no memory.
+    /// As `char`, under the same condition, and sets `steps` to what it did: exactly one node a
+    /// level entered, one to five totals compared in each inner node on the way, none made. Takes
+    /// no memory.
     pub fn char_counted(&self, char_idx: usize, steps: &mut Steps) -> char
         requires { char_idx < length self.now.text }
         ensures value { slice_get self.now.text char_idx ≡ Some result }

@@ -1,6 +1,7 @@
 //! The rope: how it is made, cloned and measured.
 //!
-//! A rope of `"one\ntwo"` has 7 bytes, 7 characters, 7 UTF-16 code units and 2 lines, in one chunk at depth 0.
+//! A rope of `"one\ntwo"` has 7 bytes, 7 characters, 7 UTF-16 code units and 2 lines, in one chunk
+//! at depth 0.
 ghost use Rattle.std.specs.Prelude.{◌≡◌, ◌+◌, ◌-◌, ◌*◌, ◌<◌, [], length, ◌^◌, min, IfOk, IfErr, OnOk, OnErr};
 ghost use Rattle.std.specs.Str.{chars};
 ghost use Rattle.rope_text.specs.declared.error.Error.TheVariants.{OutOfMemory};
@@ -19,14 +20,15 @@ use rope_tree::{Builder, Maker, Node, leaf_count};
 use std::alloc::{AllocError, Global};
 use std::marker::Model;
 
-/// A text of at most `isize::MAX` bytes, cut into chunks of 1 to `MAX_BYTES` bytes, which are the leaves of a
-/// balanced tree. No cut lies inside a character or between CR and LF.
+/// A text of at most `isize::MAX` bytes, cut into chunks of 1 to `MAX_BYTES` bytes, which are the
+/// leaves of a balanced tree. No cut lies inside a character or between CR and LF.
 pub struct Rope {
     pub(crate) root: Node,
     pub(crate) alloc: Global,
 }
 
-// By hand, for a drop that is derived is proved once more in each crate that drops a rope, with the drop of the tree.
+// By hand, for a drop that is derived is proved once more in each crate that drops a rope, with the
+// drop of the tree.
 impl Drop for Rope {
     fn drop(self) {
         let Rope { root: _, alloc: _ } = self;
@@ -44,8 +46,9 @@ impl Model for Rope {
     ghost invariant = { λ r. IsTree r.root };
 }
 
-/// A clone has its original's text, chunks, set of line breaks and depth. It shares every node with it until one of
-/// the two is edited, which leaves the other as it was. Cloning takes constant time, and may be refused for memory.
+/// A clone has its original's text, chunks, set of line breaks and depth. It shares every node with
+/// it until one of the two is edited, which leaves the other as it was. Cloning takes constant
+/// time, and may be refused for memory.
 impl Clone for Rope {
     ghost use Rattle.std.specs.Prelude.{◌≡◌};
 
@@ -60,7 +63,8 @@ impl Clone for Rope {
 }
 
 impl Rope {
-    /// A rope of the empty text, with Unicode's line breaks, in no chunk. Takes memory for one node.
+    /// A rope of the empty text, with Unicode's line breaks, in no chunk. Takes memory for one
+    /// node.
     ///
     /// # Errors
     ///
@@ -74,8 +78,8 @@ impl Rope {
         Rope::new_with(alloc, LineBreaks::Unicode)
     }
 
-    /// A rope of a copy of the text, with Unicode's line breaks. It has at most (n + 980) / 981 chunks for n bytes,
-    /// and takes time and memory in proportion to the text.
+    /// A rope of a copy of the text, with Unicode's line breaks. It has at most (n + 980) / 981
+    /// chunks for n bytes, and takes time and memory in proportion to the text.
     ///
     /// # Errors
     ///
@@ -88,7 +92,8 @@ impl Rope {
         Rope::from_str_with(alloc, text, LineBreaks::Unicode)
     }
 
-    /// A rope of the empty text, with this set of line breaks, in no chunk. Takes memory for one node.
+    /// A rope of the empty text, with this set of line breaks, in no chunk. Takes memory for one
+    /// node.
     ///
     /// # Errors
     ///
@@ -102,8 +107,8 @@ impl Rope {
         Rope::from_str_with(alloc, "", breaks)
     }
 
-    /// A rope of a copy of the text, with this set of line breaks. It has at most (n + 980) / 981 chunks for n
-    /// bytes, and takes time and memory in proportion to the text.
+    /// A rope of a copy of the text, with this set of line breaks. It has at most (n + 980) / 981
+    /// chunks for n bytes, and takes time and memory in proportion to the text.
     ///
     /// # Errors
     ///
@@ -155,7 +160,8 @@ impl Rope {
         info.chars + info.utf16_surrogates
     }
 
-    /// How many levels of the tree lie above the chunks: 0 where there is at most one chunk, and never more than
+    /// How many levels of the tree lie above the chunks: 0 where there is at most one chunk, and
+    /// never more than
     /// 18. Takes constant time and no memory.
     pub fn depth(&self) -> usize
         ensures value { result ≡ self.now.depth }
@@ -164,15 +170,16 @@ impl Rope {
         self.root.height()
     }
 
-    /// The bytes for which the chunks have room: `MAX_BYTES` for each chunk, and `usize::MAX` at most. Enters each
-    /// inner node of the tree once, reads no text and takes no memory.
+    /// The bytes for which the chunks have room: `MAX_BYTES` for each chunk, and `usize::MAX` at
+    /// most. Enters each inner node of the tree once, reads no text and takes no memory.
     pub fn capacity(&self) -> usize
         ensures { result ≡ min (MAX_BYTES * length self.now.chunks) (2 ^ 64 - 1) }
     {
         leaf_count(&self.root).saturating_mul(MAX_BYTES)
     }
 
-    /// Cuts the same text into as few chunks as `from_str` does: at most (n + 980) / 981 for n bytes.
+    /// Cuts the same text into as few chunks as `from_str` does: at most (n + 980) / 981 for n
+    /// bytes.
     ///
     /// Takes time and memory in proportion to the text.
     ///
@@ -189,7 +196,8 @@ impl Rope {
     {
         let mut builder = Builder::new(self.alloc, self.line_breaks());
         for chunk in self.chunks() {
-            // For the proof: `as_bytes` says that the chunk is UTF-8, so it has the bytes of its characters.
+            // For the proof: `as_bytes` says that the chunk is UTF-8, so it has the bytes of its
+            // characters.
             let _ = chunk.as_bytes();
             builder.append(chunk)?;
         }
@@ -197,7 +205,8 @@ impl Rope {
         Ok(())
     }
 
-    /// A cursor over the chunks, before the first, facing forward. Costs one look-up; takes no memory.
+    /// A cursor over the chunks, before the first, facing forward. Costs one look-up; takes no
+    /// memory.
     pub fn chunks(&self) -> Chunks<'_>
         ensures cut { result ≡ at_start self.now.chunks }
         ensures few { length self.now.chunks < 2 ^ 63 }

@@ -16,8 +16,9 @@ use std::alloc::Global;
 use std::fmt;
 use std::marker::Model;
 
-/// Makes a rope of texts that are passed in one after the other, with no second copy of the whole text. Contracts
-/// see it as the text so far, the set of line breaks, and the error with which it was refused, if there was one.
+/// Makes a rope of texts that are passed in one after the other, with no second copy of the whole
+/// text. Contracts see it as the text so far, the set of line breaks, and the error with which it
+/// was refused, if there was one.
 #[derive(Drop)]
 pub struct RopeBuilder {
     builder: Builder,
@@ -35,8 +36,8 @@ impl Model for RopeBuilder {
 }
 
 impl RopeBuilder {
-    /// A builder with no text yet, whose rope will have Unicode's line breaks. It always succeeds, and takes no
-    /// memory.
+    /// A builder with no text yet, whose rope will have Unicode's line breaks. It always succeeds,
+    /// and takes no memory.
     pub fn new(alloc: Global) -> Result<RopeBuilder>
         ensures ok { IsOk result }
         ensures text { IfOk result (λ builder. builder.text ≡ []) }
@@ -46,8 +47,8 @@ impl RopeBuilder {
         RopeBuilder::new_with(alloc, LineBreaks::Unicode)
     }
 
-    /// A builder with no text yet, whose rope will have this set of line breaks. It always succeeds, and takes no
-    /// memory.
+    /// A builder with no text yet, whose rope will have this set of line breaks. It always
+    /// succeeds, and takes no memory.
     pub fn new_with(alloc: Global, breaks: LineBreaks) -> Result<RopeBuilder>
         ensures ok { IsOk result }
         ensures text { IfOk result (λ builder. builder.text ≡ []) }
@@ -63,13 +64,14 @@ impl RopeBuilder {
 
     /// Adds a text behind those that were passed in.
     ///
-    /// Takes time in proportion to the added text, and memory for full chunks of it; an empty text takes none where
-    /// nothing was refused before.
+    /// Takes time in proportion to the added text, and memory for full chunks of it; an empty text
+    /// takes none where nothing was refused before.
     ///
     /// # Errors
     ///
-    /// First the error of an earlier refusal; then `TooLong`, where all texts so far would have more than
-    /// `isize::MAX` bytes; then `OutOfMemory`. After a refusal every later call returns that error.
+    /// First the error of an earlier refusal; then `TooLong`, where all texts so far would have
+    /// more than `isize::MAX` bytes; then `OutOfMemory`. After a refusal every later call returns
+    /// that error.
     pub fn append(&mut self, text: &str) -> Result<()>
         ensures ok { OnOk result ((text_error self.old (length text.now) ≡ None)
             × (self.new.text ≡ self.old.text ++ chars text.now) × (self.new.failed ≡ None)) }
@@ -86,8 +88,8 @@ impl RopeBuilder {
         appended
     }
 
-    /// The rope of the texts that were passed in, in at most (n + 980) / 981 chunks for n bytes. Takes memory for
-    /// the last chunks and the nodes above them.
+    /// The rope of the texts that were passed in, in at most (n + 980) / 981 chunks for n bytes.
+    /// Takes memory for the last chunks and the nodes above them.
     ///
     /// # Errors
     ///
@@ -107,7 +109,8 @@ impl RopeBuilder {
     }
 }
 
-/// Shows how many bytes were passed in, and the error that refused the builder, if there was one; no text.
+/// Shows how many bytes were passed in, and the error that refused the builder, if there was one;
+/// no text.
 impl fmt::Debug for RopeBuilder {
     fn fmt<W: fmt::Write>(&self, f: &mut fmt::Formatter<W>) -> fmt::Result {
         f.debug_struct("RopeBuilder")

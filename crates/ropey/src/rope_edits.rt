@@ -1,7 +1,9 @@
-//! Ropes edited: texts and characters inserted, a part of the text removed, ropes split and appended to each other.
+//! Ropes edited: texts and characters inserted, a part of the text removed, ropes split and
+//! appended to each other.
 //!
-//! With the text `"held"`, `insert(3, "lo worl")` makes `"hello world"`. From there `remove(5..)` leaves `"hello"`;
-//! `split_off(6)` leaves `"hello "` and returns a rope of `"world"`, and an `append` of that puts it back.
+//! With the text `"held"`, `insert(3, "lo worl")` makes `"hello world"`. From there `remove(5..)`
+//! leaves `"hello"`; `split_off(6)` leaves `"hello "` and returns a rope of `"world"`, and an
+//! `append` of that puts it back.
 ghost use Rattle.std.specs.Prelude.{◌≡◌, ◌+◌, ◌*◌, ◌<◌, ◌≤◌, [], ◌∷◌, length, None, IsOk, IfErr, OnOk, max, IfOk};
 ghost use Rattle.std.specs.Str.{chars};
 ghost use Rattle.rope_text.specs.declared.TheConstants.{MAX_SHORT_BYTES};
@@ -19,8 +21,8 @@ use rope_text::{Error, MAX_SHORT_BYTES, MAX_TEXT_BYTES, Result, Steps};
 use rope_tree::{Maker, insert_at};
 use std::mem;
 
-// The calls without `try_` are inlined: each call in between would store the seven words of an answer and load them again, some by one
-// load over two stores, which stalls.
+// The calls without `try_` are inlined: each call in between would store the seven words of an
+// answer and load them again, some by one load over two stores, which stalls.
 impl Rope {
     // What makes the nodes of an edit, where the counts begin with 0.
     #[inline(always)]
@@ -64,9 +66,9 @@ impl Rope {
     ///
     /// # Errors
     ///
-    /// First `CharIndexOutOfBounds`, with the index and the number of characters, where the index is past
-    /// `len_chars()`; then `TooLong`, where the text would have more than `isize::MAX` bytes; then `OutOfMemory`. A
-    /// refused call leaves the rope as it was.
+    /// First `CharIndexOutOfBounds`, with the index and the number of characters, where the index
+    /// is past `len_chars()`; then `TooLong`, where the text would have more than `isize::MAX`
+    /// bytes; then `OutOfMemory`. A refused call leaves the rope as it was.
     pub fn try_insert(&mut self, char_idx: usize, text: &str) -> Result<()>
         ensures ok { OnOk result (IsInsert self.old.text char_idx (chars text.now) self.new.text) }
         ensures refused { IfErr result (IsInsertRefusal self.old.text char_idx (chars text.now)) }
@@ -80,15 +82,16 @@ impl Rope {
 
     /// Inserts `text` before the character `char_idx`; for `len_chars()`, at the end.
     ///
-    /// The index is at most `len_chars()`. An empty text takes no memory and changes nothing. A short one goes into
-    /// the chunk around that place, and takes no memory where the chunk has room and nothing on the way down to it is
-    /// shared with a clone; else nodes on the way down are made. A text of more than 981 bytes becomes chunks of its
-    /// own. The rope's text is not walked.
+    /// The index is at most `len_chars()`. An empty text takes no memory and changes nothing. A
+    /// short one goes into the chunk around that place, and takes no memory where the chunk has
+    /// room and nothing on the way down to it is shared with a clone; else nodes on the way down
+    /// are made. A text of more than 981 bytes becomes chunks of its own. The rope's text is not
+    /// walked.
     ///
     /// # Errors
     ///
-    /// First `TooLong`, where the text would have more than `isize::MAX` bytes; then `OutOfMemory`. A refused call
-    /// leaves the rope as it was.
+    /// First `TooLong`, where the text would have more than `isize::MAX` bytes; then `OutOfMemory`.
+    /// A refused call leaves the rope as it was.
     #[inline(always)]
     pub fn insert(&mut self, char_idx: usize, text: &str) -> Result<()>
         requires { char_idx ≤ length self.old.text }
@@ -101,16 +104,18 @@ impl Rope {
         self.insert_counted(char_idx, text, &mut Steps::new())
     }
 
-    /// As `insert`, and sets `steps` to what it did: `made` counts the nodes that were made. In a rope of depth d a
-    /// text of at most 981 bytes makes at most 3 d + 5, refused or not; a longer one, where it isn't refused, at most
-    /// two for each 981 bytes, and 298 d + 603 more. Its searches need not be counted: `nodes` is at most 24 (d + 1),
-    /// and `compares` at most 40 (d + 1).
+    /// As `insert`, and sets `steps` to what it did: `made` counts the nodes that were made. In a
+    /// rope of depth d a text of at most 981 bytes makes at most 3 d + 5, refused or not; a longer
+    /// one, where it isn't refused, at most two for each 981 bytes, and 298 d + 603 more. Its
+    /// searches need not be counted: `nodes` is at most 24 (d + 1), and `compares` at most 40 (d +
+    /// 1).
     ///
     /// The index is at most `len_chars()`.
     ///
     /// # Errors
     ///
-    /// First `TooLong`, then `OutOfMemory`, as for `insert`. A refused call leaves the rope as it was.
+    /// First `TooLong`, then `OutOfMemory`, as for `insert`. A refused call leaves the rope as it
+    /// was.
     #[inline(always)]
     pub fn insert_counted(&mut self, char_idx: usize, text: &str, steps: &mut Steps) -> Result<()>
         requires { char_idx ≤ length self.old.text }
@@ -134,9 +139,9 @@ impl Rope {
     ///
     /// # Errors
     ///
-    /// First `CharIndexOutOfBounds`, with the index and the number of characters, where the index is past
-    /// `len_chars()`; then `TooLong`, where the text would have more than `isize::MAX` bytes; then `OutOfMemory`. A
-    /// refused call leaves the rope as it was.
+    /// First `CharIndexOutOfBounds`, with the index and the number of characters, where the index
+    /// is past `len_chars()`; then `TooLong`, where the text would have more than `isize::MAX`
+    /// bytes; then `OutOfMemory`. A refused call leaves the rope as it was.
     pub fn try_insert_char(&mut self, char_idx: usize, c: char) -> Result<()>
         ensures ok { OnOk result (IsInsert self.old.text char_idx (c ∷ []) self.new.text) }
         ensures refused { IfErr result (IsInsertRefusal self.old.text char_idx (c ∷ [])) }
@@ -148,14 +153,15 @@ impl Rope {
 
     /// Inserts the character `c` before the character `char_idx`; for `len_chars()`, at the end.
     ///
-    /// The index is at most `len_chars()`. The character goes into the chunk around that place, and takes no memory
-    /// where the chunk has room and nothing on the way down to it is shared with a clone; else it takes memory for at
-    /// most 3 d + 5 nodes, where d is the rope's depth. No text is walked.
+    /// The index is at most `len_chars()`. The character goes into the chunk around that place, and
+    /// takes no memory where the chunk has room and nothing on the way down to it is shared with a
+    /// clone; else it takes memory for at most 3 d + 5 nodes, where d is the rope's depth. No text
+    /// is walked.
     ///
     /// # Errors
     ///
-    /// First `TooLong`, where the text would have more than `isize::MAX` bytes; then `OutOfMemory`. A refused call
-    /// leaves the rope as it was.
+    /// First `TooLong`, where the text would have more than `isize::MAX` bytes; then `OutOfMemory`.
+    /// A refused call leaves the rope as it was.
     #[inline(always)]
     pub fn insert_char(&mut self, char_idx: usize, c: char) -> Result<()>
         requires { char_idx ≤ length self.old.text }
@@ -166,14 +172,16 @@ impl Rope {
         self.insert_char_counted(char_idx, c, &mut Steps::new())
     }
 
-    /// As `insert_char`, and sets `steps` to what it did, refused or not: `made` counts the nodes that were made, at
-    /// most 3 d + 5 in a rope of depth d. Of the other two counts what `insert_counted` says.
+    /// As `insert_char`, and sets `steps` to what it did, refused or not: `made` counts the nodes
+    /// that were made, at most 3 d + 5 in a rope of depth d. Of the other two counts what
+    /// `insert_counted` says.
     ///
     /// The index is at most `len_chars()`.
     ///
     /// # Errors
     ///
-    /// First `TooLong`, then `OutOfMemory`, as for `insert_char`. A refused call leaves the rope as it was.
+    /// First `TooLong`, then `OutOfMemory`, as for `insert_char`. A refused call leaves the rope as
+    /// it was.
     #[inline(always)]
     pub fn insert_char_counted(&mut self, char_idx: usize, c: char, steps: &mut Steps) -> Result<()>
         requires { char_idx ≤ length self.old.text }
@@ -189,8 +197,8 @@ impl Rope {
     ///
     /// # Errors
     ///
-    /// `CharIndexOutOfBounds`, with the index and the number of characters, exactly where the index is past
-    /// `len_chars()`; else `OutOfMemory`. A refused call leaves the rope as it was.
+    /// `CharIndexOutOfBounds`, with the index and the number of characters, exactly where the index
+    /// is past `len_chars()`; else `OutOfMemory`. A refused call leaves the rope as it was.
     pub fn try_split_off(&mut self, char_idx: usize) -> Result<Rope>
         ensures ok { IfOk result (λ back. (char_index_error char_idx (length self.old.text) ≡ None)
             × IsCutAt char_idx self.old self.new back) }
@@ -202,11 +210,11 @@ impl Rope {
         self.split_off(char_idx)
     }
 
-    /// Keeps the first `char_idx` characters, and returns the others as a rope with the same set of line breaks.
-    /// The two share what they can of the tree.
+    /// Keeps the first `char_idx` characters, and returns the others as a rope with the same set of
+    /// line breaks. The two share what they can of the tree.
     ///
-    /// The index is at most `len_chars()`. Takes memory for at most 12 d + 2 nodes, where d is the rope's depth,
-    /// and walks no text.
+    /// The index is at most `len_chars()`. Takes memory for at most 12 d + 2 nodes, where d is the
+    /// rope's depth, and walks no text.
     ///
     /// # Errors
     ///
@@ -220,8 +228,9 @@ impl Rope {
         self.split_off_counted(char_idx, &mut Steps::new())
     }
 
-    /// As `split_off`, and sets `steps` to what it did, refused or not: `made` counts the nodes that were made, at
-    /// most 12 d + 2 in a rope of depth d. Of the other two counts what `insert_counted` says.
+    /// As `split_off`, and sets `steps` to what it did, refused or not: `made` counts the nodes
+    /// that were made, at most 12 d + 2 in a rope of depth d. Of the other two counts what
+    /// `insert_counted` says.
     ///
     /// The index is at most `len_chars()`.
     ///
@@ -253,9 +262,9 @@ impl Rope {
     ///
     /// # Errors
     ///
-    /// First `CharRangeOutOfBounds`, with the bounds and the number of characters, where a bound is past
-    /// `len_chars()`; then `CharRangeInvalid`, where the start is past the end; then `OutOfMemory`. A refused call
-    /// leaves the rope as it was.
+    /// First `CharRangeOutOfBounds`, with the bounds and the number of characters, where a bound is
+    /// past `len_chars()`; then `CharRangeInvalid`, where the start is past the end; then
+    /// `OutOfMemory`. A refused call leaves the rope as it was.
     pub fn try_remove<R: IndexRange>(&mut self, range: R) -> Result<()>
         ensures ok { OnOk result
             (IsRemoval self.old.text (R.given_start range) (R.given_end range) self.new.text) }
@@ -272,10 +281,11 @@ impl Rope {
 
     /// Takes the characters of a range out of the text.
     ///
-    /// The range's bounds are at most `len_chars()`, and its start is at most its end. An empty range takes no
-    /// memory and changes nothing; any other takes memory for at most 17 d + 12 nodes, where d is the rope's depth.
-    /// Where the characters lie in one chunk that keeps enough bytes, memory is taken only for copies of those nodes
-    /// on the way down that are shared with clones, and for none where nothing is shared. No text is walked.
+    /// The range's bounds are at most `len_chars()`, and its start is at most its end. An empty
+    /// range takes no memory and changes nothing; any other takes memory for at most 17 d + 12
+    /// nodes, where d is the rope's depth. Where the characters lie in one chunk that keeps enough
+    /// bytes, memory is taken only for copies of those nodes on the way down that are shared with
+    /// clones, and for none where nothing is shared. No text is walked.
     ///
     /// # Errors
     ///
@@ -293,8 +303,9 @@ impl Rope {
         self.remove_counted(range, &mut Steps::new())
     }
 
-    /// As `remove`, and sets `steps` to what it did, refused or not: `made` counts the nodes that were made, at most
-    /// 17 d + 12 in a rope of depth d. Of the other two counts what `insert_counted` says.
+    /// As `remove`, and sets `steps` to what it did, refused or not: `made` counts the nodes that
+    /// were made, at most 17 d + 12 in a rope of depth d. Of the other two counts what
+    /// `insert_counted` says.
     ///
     /// The range's bounds are at most `len_chars()`, and its start is at most its end.
     ///
@@ -322,16 +333,18 @@ impl Rope {
         Ok(removed?)
     }
 
-    /// Puts the text of another rope behind this one's. The rope shares what it can of the other's tree.
+    /// Puts the text of another rope behind this one's. The rope shares what it can of the other's
+    /// tree.
     ///
-    /// Where one of the two is empty, it takes no memory, and the rope has the chunks of the other; else it takes
-    /// memory for at most 16 d + 11 nodes, where d is the greater depth of the two. No text is walked.
+    /// Where one of the two is empty, it takes no memory, and the rope has the chunks of the other;
+    /// else it takes memory for at most 16 d + 11 nodes, where d is the greater depth of the two.
+    /// No text is walked.
     ///
     /// # Errors
     ///
-    /// First `LineBreaksDiffer`, where the two have different sets of line breaks, empty or not; then `TooLong`,
-    /// where the text would have more than `isize::MAX` bytes; then `OutOfMemory`. A refused call leaves the rope
-    /// as it was.
+    /// First `LineBreaksDiffer`, where the two have different sets of line breaks, empty or not;
+    /// then `TooLong`, where the text would have more than `isize::MAX` bytes; then `OutOfMemory`.
+    /// A refused call leaves the rope as it was.
     pub fn append(&mut self, other: Rope) -> Result<()>
         ensures ok { OnOk result (IsAppend self.old other self.new) }
         ensures refused { IfErr result (IsAppendRefusal self.old other) }
@@ -344,13 +357,14 @@ impl Rope {
         self.append_counted(other, &mut Steps::new())
     }
 
-    /// As `append`, and sets `steps` to what it did, refused or not: `made` counts the nodes that were made, at most
-    /// 16 d + 11 where d is the greater depth of the two. Of the other two counts what `insert_counted` says.
+    /// As `append`, and sets `steps` to what it did, refused or not: `made` counts the nodes that
+    /// were made, at most 16 d + 11 where d is the greater depth of the two. Of the other two
+    /// counts what `insert_counted` says.
     ///
     /// # Errors
     ///
-    /// First `LineBreaksDiffer`, then `TooLong`, then `OutOfMemory`, as for `append`. A refused call leaves the
-    /// rope as it was.
+    /// First `LineBreaksDiffer`, then `TooLong`, then `OutOfMemory`, as for `append`. A refused
+    /// call leaves the rope as it was.
     pub fn append_counted(&mut self, mut other: Rope, steps: &mut Steps) -> Result<()>
         ensures ok { OnOk result (IsAppend self.old other self.new) }
         ensures refused { IfErr result (IsAppendRefusal self.old other) }

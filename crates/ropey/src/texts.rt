@@ -1,7 +1,8 @@
-//! Ropes of owned texts, and of texts that an iterator gives; and a rope's text, copied, shown or borrowed.
+//! Ropes of owned texts, and of texts that an iterator gives; and a rope's text, copied, shown or
+//! borrowed.
 //!
-//! `from_str_iter(alloc, ["one\n", "two"])` returns a rope of `"one\ntwo"`, of which `try_to_string(alloc)` is that
-//! string, and `{rope}` prints it.
+//! `from_str_iter(alloc, ["one\n", "two"])` returns a rope of `"one\ntwo"`, of which
+//! `try_to_string(alloc)` is that string, and `{rope}` prints it.
 ghost use Rattle.std.specs.Prelude.{◌≡◌, IfOk, IfErr, ◌≤◌, ◌↔◌, length, IsOk};
 ghost use Rattle.std.specs.Str.{chars};
 ghost use Rattle.std.specs.String.{string_bytes};
@@ -36,7 +37,8 @@ impl Rope {
         Rope::from_str(alloc, text.as_str())
     }
 
-    /// A rope of a copy of the text, borrowed or owned, with Unicode's line breaks, as `from_str` makes it.
+    /// A rope of a copy of the text, borrowed or owned, with Unicode's line breaks, as `from_str`
+    /// makes it.
     ///
     /// Takes time and memory in proportion to the text.
     ///
@@ -51,15 +53,15 @@ impl Rope {
         Rope::from_str(alloc, cow.as_str())
     }
 
-    /// A rope of the texts that the iterator gives, one behind the other, with Unicode's line breaks. It has at most
-    /// (n + 980) / 981 chunks for n bytes.
+    /// A rope of the texts that the iterator gives, one behind the other, with Unicode's line
+    /// breaks. It has at most (n + 980) / 981 chunks for n bytes.
     ///
     /// The iterator must end. Takes time and memory in proportion to the text.
     ///
     /// # Errors
     ///
-    /// `TooLong`, once the texts so far have more than `isize::MAX` bytes; else `OutOfMemory`. No text is taken
-    /// after a refusal.
+    /// `TooLong`, once the texts so far have more than `isize::MAX` bytes; else `OutOfMemory`. No
+    /// text is taken after a refusal.
     pub fn from_str_iter<'a, I: IntoIterator<Item = &'a str>>(
         alloc: Global,
         iter: I,
@@ -128,8 +130,8 @@ impl Rope {
         self.whole().try_to_string(alloc)
     }
 
-    /// The text as a string, by the rope's own allocator; the rope is gone afterwards, refused or not. Takes time
-    /// in proportion to the text, and memory once.
+    /// The text as a string, by the rope's own allocator; the rope is gone afterwards, refused or
+    /// not. Takes time in proportion to the text, and memory once.
     ///
     /// # Errors
     ///
@@ -141,8 +143,8 @@ impl Rope {
         self.try_to_string(self.alloc)
     }
 
-    /// The text: borrowed exactly where the rope has at most one chunk, which takes no memory and never fails; else
-    /// a copy.
+    /// The text: borrowed exactly where the rope has at most one chunk, which takes no memory and
+    /// never fails; else a copy.
     ///
     /// # Errors
     ///

@@ -11,8 +11,8 @@ use std::marker::Model;
 use std::mem::replace;
 use std::ptr::null_mut;
 
-/// A pointer to a builder on the heap, or null, where there is none. C sees a struct of one pointer, which begins as null
-/// and is changed by the library alone.
+/// A pointer to a builder on the heap, or null, where there is none. C sees a struct of one
+/// pointer, which begins as null and is changed by the library alone.
 #[repr(C)]
 pub struct BuilderHandle {
     ptr: *mut u8,

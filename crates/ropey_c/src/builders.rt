@@ -38,15 +38,17 @@ pub extern "C" fn ropey_builder_new(
     }
 }
 
-/// Gives the builder the bytes that follow. They may end inside a character, which the next bytes go on with.
+/// Gives the builder the bytes that follow. They may end inside a character, which the next bytes
+/// go on with.
 ///
 /// Takes time and memory in proportion to the bytes.
 ///
 /// # Errors
 ///
-/// `NO_BUILDER_HELD`; else `INVALID_UTF8`, where four or more of the bytes are left behind what is text, which writes to
-/// `valid` how many bytes of all that was given are text; else `TOO_LONG`. `OUT_OF_MEMORY` may come at any time. After a
-/// refusal every later call is refused for the same reason.
+/// `NO_BUILDER_HELD`; else `INVALID_UTF8`, where four or more of the bytes are left behind what is
+/// text, which writes to `valid` how many bytes of all that was given are text; else `TOO_LONG`.
+/// `OUT_OF_MEMORY` may come at any time. After a refusal every later call is refused for the same
+/// reason.
 #[unsafe(no_mangle)]
 pub extern "C" fn ropey_builder_append(
     alloc: Global,
@@ -64,13 +66,14 @@ pub extern "C" fn ropey_builder_append(
     status
 }
 
-/// Makes the rope of all that was given, in as few chunks as `ropey_from_text` does, and frees the one that `rope` held.
-/// Afterwards the handle holds no builder, refused or not.
+/// Makes the rope of all that was given, in as few chunks as `ropey_from_text` does, and frees the
+/// one that `rope` held. Afterwards the handle holds no builder, refused or not.
 ///
 /// # Errors
 ///
-/// `NO_BUILDER_HELD`; then what an append was refused for; then `INVALID_UTF8`, where the bytes end behind what is text,
-/// which writes to `valid` how many bytes are; then `OUT_OF_MEMORY`. A refused call leaves `rope` as it was.
+/// `NO_BUILDER_HELD`; then what an append was refused for; then `INVALID_UTF8`, where the bytes end
+/// behind what is text, which writes to `valid` how many bytes are; then `OUT_OF_MEMORY`. A refused
+/// call leaves `rope` as it was.
 #[unsafe(no_mangle)]
 pub extern "C" fn ropey_builder_finish(
     alloc: Global,

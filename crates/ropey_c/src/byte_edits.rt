@@ -1,4 +1,5 @@
-//! Ropes that are changed at places counted in bytes. Each call finds its characters first, and takes no memory for it.
+//! Ropes that are changed at places counted in bytes. Each call finds its characters first, and
+//! takes no memory for it.
 ghost use Rattle.std.specs.Prelude.{◌≡◌, ◌<◌, ◌≤◌, length, Some, None, IfErr, IfOk};
 ghost use Rattle.std.specs.Str.{chars};
 ghost use Rattle.rope_text.specs.Conversions.{byte_to_char};
@@ -59,13 +60,14 @@ fn insert_at_byte(rope: &mut Rope, byte_idx: usize, text: &[u8]) -> u32
     }
 }
 
-/// Inserts the text before the byte `byte_idx`, counted from 0; for the number of bytes, at the end. No text of the rope
-/// is walked.
+/// Inserts the text before the byte `byte_idx`, counted from 0; for the number of bytes, at the
+/// end. No text of the rope is walked.
 ///
 /// # Errors
 ///
-/// `NO_ROPE_HELD`, then `INVALID_UTF8`, then `BYTE_INDEX_OUT_OF_BOUNDS`, then `BYTE_INDEX_NOT_CHAR_BOUNDARY`, then
-/// `TOO_LONG`, then `OUT_OF_MEMORY`. A refused call leaves the rope as it was.
+/// `NO_ROPE_HELD`, then `INVALID_UTF8`, then `BYTE_INDEX_OUT_OF_BOUNDS`, then
+/// `BYTE_INDEX_NOT_CHAR_BOUNDARY`, then `TOO_LONG`, then `OUT_OF_MEMORY`. A refused call leaves the
+/// rope as it was.
 #[unsafe(no_mangle)]
 pub extern "C" fn ropey_insert_at_byte(
     alloc: Global,
@@ -103,8 +105,8 @@ fn remove_bytes(rope: &mut Rope, start: usize, end: usize) -> u32
 ///
 /// # Errors
 ///
-/// `NO_ROPE_HELD`, then `BYTE_RANGE_INVALID`, then `BYTE_RANGE_OUT_OF_BOUNDS`, then `BYTE_RANGE_NOT_CHAR_BOUNDARY`, then
-/// `OUT_OF_MEMORY`. A refused call leaves the rope as it was.
+/// `NO_ROPE_HELD`, then `BYTE_RANGE_INVALID`, then `BYTE_RANGE_OUT_OF_BOUNDS`, then
+/// `BYTE_RANGE_NOT_CHAR_BOUNDARY`, then `OUT_OF_MEMORY`. A refused call leaves the rope as it was.
 #[unsafe(no_mangle)]
 pub extern "C" fn ropey_remove_bytes(
     alloc: Global,

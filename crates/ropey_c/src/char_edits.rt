@@ -30,14 +30,15 @@ fn insert(rope: &mut Rope, char_idx: usize, text: &[u8]) -> u32
     }
 }
 
-/// Inserts the text before the character `char_idx`, counted from 0; for the number of characters, at the end.
+/// Inserts the text before the character `char_idx`, counted from 0; for the number of characters,
+/// at the end.
 ///
 /// An empty text takes no memory. No text of the rope is walked.
 ///
 /// # Errors
 ///
-/// `NO_ROPE_HELD`, then `INVALID_UTF8`, then `CHAR_INDEX_OUT_OF_BOUNDS`, then `TOO_LONG`, then `OUT_OF_MEMORY`. A refused
-/// call leaves the rope as it was.
+/// `NO_ROPE_HELD`, then `INVALID_UTF8`, then `CHAR_INDEX_OUT_OF_BOUNDS`, then `TOO_LONG`, then
+/// `OUT_OF_MEMORY`. A refused call leaves the rope as it was.
 #[unsafe(no_mangle)]
 pub extern "C" fn ropey_insert(
     alloc: Global,
@@ -72,13 +73,13 @@ fn insert_char(rope: &mut Rope, char_idx: usize, c: u32) -> u32
     }
 }
 
-/// Inserts the character `c`, a Unicode scalar value, before the character `char_idx`, counted from 0; for the number
-/// of characters, at the end. No text is walked.
+/// Inserts the character `c`, a Unicode scalar value, before the character `char_idx`, counted from
+/// 0; for the number of characters, at the end. No text is walked.
 ///
 /// # Errors
 ///
-/// `NO_ROPE_HELD`, then `NOT_A_CHARACTER`, then `CHAR_INDEX_OUT_OF_BOUNDS`, then `TOO_LONG`, then `OUT_OF_MEMORY`. A refused
-/// call leaves the rope as it was.
+/// `NO_ROPE_HELD`, then `NOT_A_CHARACTER`, then `CHAR_INDEX_OUT_OF_BOUNDS`, then `TOO_LONG`, then
+/// `OUT_OF_MEMORY`. A refused call leaves the rope as it was.
 #[unsafe(no_mangle)]
 pub extern "C" fn ropey_insert_char(
     alloc: Global,
@@ -99,13 +100,13 @@ pub extern "C" fn ropey_insert_char(
     status
 }
 
-/// Takes the characters from `start` up to `end` out, counted from 0. An empty range takes no memory and changes
-/// nothing. No text is walked.
+/// Takes the characters from `start` up to `end` out, counted from 0. An empty range takes no
+/// memory and changes nothing. No text is walked.
 ///
 /// # Errors
 ///
-/// `NO_ROPE_HELD`, then `CHAR_RANGE_OUT_OF_BOUNDS`, then `CHAR_RANGE_INVALID`, then `OUT_OF_MEMORY`. A refused call leaves
-/// the rope as it was.
+/// `NO_ROPE_HELD`, then `CHAR_RANGE_OUT_OF_BOUNDS`, then `CHAR_RANGE_INVALID`, then
+/// `OUT_OF_MEMORY`. A refused call leaves the rope as it was.
 #[unsafe(no_mangle)]
 pub extern "C" fn ropey_remove(alloc: Global, rope: &mut Handle, start: usize, end: usize) -> u32
     ensures changes { Changes rope.old.rope rope.new.rope result
@@ -149,12 +150,13 @@ fn split_off(alloc: Global, rope: &mut Rope, char_idx: usize, tail: &mut Handle)
     OK
 }
 
-/// Keeps the first `char_idx` characters, puts the others into `tail`, with the same set of line breaks, and frees the
-/// rope that `tail` held. The two share what they can. No text is walked.
+/// Keeps the first `char_idx` characters, puts the others into `tail`, with the same set of line
+/// breaks, and frees the rope that `tail` held. The two share what they can. No text is walked.
 ///
 /// # Errors
 ///
-/// `NO_ROPE_HELD`, then `CHAR_INDEX_OUT_OF_BOUNDS`, then `OUT_OF_MEMORY`. A refused call leaves both handles as they were.
+/// `NO_ROPE_HELD`, then `CHAR_INDEX_OUT_OF_BOUNDS`, then `OUT_OF_MEMORY`. A refused call leaves
+/// both handles as they were.
 #[unsafe(no_mangle)]
 pub extern "C" fn ropey_split_off(
     alloc: Global,
@@ -192,14 +194,15 @@ fn may_append(rope: &Rope, other: &Rope) -> Result<()>
     Ok(())
 }
 
-/// Puts the text of `other` behind the rope's. The rope shares what it can of the other's tree, and `other` holds no
-/// rope afterwards, also where memory was refused; every other refusal leaves it as it was. No text is walked.
+/// Puts the text of `other` behind the rope's. The rope shares what it can of the other's tree, and
+/// `other` holds no rope afterwards, also where memory was refused; every other refusal leaves it
+/// as it was. No text is walked.
 ///
 /// # Errors
 ///
-/// `NO_ROPE_HELD`, then `BREAK_SETS_DIFFER`, then `TOO_LONG`, then `OUT_OF_MEMORY`. A refused call leaves the rope as it
-/// was. A caller who needs the other rope where memory is refused appends a clone of it. Where one of two ropes with one
-/// set of line breaks is empty, no memory is taken.
+/// `NO_ROPE_HELD`, then `BREAK_SETS_DIFFER`, then `TOO_LONG`, then `OUT_OF_MEMORY`. A refused call
+/// leaves the rope as it was. A caller who needs the other rope where memory is refused appends a
+/// clone of it. Where one of two ropes with one set of line breaks is empty, no memory is taken.
 #[unsafe(no_mangle)]
 pub extern "C" fn ropey_append(alloc: Global, rope: &mut Handle, other: &mut Handle) -> u32
     ensures none { rope.old.rope ≡ None → (result ≡ NO_ROPE_HELD) × (rope.new.rope ≡ None) × (other.new.rope ≡ other.old.rope) }

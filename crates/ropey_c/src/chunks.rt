@@ -1,7 +1,7 @@
 //! The chunk of a rope at a place, as a pointer to its bytes.
 //!
-//! The bytes belong to the rope, and are lent for as long as its handle is: until it is edited or freed. Each call costs
-//! one look-up and takes no memory.
+//! The bytes belong to the rope, and are lent for as long as its handle is: until it is edited or
+//! freed. Each call costs one look-up and takes no memory.
 ghost use Rattle.std.specs.Prelude.{◌≡◌, length, MatchOption};
 ghost use Rattle.std.specs.Str.{chars};
 ghost use Rattle.rope_text.specs.Text.{byte_len};
@@ -15,8 +15,9 @@ use crate::status::{
     BYTE_INDEX_OUT_OF_BOUNDS, CHAR_INDEX_OUT_OF_BOUNDS, LINE_INDEX_OUT_OF_BOUNDS, NO_ROPE_HELD, OK,
 };
 
-/// A chunk: its bytes, which are lent, and the bytes, the characters and the line breaks of the text before it. C sees the
-/// bytes as a pointer, which is never null, and their number. Where the rope is empty all numbers are 0.
+/// A chunk: its bytes, which are lent, and the bytes, the characters and the line breaks of the
+/// text before it. C sees the bytes as a pointer, which is never null, and their number. Where the
+/// rope is empty all numbers are 0.
 #[repr(C)]
 #[derive(Drop)]
 pub struct Chunk<'a> {
@@ -65,8 +66,8 @@ fn write_chunk<'a>(
 ///
 /// # Errors
 ///
-/// `NO_ROPE_HELD`, then `BYTE_INDEX_OUT_OF_BOUNDS`, exactly where the index is past the number of bytes. Then nothing is
-/// written.
+/// `NO_ROPE_HELD`, then `BYTE_INDEX_OUT_OF_BOUNDS`, exactly where the index is past the number of
+/// bytes. Then nothing is written.
 #[unsafe(no_mangle)]
 pub extern "C" fn ropey_chunk_at_byte<'a>(
     rope: &'a Lent,
@@ -92,8 +93,8 @@ pub extern "C" fn ropey_chunk_at_byte<'a>(
 ///
 /// # Errors
 ///
-/// `NO_ROPE_HELD`, then `CHAR_INDEX_OUT_OF_BOUNDS`, exactly where the index is past the number of characters. Then nothing is
-/// written.
+/// `NO_ROPE_HELD`, then `CHAR_INDEX_OUT_OF_BOUNDS`, exactly where the index is past the number of
+/// characters. Then nothing is written.
 #[unsafe(no_mangle)]
 pub extern "C" fn ropey_chunk_at_char<'a>(
     rope: &'a Lent,
@@ -115,13 +116,13 @@ pub extern "C" fn ropey_chunk_at_char<'a>(
     )
 }
 
-/// The chunk that holds the line break before the line `line_idx`; for the first line the first chunk, and for the
-/// number of lines the last.
+/// The chunk that holds the line break before the line `line_idx`; for the first line the first
+/// chunk, and for the number of lines the last.
 ///
 /// # Errors
 ///
-/// `NO_ROPE_HELD`, then `LINE_INDEX_OUT_OF_BOUNDS`, exactly where the index is past the number of lines. Then nothing is
-/// written.
+/// `NO_ROPE_HELD`, then `LINE_INDEX_OUT_OF_BOUNDS`, exactly where the index is past the number of
+/// lines. Then nothing is written.
 #[unsafe(no_mangle)]
 pub extern "C" fn ropey_chunk_at_line_break<'a>(
     rope: &'a Lent,

@@ -1,4 +1,5 @@
-//! The texts of ropes compared, however they are cut and whatever their sets of line breaks. No call takes memory.
+//! The texts of ropes compared, however they are cut and whatever their sets of line breaks. No
+//! call takes memory.
 ghost use Rattle.std.specs.Prelude.{◌≡◌, IsTrue, ◌↔◌, Some, None};
 ghost use Rattle.std.specs.Str.{chars, IsUtf8};
 ghost use Rattle.rope_text.specs.Compare.{text_cmp};
@@ -22,8 +23,8 @@ fn sign_of(order: Ordering) -> i32
     }
 }
 
-/// The lexicographic order of the bytes of two texts: -1 where the rope's comes first, 0 where they are the same, and
-/// else 1. Reads both texts up to where they differ.
+/// The lexicographic order of the bytes of two texts: -1 where the rope's comes first, 0 where they
+/// are the same, and else 1. Reads both texts up to where they differ.
 ///
 /// # Errors
 ///

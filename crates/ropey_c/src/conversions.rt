@@ -1,7 +1,8 @@
-//! Conversions between the indices of a rope: bytes, characters, UTF-16 code units and lines, all counted from 0.
+//! Conversions between the indices of a rope: bytes, characters, UTF-16 code units and lines, all
+//! counted from 0.
 //!
-//! Each writes its answer where the caller wants it, and where it is refused it writes nothing. Each costs one look-up
-//! and takes no memory.
+//! Each writes its answer where the caller wants it, and where it is refused it writes nothing.
+//! Each costs one look-up and takes no memory.
 ghost use Rattle.std.specs.Prelude.{◌≡◌, length};
 ghost use Rattle.rope_text.specs.Text.{byte_len, utf16_len};
 ghost use Rattle.rope_text.specs.Lines.{line_count};
@@ -14,8 +15,8 @@ ghost use Rattle.ropey_c.specs.Answers.{AnswersAt};
 use crate::lent::Lent;
 use crate::status::{NO_ROPE_HELD, answer};
 
-/// The character that holds the byte `byte_idx`, also where the byte is inside the character; at the end of the
-/// text, the number of characters.
+/// The character that holds the byte `byte_idx`, also where the byte is inside the character; at
+/// the end of the text, the number of characters.
 ///
 /// # Errors
 ///
@@ -32,8 +33,8 @@ pub extern "C" fn ropey_byte_to_char(rope: &Lent, byte_idx: usize, char_idx: &mu
     answer(held.try_byte_to_char(byte_idx), char_idx)
 }
 
-/// The line on which the byte `byte_idx` lies. A byte inside a break of several bytes lies on the line that the
-/// break ends.
+/// The line on which the byte `byte_idx` lies. A byte inside a break of several bytes lies on the
+/// line that the break ends.
 ///
 /// # Errors
 ///
@@ -67,8 +68,8 @@ pub extern "C" fn ropey_char_to_byte(rope: &Lent, char_idx: usize, byte_idx: &mu
     answer(held.try_char_to_byte(char_idx), byte_idx)
 }
 
-/// The line on which the character `char_idx` lies. The place between CR and LF lies on the line that the pair
-/// ends.
+/// The line on which the character `char_idx` lies. The place between CR and LF lies on the line
+/// that the pair ends.
 ///
 /// # Errors
 ///
@@ -85,7 +86,8 @@ pub extern "C" fn ropey_char_to_line(rope: &Lent, char_idx: usize, line_idx: &mu
     answer(held.try_char_to_line(char_idx), line_idx)
 }
 
-/// The UTF-16 code unit at which the character `char_idx` starts; at the end of the text, the number of code units.
+/// The UTF-16 code unit at which the character `char_idx` starts; at the end of the text, the
+/// number of code units.
 ///
 /// # Errors
 ///
@@ -102,8 +104,8 @@ pub extern "C" fn ropey_char_to_utf16(rope: &Lent, char_idx: usize, utf16_idx: &
     answer(held.try_char_to_utf16_cu(char_idx), utf16_idx)
 }
 
-/// The character that holds the UTF-16 code unit `utf16_idx`, also where that is the second half of a surrogate
-/// pair; at the end of the text, the number of characters.
+/// The character that holds the UTF-16 code unit `utf16_idx`, also where that is the second half of
+/// a surrogate pair; at the end of the text, the number of characters.
 ///
 /// # Errors
 ///

@@ -59,13 +59,15 @@ fn copy_chars(rope: &Rope, start: usize, end: usize, buffer: &mut [u8], len: &mu
     }
 }
 
-/// Copies the text of the characters from `start` up to `end`, counted from 0, to the front of the buffer, and writes
-/// its number of bytes to `len`. The bytes of the buffer behind it stay. Costs two look-ups and a copy.
+/// Copies the text of the characters from `start` up to `end`, counted from 0, to the front of the
+/// buffer, and writes its number of bytes to `len`. The bytes of the buffer behind it stay. Costs
+/// two look-ups and a copy.
 ///
 /// # Errors
 ///
-/// `NO_ROPE_HELD`, then `CHAR_RANGE_OUT_OF_BOUNDS`, then `CHAR_RANGE_INVALID`, which write nothing; then `BUFFER_TOO_SMALL`,
-/// which writes to `len` how many bytes the buffer has to have, and nothing else.
+/// `NO_ROPE_HELD`, then `CHAR_RANGE_OUT_OF_BOUNDS`, then `CHAR_RANGE_INVALID`, which write nothing;
+/// then `BUFFER_TOO_SMALL`, which writes to `len` how many bytes the buffer has to have, and
+/// nothing else.
 #[unsafe(no_mangle)]
 pub extern "C" fn ropey_copy_chars(
     rope: &Lent,
@@ -95,14 +97,15 @@ fn copy_bytes(rope: &Rope, start: usize, end: usize, buffer: &mut [u8], len: &mu
     }
 }
 
-/// Copies the text of the bytes from `start` up to `end`, counted from 0, to the front of the buffer, and writes their
-/// number to `len`. The bytes of the buffer behind it stay. Costs two look-ups and a copy.
+/// Copies the text of the bytes from `start` up to `end`, counted from 0, to the front of the
+/// buffer, and writes their number to `len`. The bytes of the buffer behind it stay. Costs two
+/// look-ups and a copy.
 ///
 /// # Errors
 ///
-/// `NO_ROPE_HELD`, then `BYTE_RANGE_INVALID`, then `BYTE_RANGE_OUT_OF_BOUNDS`, then `BYTE_RANGE_NOT_CHAR_BOUNDARY`, which
-/// write nothing; then `BUFFER_TOO_SMALL`, which writes to `len` how many bytes the buffer has to have, and nothing
-/// else.
+/// `NO_ROPE_HELD`, then `BYTE_RANGE_INVALID`, then `BYTE_RANGE_OUT_OF_BOUNDS`, then
+/// `BYTE_RANGE_NOT_CHAR_BOUNDARY`, which write nothing; then `BUFFER_TOO_SMALL`, which writes to
+/// `len` how many bytes the buffer has to have, and nothing else.
 #[unsafe(no_mangle)]
 pub extern "C" fn ropey_copy_bytes(
     rope: &Lent,

@@ -47,12 +47,13 @@ fn count_chars(rope: &Rope, start: usize, end: usize, counts: &mut Counts) -> u3
     }
 }
 
-/// How much text the characters from `start` up to `end` are, counted from 0, as a text of their own: a CR whose LF lies
-/// outside is a line break by itself.
+/// How much text the characters from `start` up to `end` are, counted from 0, as a text of their
+/// own: a CR whose LF lies outside is a line break by itself.
 ///
 /// # Errors
 ///
-/// `NO_ROPE_HELD`, then `CHAR_RANGE_OUT_OF_BOUNDS`, then `CHAR_RANGE_INVALID`. Then nothing is written.
+/// `NO_ROPE_HELD`, then `CHAR_RANGE_OUT_OF_BOUNDS`, then `CHAR_RANGE_INVALID`. Then nothing is
+/// written.
 #[unsafe(no_mangle)]
 pub extern "C" fn ropey_counts_in_chars(
     rope: &Lent,
@@ -87,8 +88,8 @@ fn count_bytes(rope: &Rope, start: usize, end: usize, counts: &mut Counts) -> u3
 ///
 /// # Errors
 ///
-/// `NO_ROPE_HELD`, then `BYTE_RANGE_INVALID`, then `BYTE_RANGE_OUT_OF_BOUNDS`, then `BYTE_RANGE_NOT_CHAR_BOUNDARY`. Then
-/// nothing is written.
+/// `NO_ROPE_HELD`, then `BYTE_RANGE_INVALID`, then `BYTE_RANGE_OUT_OF_BOUNDS`, then
+/// `BYTE_RANGE_NOT_CHAR_BOUNDARY`. Then nothing is written.
 #[unsafe(no_mangle)]
 pub extern "C" fn ropey_counts_in_bytes(
     rope: &Lent,

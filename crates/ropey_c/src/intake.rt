@@ -14,8 +14,9 @@ use ropey::{Result, Rope, RopeBuilder};
 use std::alloc::Global;
 use std::marker::Model;
 
-/// A builder that takes bytes: what is text goes to a builder of ropes, and up to 3 bytes of a character that isn't whole
-/// yet wait for the next ones. Contracts see the text, what waits, and the refusal, if there was one.
+/// A builder that takes bytes: what is text goes to a builder of ropes, and up to 3 bytes of a
+/// character that isn't whole yet wait for the next ones. Contracts see the text, what waits, and
+/// the refusal, if there was one.
 #[derive(Drop)]
 pub struct Intake {
     texts: RopeBuilder,

@@ -1,4 +1,5 @@
-//! The lengths of a rope. Each takes constant time and no memory, and is 0 where the handle holds no rope.
+//! The lengths of a rope. Each takes constant time and no memory, and is 0 where the handle holds
+//! no rope.
 ghost use Rattle.std.specs.Prelude.{◌≡◌, length, Result, Ok};
 ghost use Rattle.rope_text.specs.Text.{byte_len, utf16_len};
 ghost use Rattle.rope_text.specs.Lines.{line_count};

@@ -7,8 +7,8 @@ ghost use Rattle.ropey_c.specs.Handles.{rope_code};
 use ropey::Rope;
 use std::marker::Model;
 
-/// The handle of a rope, as a call sees it that looks and changes nothing: C passes a pointer to `const`. Any number of
-/// such calls may have it at once.
+/// The handle of a rope, as a call sees it that looks and changes nothing: C passes a pointer to
+/// `const`. Any number of such calls may have it at once.
 #[repr(C)]
 pub struct Lent {
     ptr: *mut u8,

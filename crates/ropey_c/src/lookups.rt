@@ -1,5 +1,5 @@
-//! The bytes, the characters and the lines of a rope by their index. Each call costs a look-up or two, and takes no
-//! memory; one that is refused writes nothing.
+//! The bytes, the characters and the lines of a rope by their index. Each call costs a look-up or
+//! two, and takes no memory; one that is refused writes nothing.
 ghost use Rattle.std.specs.Prelude.{◌≡◌, ◌+◌, ◌<◌, length, slice_get, Some};
 ghost use Rattle.std.specs.Str.{encode_utf8_all};
 ghost use Rattle.rope_text.specs.Conversions.{line_to_char};
@@ -15,7 +15,8 @@ use crate::status::{
 };
 use ropey::Rope;
 
-/// A part of a text, from `start` up to `end`, which is the first that is not in it. Both are counted from 0.
+/// A part of a text, from `start` up to `end`, which is the first that is not in it. Both are
+/// counted from 0.
 #[repr(C)]
 #[derive(Clone, Copy)]
 pub struct Span {

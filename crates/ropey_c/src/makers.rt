@@ -63,7 +63,8 @@ fn make_checked(alloc: Global, text: &[u8], breaks: LineBreaks, rope: &mut Handl
 ///
 /// # Errors
 ///
-/// `UNKNOWN_BREAK_SET`, then `INVALID_UTF8`, then `OUT_OF_MEMORY`. A refused call leaves the handle as it was.
+/// `UNKNOWN_BREAK_SET`, then `INVALID_UTF8`, then `OUT_OF_MEMORY`. A refused call leaves the handle
+/// as it was.
 #[unsafe(no_mangle)]
 pub extern "C" fn ropey_from_text(
     alloc: Global,
@@ -81,8 +82,9 @@ pub extern "C" fn ropey_from_text(
     }
 }
 
-/// Makes a rope of a copy of a text that is known to be UTF-8, without reading it to find out, and frees the one that the
-/// handle held. That is its condition: what it makes of other bytes is no rope, and anything may come of it later.
+/// Makes a rope of a copy of a text that is known to be UTF-8, without reading it to find out, and
+/// frees the one that the handle held. That is its condition: what it makes of other bytes is no
+/// rope, and anything may come of it later.
 ///
 /// Takes time and memory in proportion to the text, which is at most `isize::MAX` bytes.
 ///
@@ -131,8 +133,8 @@ fn clone_into(alloc: Global, rope: &Rope, copy: &mut Handle) -> u32
     }
 }
 
-/// Makes a clone, and frees the rope that `copy` held. The clone shares every node with the rope until one of the two
-/// is edited, which leaves the other as it was. Takes constant time.
+/// Makes a clone, and frees the rope that `copy` held. The clone shares every node with the rope
+/// until one of the two is edited, which leaves the other as it was. Takes constant time.
 ///
 /// # Errors
 ///
@@ -172,14 +174,15 @@ fn keep_part(alloc: Global, part: RopeSlice<'_>, rope: &mut Handle) -> u32
     }
 }
 
-/// Makes a rope of the characters from `start` up to `end`, counted from 0, and frees the one that `copy` held. The two ropes
-/// share the nodes that lie within the range until one of them is edited, which leaves the other as it was. Takes time and
-/// memory for the nodes along the two cuts.
+/// Makes a rope of the characters from `start` up to `end`, counted from 0, and frees the one that
+/// `copy` held. The two ropes share the nodes that lie within the range until one of them is
+/// edited, which leaves the other as it was. Takes time and memory for the nodes along the two
+/// cuts.
 ///
 /// # Errors
 ///
-/// `NO_ROPE_HELD`, then `CHAR_RANGE_OUT_OF_BOUNDS`, then `CHAR_RANGE_INVALID`, then `OUT_OF_MEMORY`. A refused call leaves
-/// `copy` as it was.
+/// `NO_ROPE_HELD`, then `CHAR_RANGE_OUT_OF_BOUNDS`, then `CHAR_RANGE_INVALID`, then
+/// `OUT_OF_MEMORY`. A refused call leaves `copy` as it was.
 #[unsafe(no_mangle)]
 pub extern "C" fn ropey_clone_chars(
     alloc: Global,
@@ -197,7 +200,8 @@ pub extern "C" fn ropey_clone_chars(
     }
 }
 
-/// Cuts the text into as few chunks as `ropey_from_text` does. Takes time and memory in proportion to the text.
+/// Cuts the text into as few chunks as `ropey_from_text` does. Takes time and memory in proportion
+/// to the text.
 ///
 /// # Errors
 ///

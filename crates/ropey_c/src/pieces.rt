@@ -1,7 +1,8 @@
 //! The chunks of a rope in bulk: one look-up, and then a step a chunk.
 //!
-//! A program reads a text with it from a place on, some chunks at a time. The bytes belong to the rope, and are lent for
-//! as long as its handle is: until it is edited or freed. No call takes memory.
+//! A program reads a text with it from a place on, some chunks at a time. The bytes belong to the
+//! rope, and are lent for as long as its handle is: until it is edited or freed. No call takes
+//! memory.
 ghost use Rattle.std.specs.Prelude.{◌≡◌, length, Some};
 ghost use Rattle.std.specs.Iterator.{IsFinite};
 ghost use Rattle.std.specs.Str.{chars, encode_utf8_all};
@@ -20,7 +21,8 @@ use crate::status::{
 use rope_slice::ChunksAt;
 use ropey::Rope;
 
-/// A piece of a text: its bytes, which are lent. C sees a pointer, which is never null, and their number.
+/// A piece of a text: its bytes, which are lent. C sees a pointer, which is never null, and their
+/// number.
 #[repr(C)]
 #[derive(Drop)]
 pub struct Piece<'a> {
@@ -69,9 +71,10 @@ fn find_pieces<'a>(
     OK
 }
 
-/// The chunks from the one that holds the byte `byte_idx` on, written to `pieces` as far as there is room. Their
-/// number is written to `count`, and how many bytes lie before the first of them to `bytes_before`. At the end of the
-/// text there are none. To go on, a program asks for the byte past the last piece.
+/// The chunks from the one that holds the byte `byte_idx` on, written to `pieces` as far as there
+/// is room. Their number is written to `count`, and how many bytes lie before the first of them to
+/// `bytes_before`. At the end of the text there are none. To go on, a program asks for the byte
+/// past the last piece.
 ///
 /// # Errors
 ///
@@ -111,10 +114,10 @@ fn find_pieces_before<'a>(
     OK
 }
 
-/// The chunks before the one that holds the byte `byte_idx`, the nearest first, written to `pieces` as far as there is
-/// room. Their number is written to `count`, and how many bytes lie before the chunk that holds the byte to
-/// `bytes_before`. At the end of the text the last chunk comes first. To go on, a program asks for the first byte of the
-/// last piece.
+/// The chunks before the one that holds the byte `byte_idx`, the nearest first, written to `pieces`
+/// as far as there is room. Their number is written to `count`, and how many bytes lie before the
+/// chunk that holds the byte to `bytes_before`. At the end of the text the last chunk comes first.
+/// To go on, a program asks for the first byte of the last piece.
 ///
 /// # Errors
 ///
@@ -136,7 +139,8 @@ pub extern "C" fn ropey_chunks_before_byte<'a>(
     find_pieces_before(held, byte_idx, pieces, count, bytes_before)
 }
 
-// Writes the chunks ahead as far as there is room, how many they are, and what lies before the first of them.
+// Writes the chunks ahead as far as there is room, how many they are, and what lies before the
+// first of them.
 fn write_chunks<'a>(
     found: ChunksAt<'a>,
     pieces: &mut [Piece<'a>],
@@ -186,13 +190,14 @@ fn write_found<'a>(
     }
 }
 
-/// The chunks from the one that holds the byte `byte_idx` on, as `ropey_chunks_from_byte` gives them, with how many bytes,
-/// characters and line breaks of the text lie before the first of them. At the end of the text there are no chunks, and all of
-/// the text lies before.
+/// The chunks from the one that holds the byte `byte_idx` on, as `ropey_chunks_from_byte` gives
+/// them, with how many bytes, characters and line breaks of the text lie before the first of them.
+/// At the end of the text there are no chunks, and all of the text lies before.
 ///
 /// # Errors
 ///
-/// `NO_ROPE_HELD`, then `BYTE_INDEX_OUT_OF_BOUNDS`, exactly where the index is past the number of bytes. Then nothing is written.
+/// `NO_ROPE_HELD`, then `BYTE_INDEX_OUT_OF_BOUNDS`, exactly where the index is past the number of
+/// bytes. Then nothing is written.
 #[unsafe(no_mangle)]
 pub extern "C" fn ropey_chunks_at_byte<'a>(
     rope: &'a Lent,
@@ -226,7 +231,8 @@ pub extern "C" fn ropey_chunks_at_byte<'a>(
 ///
 /// # Errors
 ///
-/// `NO_ROPE_HELD`, then `CHAR_INDEX_OUT_OF_BOUNDS`, exactly where the index is past the number of characters. Then nothing is written.
+/// `NO_ROPE_HELD`, then `CHAR_INDEX_OUT_OF_BOUNDS`, exactly where the index is past the number of
+/// characters. Then nothing is written.
 #[unsafe(no_mangle)]
 pub extern "C" fn ropey_chunks_at_char<'a>(
     rope: &'a Lent,
@@ -256,12 +262,13 @@ pub extern "C" fn ropey_chunks_at_char<'a>(
     )
 }
 
-/// The same from the chunk on that holds the line break before the line `line_idx`, and for the first line from the first
-/// chunk on. For the number of lines there are no chunks.
+/// The same from the chunk on that holds the line break before the line `line_idx`, and for the
+/// first line from the first chunk on. For the number of lines there are no chunks.
 ///
 /// # Errors
 ///
-/// `NO_ROPE_HELD`, then `LINE_INDEX_OUT_OF_BOUNDS`, exactly where the index is past the number of lines. Then nothing is written.
+/// `NO_ROPE_HELD`, then `LINE_INDEX_OUT_OF_BOUNDS`, exactly where the index is past the number of
+/// lines. Then nothing is written.
 #[unsafe(no_mangle)]
 pub extern "C" fn ropey_chunks_at_line_break<'a>(
     rope: &'a Lent,
@@ -311,12 +318,14 @@ fn find_line_pieces<'a>(
     OK
 }
 
-/// The bytes of the line `line_idx`, counted from 0, its line break among them, and its pieces from its start on, written
-/// to `pieces` as far as there is room. Their number is written to `count`. Costs a few look-ups, and then a step a piece.
+/// The bytes of the line `line_idx`, counted from 0, its line break among them, and its pieces from
+/// its start on, written to `pieces` as far as there is room. Their number is written to `count`.
+/// Costs a few look-ups, and then a step a piece.
 ///
 /// # Errors
 ///
-/// `NO_ROPE_HELD`, then `LINE_INDEX_OUT_OF_BOUNDS`, also for the number of lines. Then nothing is written.
+/// `NO_ROPE_HELD`, then `LINE_INDEX_OUT_OF_BOUNDS`, also for the number of lines. Then nothing is
+/// written.
 #[unsafe(no_mangle)]
 pub extern "C" fn ropey_line_pieces<'a>(
     rope: &'a Lent,

@@ -1,5 +1,5 @@
-//! Places as lines and columns in UTF-16 code units, both counted from 0. Each call costs a few look-ups and takes no
-//! memory; one that is refused writes nothing.
+//! Places as lines and columns in UTF-16 code units, both counted from 0. Each call costs a few
+//! look-ups and takes no memory; one that is refused writes nothing.
 ghost use Rattle.std.specs.Prelude.{◌≡◌, length};
 ghost use Rattle.rope_text.specs.Edit.{char_index_error};
 ghost use Rattle.rope_text.specs.Position as of_text;
@@ -55,13 +55,13 @@ pub extern "C" fn ropey_char_to_position(rope: &Lent, char_idx: usize, place: &m
     answer_place(held.try_char_to_position(char_idx), place)
 }
 
-/// The last character of the line that begins at the column or before it; at the line's end, where the next line
-/// starts, or the end of the text.
+/// The last character of the line that begins at the column or before it; at the line's end, where
+/// the next line starts, or the end of the text.
 ///
 /// # Errors
 ///
-/// `NO_ROPE_HELD`, then `LINE_INDEX_OUT_OF_BOUNDS`, where there is no such line, then `UTF16_INDEX_OUT_OF_BOUNDS`, where the
-/// column is past the line's code units.
+/// `NO_ROPE_HELD`, then `LINE_INDEX_OUT_OF_BOUNDS`, where there is no such line, then
+/// `UTF16_INDEX_OUT_OF_BOUNDS`, where the column is past the line's code units.
 #[unsafe(no_mangle)]
 pub extern "C" fn ropey_position_to_char(
     rope: &Lent,

@@ -41,7 +41,8 @@ fn has_room(rope: &Rope, start: usize, end: usize, text: &str) -> bool
     text.len() <= MAX_TEXT_BYTES - len_without(rope, start, end)
 }
 
-// The rope with another text in the place of a range. It is made beside the old one, which shares what stays.
+// The rope with another text in the place of a range. It is made beside the old one, which shares
+// what stays.
 fn replaced(rope: &Rope, start: usize, end: usize, text: &str) -> Result<Rope>
     requires ordered { start ≤ end }
     requires within { end ≤ length rope.now.text }
@@ -96,12 +97,14 @@ fn replace_chars(rope: &mut Rope, start: usize, end: usize, text: &[u8]) -> u32
     }
 }
 
-/// Puts the text in the place of the characters from `start` up to `end`, counted from 0. No text of the rope is walked.
+/// Puts the text in the place of the characters from `start` up to `end`, counted from 0. No text
+/// of the rope is walked.
 ///
 /// # Errors
 ///
-/// `NO_ROPE_HELD`, then `INVALID_UTF8`, then `CHAR_RANGE_OUT_OF_BOUNDS`, then `CHAR_RANGE_INVALID`, then `TOO_LONG`, then
-/// `OUT_OF_MEMORY`. A refused call leaves the rope as it was: nothing is removed where the text can't be inserted.
+/// `NO_ROPE_HELD`, then `INVALID_UTF8`, then `CHAR_RANGE_OUT_OF_BOUNDS`, then `CHAR_RANGE_INVALID`,
+/// then `TOO_LONG`, then `OUT_OF_MEMORY`. A refused call leaves the rope as it was: nothing is
+/// removed where the text can't be inserted.
 #[unsafe(no_mangle)]
 pub extern "C" fn ropey_replace(
     alloc: Global,
@@ -140,13 +143,14 @@ fn replace_bytes(rope: &mut Rope, start: usize, end: usize, text: &[u8]) -> u32
     }
 }
 
-/// Puts the text in the place of the bytes from `start` up to `end`, counted from 0. No text of the rope is walked.
+/// Puts the text in the place of the bytes from `start` up to `end`, counted from 0. No text of the
+/// rope is walked.
 ///
 /// # Errors
 ///
-/// `NO_ROPE_HELD`, then `INVALID_UTF8`, then `BYTE_RANGE_INVALID`, then `BYTE_RANGE_OUT_OF_BOUNDS`, then
-/// `BYTE_RANGE_NOT_CHAR_BOUNDARY`, then `TOO_LONG`, then `OUT_OF_MEMORY`. A refused call leaves the rope as it was:
-/// nothing is removed where the text can't be inserted.
+/// `NO_ROPE_HELD`, then `INVALID_UTF8`, then `BYTE_RANGE_INVALID`, then `BYTE_RANGE_OUT_OF_BOUNDS`,
+/// then `BYTE_RANGE_NOT_CHAR_BOUNDARY`, then `TOO_LONG`, then `OUT_OF_MEMORY`. A refused call
+/// leaves the rope as it was: nothing is removed where the text can't be inserted.
 #[unsafe(no_mangle)]
 pub extern "C" fn ropey_replace_bytes(
     alloc: Global,

@@ -1,7 +1,7 @@
 //! Parts of a rope's text: how much they hold, and their text where it lies in one chunk.
 //!
-//! A program that draws lines or counts in a range gets with one look-up what else takes three. The bytes belong to the
-//! rope, and are lent for as long as its handle is. No call takes memory.
+//! A program that draws lines or counts in a range gets with one look-up what else takes three. The
+//! bytes belong to the rope, and are lent for as long as its handle is. No call takes memory.
 #![tactic(auto)]
 
 ghost use Rattle.std.specs.Prelude.{◌≡◌, ◌<◌, ◌≤◌, ◌↔◌, true, [], length, drop, Some, IsSome, IfSome};
@@ -28,7 +28,8 @@ use rope_text::TextInfo;
 use rope_text::range::char_bounds;
 use ropey::{Rope, RopeSlice};
 
-/// A part of a rope's text: its bytes, where one chunk has them all, and else none; and how much it holds.
+/// A part of a rope's text: its bytes, where one chunk has them all, and else none; and how much it
+/// holds.
 #[repr(C)]
 #[derive(Drop)]
 pub struct Slice<'a> {
@@ -90,7 +91,8 @@ fn find_chars<'a>(rope: &'a Rope, start: usize, end: usize, slice: &mut Slice<'a
 ///
 /// # Errors
 ///
-/// `NO_ROPE_HELD`, then `CHAR_RANGE_OUT_OF_BOUNDS`, then `CHAR_RANGE_INVALID`. Then nothing is written.
+/// `NO_ROPE_HELD`, then `CHAR_RANGE_OUT_OF_BOUNDS`, then `CHAR_RANGE_INVALID`. Then nothing is
+/// written.
 #[unsafe(no_mangle)]
 pub extern "C" fn ropey_char_slice<'a>(
     rope: &'a Lent,
@@ -111,7 +113,8 @@ pub extern "C" fn ropey_char_slice<'a>(
 ///
 /// # Errors
 ///
-/// `NO_ROPE_HELD`, then `LINE_INDEX_OUT_OF_BOUNDS`, also for the number of lines. Then nothing is written.
+/// `NO_ROPE_HELD`, then `LINE_INDEX_OUT_OF_BOUNDS`, also for the number of lines. Then nothing is
+/// written.
 #[unsafe(no_mangle)]
 pub extern "C" fn ropey_line_slice<'a>(
     rope: &'a Lent,
@@ -161,8 +164,8 @@ fn find_lines<'a>(
     OK
 }
 
-/// The lines from the line `line_idx` on, each with its line break, written to `lines` as far as there is room. Their
-/// number is written to `count`. Costs one look-up, and then a step a line.
+/// The lines from the line `line_idx` on, each with its line break, written to `lines` as far as
+/// there is room. Their number is written to `count`. Costs one look-up, and then a step a line.
 ///
 /// # Errors
 ///
@@ -198,8 +201,9 @@ fn find_lines_before<'a>(
     OK
 }
 
-/// The lines before the line `line_idx`, the nearest first, each with its line break, written to `lines` as far as there
-/// is room. Their number is written to `count`. Costs one look-up, and then a step a line.
+/// The lines before the line `line_idx`, the nearest first, each with its line break, written to
+/// `lines` as far as there is room. Their number is written to `count`. Costs one look-up, and then
+/// a step a line.
 ///
 /// # Errors
 ///
@@ -281,12 +285,14 @@ fn find_chars_at<'a>(
     }
 }
 
-/// The characters from `start` up to `end`, counted from 0, as `ropey_char_slice` gives them, and how much of the text lies
-/// before them. A line break that ends behind `start` is none of those before it.
+/// The characters from `start` up to `end`, counted from 0, as `ropey_char_slice` gives them, and
+/// how much of the text lies before them. A line break that ends behind `start` is none of those
+/// before it.
 ///
 /// # Errors
 ///
-/// `NO_ROPE_HELD`, then `CHAR_RANGE_OUT_OF_BOUNDS`, then `CHAR_RANGE_INVALID`. Then nothing is written.
+/// `NO_ROPE_HELD`, then `CHAR_RANGE_OUT_OF_BOUNDS`, then `CHAR_RANGE_INVALID`. Then nothing is
+/// written.
 #[unsafe(no_mangle)]
 pub extern "C" fn ropey_char_slice_at<'a>(
     rope: &'a Lent,
@@ -304,7 +310,8 @@ pub extern "C" fn ropey_char_slice_at<'a>(
     find_chars_at(held, start, end, slice, before)
 }
 
-// The bytes from `start` up to `end`, and how much lies before them; none where one of the two lies inside a character.
+// The bytes from `start` up to `end`, and how much lies before them; none where one of the two lies
+// inside a character.
 #[inline(always)]
 fn part_at_byte(rope: &Rope, start: usize, end: usize) -> Option<(RopeSlice<'_>, Counts)>
     requires ordered { start ≤ end }
@@ -351,13 +358,14 @@ fn find_bytes_at<'a>(
     check_bytes(rope, start, end)
 }
 
-/// The bytes from `start` up to `end`, counted from 0, as `ropey_char_slice` gives characters, and how much of the text lies
-/// before them. A line break that ends behind `start` is none of those before it.
+/// The bytes from `start` up to `end`, counted from 0, as `ropey_char_slice` gives characters, and
+/// how much of the text lies before them. A line break that ends behind `start` is none of those
+/// before it.
 ///
 /// # Errors
 ///
-/// `NO_ROPE_HELD`, then `BYTE_RANGE_INVALID`, then `BYTE_RANGE_OUT_OF_BOUNDS`, then `BYTE_RANGE_NOT_CHAR_BOUNDARY`. Then
-/// nothing is written.
+/// `NO_ROPE_HELD`, then `BYTE_RANGE_INVALID`, then `BYTE_RANGE_OUT_OF_BOUNDS`, then
+/// `BYTE_RANGE_NOT_CHAR_BOUNDARY`. Then nothing is written.
 #[unsafe(no_mangle)]
 pub extern "C" fn ropey_byte_slice_at<'a>(
     rope: &'a Lent,
@@ -395,12 +403,13 @@ fn count_chars_at(
     }
 }
 
-/// How much text the characters from `start` up to `end` are, as `ropey_counts_in_chars` counts it, and how much of the text
-/// lies before them, as `ropey_char_slice_at` does.
+/// How much text the characters from `start` up to `end` are, as `ropey_counts_in_chars` counts it,
+/// and how much of the text lies before them, as `ropey_char_slice_at` does.
 ///
 /// # Errors
 ///
-/// `NO_ROPE_HELD`, then `CHAR_RANGE_OUT_OF_BOUNDS`, then `CHAR_RANGE_INVALID`. Then nothing is written.
+/// `NO_ROPE_HELD`, then `CHAR_RANGE_OUT_OF_BOUNDS`, then `CHAR_RANGE_INVALID`. Then nothing is
+/// written.
 #[unsafe(no_mangle)]
 pub extern "C" fn ropey_counts_in_chars_at(
     rope: &Lent,
@@ -436,10 +445,11 @@ fn find_lines_at<'a>(
     OK
 }
 
-/// The lines of the text from the character `char_idx` on, each with its line break, written to `lines` as far as there is
-/// room. Their number is written to `count`, and how much of the text lies before the character to `before`. The first of
-/// them begins at that character, also where a line doesn't. A line break that ends behind it is none of those before it.
-/// Costs two look-ups, and then a step a line.
+/// The lines of the text from the character `char_idx` on, each with its line break, written to
+/// `lines` as far as there is room. Their number is written to `count`, and how much of the text
+/// lies before the character to `before`. The first of them begins at that character, also where a
+/// line doesn't. A line break that ends behind it is none of those before it. Costs two look-ups,
+/// and then a step a line.
 ///
 /// # Errors
 ///
@@ -468,7 +478,8 @@ fn before_line(rope: &Rope, front: TextInfo, line_idx: usize) -> Counts
     ensures { IsBefore rope.now.breaks rope.now.text
         (line_to_char rope.now.breaks rope.now.text line_idx) result }
 {
-    // For the proof: a rope has at most `isize::MAX` bytes, so the code units before a line are counted.
+    // For the proof: a rope has at most `isize::MAX` bytes, so the code units before a line are
+    // counted.
     let _ = rope.len_bytes();
     Counts {
         bytes: front.bytes,
@@ -496,8 +507,8 @@ fn find_lines_from_at<'a>(
     OK
 }
 
-/// The lines from the line `line_idx` on, as `ropey_lines_from` gives them, and how much of the text lies before the first of
-/// them. Costs one look-up, and then a step a line.
+/// The lines from the line `line_idx` on, as `ropey_lines_from` gives them, and how much of the
+/// text lies before the first of them. Costs one look-up, and then a step a line.
 ///
 /// # Errors
 ///

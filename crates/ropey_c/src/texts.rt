@@ -1,6 +1,6 @@
-//! Counts of plain texts, and conversions between their indices. An index past the end counts as the end. Each call but
-//! [`ropey_text_counts_unchecked`] reads the text once to see that it is UTF-8. None takes memory; one that is refused writes
-//! nothing.
+//! Counts of plain texts, and conversions between their indices. An index past the end counts as
+//! the end. Each call but [`ropey_text_counts_unchecked`] reads the text once to see that it is
+//! UTF-8. None takes memory; one that is refused writes nothing.
 ghost use Rattle.std.specs.Prelude.{◌≡◌, length};
 ghost use Rattle.std.specs.Str.{IsUtf8, chars};
 ghost use Rattle.std.specs.Str.Lossy.{utf8_valid_len};
@@ -48,8 +48,9 @@ pub extern "C" fn ropey_text_counts(text: &[u8], break_set: u32, counts: &mut Co
     OK
 }
 
-/// How much text there is, of a text that is known to be UTF-8, which is not read to find out. It has that condition, as
-/// `ropey_from_text_unchecked` does: of other bytes it may read past the end.
+/// How much text there is, of a text that is known to be UTF-8, which is not read to find out. It
+/// has that condition, as `ropey_from_text_unchecked` does: of other bytes it may read past the
+/// end.
 ///
 /// # Errors
 ///

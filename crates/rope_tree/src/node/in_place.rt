@@ -134,8 +134,8 @@ struct WayIn {
 }
 
 impl Children {
-    /// The way to the child that takes a text before the character `at`. While it follows that of the
-    /// last edit, that edit's child is tried first.
+    /// The way to the child that takes a text before the character `at`. While it follows that of
+    /// the last edit, that edit's child is tried first.
     #[inline(always)]
     fn way_in(&self, at: usize, to_right: bool, follows: bool) -> WayIn
         requires children { AreFamily self.now }

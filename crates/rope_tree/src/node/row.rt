@@ -131,7 +131,8 @@ pub(super) fn list_of(maker: &mut Maker, rows: Rows<'_>) -> Made<Rc<Children>>
     let mut list = match Rc::new(maker.alloc, none) {
         Ok(list) => list,
         Err(refused) => {
-            // It is empty, so nothing leaks; dropping it would add a 400-byte move to the path that succeeds.
+            // It is empty, so nothing leaks; dropping it would add a 400-byte move to the path that
+            // succeeds.
             mem::forget(refused);
             return Err(AllocError);
         }
