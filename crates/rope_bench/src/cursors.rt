@@ -1,4 +1,4 @@
-//! Cursors over a rope.
+//! Cursors over a rope: their starts, and all their steps in each direction.
 use crate::fault::Fault;
 use crate::lookups::byte_of;
 use crate::measure::{Outcome, mix, now, since};

@@ -1,4 +1,4 @@
-//! The workloads by name.
+//! The workloads by name, and the lists of those that each kind of sample runs.
 use crate::comparing::{Comparing, compare};
 use crate::counting::{Counting, count};
 use crate::cursors::{Walk, go_over};

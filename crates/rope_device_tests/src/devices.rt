@@ -1,4 +1,4 @@
-//! Readers and writers.
+//! Readers and writers that move as many bytes at once as they are told to, and fail when told to.
 ghost use Rattle.std.specs.Prelude.{◌≡◌, IfOk};
 
 use std::alloc::Global;

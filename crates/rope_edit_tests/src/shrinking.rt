@@ -1,4 +1,4 @@
-//! Ropes that are re-chunked.
+//! Ropes that are re-chunked after many edits have left their chunks short.
 use rope_plain::compare::{compare_unicode, expect_few_chunks, lens};
 use rope_plain::failure::Failure;
 use rope_plain::same;

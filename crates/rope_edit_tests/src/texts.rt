@@ -1,4 +1,4 @@
-//! Texts made of letters.
+//! Texts of one letter, repeated as often as a test asks for.
 use std::alloc::AllocError;
 
 /// Adds so many times a letter.

@@ -1,4 +1,4 @@
-//! Why no rope was read.
+//! Why no rope was read: the device failed, or its bytes are no text, or a rope refused them.
 ghost use Rattle.std.specs.Prelude.{◌≡◌, Some};
 ghost use Rattle.rope_io.specs.ReadErrorText.{read_error_text};
 ghost use Rattle.rope_io.specs.declared.error.ReadError.TheVariants.{Rope};

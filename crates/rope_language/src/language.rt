@@ -21,9 +21,9 @@ use std::alloc::{AllocError, Global};
 ///   `walk PART UNIT INDEX MOVES`.
 ///
 /// A PART is `ROPE`, or `ROPE:START..END` for a range of characters. A SET is `lf`, `crlf` or
-/// `unicode`, a TEXT is the rest of the line and may be empty, a CHAR is a TEXT of one character,
-/// and a BOUND is a number, or `-` where it is open. A UNIT is `bytes`, `chars`, `lines`,
-/// `chunks-b`, `chunks-c` or `chunks-l`; MOVES are one letter or more of `n`, `p` and `r`.
+/// `unicode`. A TEXT is the rest of the line and may be empty; a CHAR is a TEXT of one character. A
+/// BOUND is a number, or `-` where it is open. A UNIT is `bytes`, `chars`, `lines`, `chunks-b`,
+/// `chunks-c` or `chunks-l`; MOVES are one letter or more of `n`, `p` and `r`.
 pub(crate) fn parse(alloc: Global, line: &str) -> Result<Option<Command>, AllocError> {
     let Some((name, words)) = line.split_once(' ') else {
         return Ok(lone(line));

@@ -1,4 +1,4 @@
-//! Lines in, replies out.
+//! The loop of the program: reads a line, runs its command and writes the reply.
 ghost use Rattle.std.specs.Prelude.{◌≡◌, ◌≢◌, ◌≤◌, List, [], false, IfOk, IfErr, OnOk};
 ghost use Rattle.std.specs.Io.KnownBytes.{IsAtEnd};
 ghost use Rattle.rope_text.specs.Content.{Content};

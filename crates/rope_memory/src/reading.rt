@@ -1,4 +1,4 @@
-//! Ropes that are read.
+//! Ropes that are read from a device, again where memory was refused.
 use crate::TRIES;
 use crate::edits::{repeated, show};
 use ropey::io::{Mark, ReadError, Watched};

@@ -1,4 +1,4 @@
-//! Numbers that look random.
+//! Numbers that look random, and are the same in every run.
 ghost use Rattle.std.specs.Prelude.{◌≡◌};
 
 /// A row of numbers by a xorshift of 64 bits: the same row each time from one start.

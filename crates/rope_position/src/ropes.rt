@@ -1,4 +1,4 @@
-//! Positions in ropes.
+//! Positions in ropes, by the slice of the whole rope.
 use crate::position::{Position, Positions};
 use ropey::{Result, Rope};
 

@@ -1,4 +1,4 @@
-//! Positions in slices.
+//! Positions in slices: a line, and a column in UTF-16 code units.
 use crate::position::{Position, Positions};
 use ropey::{Error, Result, RopeSlice};
 

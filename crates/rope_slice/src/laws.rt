@@ -27,10 +27,10 @@ pub fn texts_are_compared()
         ⟦<RopeSlice<'static> as Hash>⟧.hash_input a ≡ ⟦<RopeSlice<'static> as Hash>⟧.hash_input b }
 {}
 
-/// It does nothing; its contract is the law, of `Bytes` and `Chars` in the lists of the slice's
-/// bytes and characters, of `Chunks` in that of its chunks, by the text of each, and of `Lines` in
-/// that of its lines, by what each shows: a step back undoes a step, the two sides are a cursor,
-/// and what is ahead is as many items as are left.
+/// It does nothing; its contract is the law. A step back undoes a step, the two sides are a cursor,
+/// and what is ahead is as many items as are left. `Bytes` and `Chars` are cursors over the lists
+/// of the slice's bytes and characters. `Chunks` is one over its chunks, by the text of each, and
+/// `Lines` one over its lines, by what each shows.
 pub fn steps_are_of_cursors()
     ensures undo { StepsUndo ℕ }
     ensures steps { StepsAreCursors (λ (x : ℕ). x) }

@@ -1,4 +1,4 @@
-//! Slices of plain texts.
+//! Slices of plain texts: one chunk, and lines by the set that they were made with.
 use crate::cuts::lens;
 use rope_plain::failure::Failure;
 use rope_plain::same;

@@ -1,4 +1,4 @@
-//! Trees of texts.
+//! How many nodes and levels a tree has that is built of a whole text.
 use rope_plain::failure::Failure;
 use rope_plain::same;
 use rope_text::LineBreaks;

@@ -1,4 +1,4 @@
-//! The text of a leaf.
+//! Bytes and characters put into the text of a leaf, and taken out of it.
 ghost use Rattle.std.specs.Prelude.{◌≡◌};
 ghost use Rattle.rope_text.specs.Text.{byte_len};
 

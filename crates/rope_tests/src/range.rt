@@ -1,4 +1,4 @@
-//! Index ranges.
+//! Index ranges of each kind, and how a bad one is refused.
 use rope_plain::failure::Failure;
 use rope_plain::same;
 use rope_text::range::char_bounds;

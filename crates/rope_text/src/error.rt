@@ -1,4 +1,4 @@
-//! Why calls are refused.
+//! Why calls are refused: what an `Error` says, and how it is printed.
 //!
 //! `Error::CharIndexOutOfBounds(8, 5)` prints `Char index out of bounds: char index 8,
 //! Rope/RopeSlice char length 5`.

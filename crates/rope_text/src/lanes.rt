@@ -443,7 +443,7 @@ pub(crate) fn count_breaks_before(bytes: &[u8], to: usize, breaks: LineBreaks) -
 }
 
 // What the bytes count, in blocks. Never inlined: in one function with the count of a few bytes, it
-// would make that one's counts go through memory, too, and they would have to be waited for.
+// would make that one's counts go through memory, too.
 #[inline(never)]
 fn count_many(bytes: &[u8], breaks: LineBreaks) -> TextInfo
     ensures { AreCounts breaks bytes.now result }

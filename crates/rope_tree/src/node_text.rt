@@ -1,4 +1,4 @@
-//! The text of a leaf.
+//! The text of a leaf, edited where it stays, and the places at which longer texts are cut.
 ghost use Rattle.std.specs.Prelude.{◌≡◌, ℕ, ◌+◌, ◌<◌, ◌≤◌, ◌++◌, [], true, length, take, IsTrue, IfSome};
 ghost use Rattle.std.specs.List.{insert_slice, remove_range};
 ghost use Rattle.std.specs.Str.{chars, all_scalars, IsCharBoundary, encode_utf8_all};

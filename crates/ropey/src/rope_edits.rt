@@ -284,8 +284,8 @@ impl Rope {
     /// The range's bounds are at most `len_chars()`, and its start is at most its end. An empty
     /// range takes no memory and changes nothing; any other takes memory for at most 17 d + 12
     /// nodes, where d is the rope's depth. Where the characters lie in one chunk that keeps enough
-    /// bytes, memory is taken only for copies of those nodes on the way down that are shared with
-    /// clones, and for none where nothing is shared. No text is walked.
+    /// bytes, memory is taken only for copies of nodes on the way down that are shared with clones:
+    /// for none where nothing is shared. No text is walked.
     ///
     /// # Errors
     ///

@@ -1,4 +1,4 @@
-//! A box taken apart.
+//! A box taken apart into its pointer and its allocator, with the value that it owns.
 ghost use Rattle.std.specs.Prelude.{◌≡◌};
 ghost use Rattle.std.specs.Box.Ownership.{box_owns};
 ghost use Rattle.std.specs.contracts.impls.GlobalAllocator.TheImpl.{ghosts};

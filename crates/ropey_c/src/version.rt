@@ -1,4 +1,4 @@
-//! The version of the library.
+//! The version of the library as one number: 1.2.3 is 1,002,003.
 ghost use Rattle.std.specs.Prelude.{◌≡◌};
 
 /// Major, minor and patch version: `major * 1_000_000 + minor * 1_000 + patch`.

@@ -460,9 +460,9 @@ impl Node {
         }
     }
 
-    /// Puts a text of at most 981 bytes before the character `at`, if a list on the way, but for
-    /// the lowest, has room for one child more, and all nodes on the way are this tree's own.
-    /// Returns whether it did. If memory is refused, the tree is as it was.
+    /// Puts a text of at most 981 bytes before the character `at`, and returns whether it did: if a
+    /// list on the way, but for the lowest, has room for one child more, and all nodes on the way
+    /// are this tree's own. If memory is refused, the tree is as it was.
     #[cycle(parting)]
     pub(crate) fn insert_parting(
         &mut self,
