@@ -17,9 +17,12 @@ impl History {
     /// Puts a text in, and keeps the old text.
     pub fn insert(&mut self, char_idx: usize, text: &str) -> Result<()>
         requires { char_idx ≤ length self.old.text.text }
-        ensures text { OnOk result (self.new.text.text ≡ inserted self.old.text.text char_idx (chars text.now)) }
-        ensures past { OnOk result (self.new.past.items ≡ self.old.past.items ++ self.old.text ∷ []) }
-        ensures err { OnErr result ((self.new.text ≡ self.old.text) × (self.new.past.items ≡ self.old.past.items)) }
+        ensures text { OnOk result
+            (self.new.text.text ≡ inserted self.old.text.text char_idx (chars text.now)) }
+        ensures past { OnOk result
+            (self.new.past.items ≡ self.old.past.items ++ self.old.text ∷ []) }
+        ensures err { OnErr result
+            ((self.new.text ≡ self.old.text) × (self.new.past.items ≡ self.old.past.items)) }
     {
         self.past.reserve(1)?;
         let before = self.text.clone()?;
@@ -30,7 +33,8 @@ impl History {
 
     /// Takes the newest of the old texts back; answers false where there is none.
     pub fn undo(&mut self) -> bool
-        ensures undone { OnTrue result (self.old.past.items ≡ self.new.past.items ++ self.new.text ∷ []) }
+        ensures undone { OnTrue result
+            (self.old.past.items ≡ self.new.past.items ++ self.new.text ∷ []) }
         ensures none { OnFalse result ((self.new.text ≡ self.old.text)
             × (self.old.past.items ≡ []) × (self.new.past.items ≡ [])) }
     {

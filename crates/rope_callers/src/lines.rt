@@ -18,8 +18,10 @@ pub fn all_fit(rope: &Rope, most: usize) -> bool
 /// A line before the line `line_idx` with at least `least` characters, sought from there back.
 pub fn long_line_before(rope: &Rope, line_idx: usize, least: usize) -> Option<RopeSlice<'_>>
     requires { line_idx ≤ line_count rope.now.breaks rope.now.text }
-    ensures none { IfNone result (All (λ line. length line.text < least) (lines_before rope.now line_idx)) }
-    ensures one { IfSome result (λ line. Contains (lines_before rope.now line_idx) (content_of line)) }
+    ensures none { IfNone result
+        (All (λ line. length line.text < least) (lines_before rope.now line_idx)) }
+    ensures one { IfSome result
+        (λ line. Contains (lines_before rope.now line_idx) (content_of line)) }
     ensures found { IfSome result (λ line. least ≤ length (content_of line).text) }
 {
     rope.lines_at(line_idx)

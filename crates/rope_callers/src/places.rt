@@ -11,7 +11,8 @@ use ropey::{Result, Rope};
 
 /// Puts a text behind the last character.
 pub fn put_at_end(rope: &mut Rope, text: &str) -> Result<()>
-    ensures ok { OnOk result (rope.new.text ≡ inserted rope.old.text (length rope.old.text) (chars text.now)) }
+    ensures ok { OnOk result
+        (rope.new.text ≡ inserted rope.old.text (length rope.old.text) (chars text.now)) }
     ensures err { OnErr result (rope.new ≡ rope.old) }
 {
     let end = rope.len_chars();
@@ -32,14 +33,17 @@ pub fn insert_at_byte(rope: &mut Rope, byte_idx: usize, text: &str) -> Result<()
 /// The character at which the line starts on which the character `char_idx` lies.
 pub fn line_start_of(rope: &Rope, char_idx: usize) -> usize
     requires { char_idx ≤ length rope.now.text }
-    ensures { result ≡ line_to_char rope.now.breaks rope.now.text (char_to_line rope.now.breaks rope.now.text char_idx) }
+    ensures { result
+        ≡ line_to_char rope.now.breaks rope.now.text
+        (char_to_line rope.now.breaks rope.now.text char_idx) }
 {
     rope.line_to_char(rope.char_to_line(char_idx))
 }
 
 /// Takes the line `line_idx` out, its break with it, and answers whether there is such a line.
 pub fn remove_line(rope: &mut Rope, line_idx: usize) -> Result<bool>
-    ensures found { IfOk result (λ found. IsTrue found ↔ (line_idx < line_count rope.old.breaks rope.old.text)) }
+    ensures found { IfOk result
+        (λ found. IsTrue found ↔ (line_idx < line_count rope.old.breaks rope.old.text)) }
     ensures removed { IfOk result (λ found. OnTrue found (rope.new.text
         ≡ removed rope.old.text (line_to_char rope.old.breaks rope.old.text line_idx)
         (line_to_char rope.old.breaks rope.old.text (line_idx + 1)))) }

@@ -42,7 +42,8 @@ fn write_bytes<S: Sink>(sink: &mut S, bytes: &[u8]) -> io::Result<()>
 /// text has been written, and the sink is not called again.
 pub fn write_slice<S: Sink>(slice: &RopeSlice<'_>, sink: &mut S) -> io::Result<()>
     ensures ok { OnOk result
-        (Appends (S.contents sink.old) (S.contents sink.new) (encode_utf8_all (text_of slice.now))) }
+        (Appends (S.contents sink.old) (S.contents sink.new)
+        (encode_utf8_all (text_of slice.now))) }
     ensures front { AppendsFront (S.contents sink.old) (S.contents sink.new)
         (encode_utf8_all (text_of slice.now)) }
     ensures failed { IsErr result ↔ (S.marked sink.new ≡ true) }

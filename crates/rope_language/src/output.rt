@@ -44,7 +44,8 @@ impl Output {
 
     /// Takes a reply. Where there is no room for it, what was gathered is written first.
     pub(crate) fn put<W: Write>(&mut self, writer: &mut W, reply: &[u8]) -> io::Result<()>
-        ensures { OnOk result (Puts (W.contents writer.old) (W.contents writer.new) self.old self.new reply.now) }
+        ensures { OnOk result
+            (Puts (W.contents writer.old) (W.contents writer.new) self.old self.new reply.now) }
     {
         if reply.len() <= OUTPUT_BYTES - self.filled {
             self.gather(reply);
@@ -71,7 +72,8 @@ impl Output {
 
     /// Writes what was gathered, once: after an error nothing of it is written again.
     fn write_gathered<W: Write>(&mut self, writer: &mut W) -> io::Result<()>
-        ensures ok { OnOk result (Appends (W.contents writer.old) (W.contents writer.new) self.old) }
+        ensures ok { OnOk result
+            (Appends (W.contents writer.old) (W.contents writer.new) self.old) }
         ensures empty { self.new ≡ [] }
     {
         let gathered = &self.buffer[..self.filled];
@@ -84,7 +86,8 @@ impl Output {
     /// Writes what was gathered, and flushes the writer, unless no reply was put since it was
     /// flushed.
     pub(crate) fn flush<W: Write>(&mut self, writer: &mut W) -> io::Result<()>
-        ensures written { OnOk result (Appends (W.contents writer.old) (W.contents writer.new) self.old) }
+        ensures written { OnOk result
+            (Appends (W.contents writer.old) (W.contents writer.new) self.old) }
         ensures empty { OnOk result (self.new ≡ []) }
     {
         if self.filled == 0 && self.is_flushed {

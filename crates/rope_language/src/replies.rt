@@ -84,7 +84,10 @@ fn order_word(order: Ordering) -> &'static str
 
 /// How many texts there are, and each of them quoted.
 fn write_texts(out: &mut String, texts: &[String]) -> Result<(), AllocError>
-    ensures { OnOk result (string_bytes out.new ≡ string_bytes out.old ++ (decimal (length texts.now) ++ flat_map
+    ensures { OnOk result
+        (string_bytes out.new
+        ≡ string_bytes out.old
+        ++ (decimal (length texts.now) ++ flat_map
         (λ s. codes " " ++ quoted (chars (string_bytes s))) texts.now)) }
 {
     let count = texts.len();
@@ -98,8 +101,11 @@ fn write_texts(out: &mut String, texts: &[String]) -> Result<(), AllocError>
 
 /// How many items there are, and each of them.
 fn write_items(out: &mut String, items: &[Option<Item>]) -> Result<(), AllocError>
-    ensures { OnOk result (string_bytes out.new ≡ string_bytes out.old ++ (decimal (length items.now) ++ flat_map
-        (λ item. codes " " ++ item_words item) items.now)) }
+    ensures { OnOk result
+        (string_bytes out.new
+        ≡ string_bytes out.old
+        ++ (decimal (length items.now) ++ flat_map (λ item. codes " " ++ item_words item)
+        items.now)) }
 {
     let count = items.len();
     write!(out, "{count}")?;

@@ -54,7 +54,8 @@ impl From<io::Error> for Fault {
 /// the next line is sent gets it.
 pub fn serve<R: Read, W: Write>(alloc: Global, reader: &mut R, writer: &mut W) -> Ended
     ensures done { result ≡ Ended.Done → IsAtEnd (R.remaining reader.new) }
-    ensures written { result ≢ Ended.Failed → WritesReplies (W.contents writer.old) (W.contents writer.new) }
+    ensures written { result ≢ Ended.Failed
+        → WritesReplies (W.contents writer.old) (W.contents writer.new) }
 {
     let mut output = Output::new();
     let ended = answer_lines(alloc, reader, writer, &mut output);
@@ -84,8 +85,10 @@ fn answer_lines<R: Read, W: Write>(
     output: &mut Output,
 ) -> Ended
     ensures done { result ≡ Ended.Done → IsAtEnd (R.remaining reader.new) }
-    ensures put { result ≢ Ended.Failed → (left : List Content) × PutsRun [] left (W.contents writer.old)
-        (W.contents writer.new) output.old output.new }
+    ensures put { result ≢ Ended.Failed
+        → (left : List Content)
+        × PutsRun [] left (W.contents writer.old) (W.contents writer.new)
+        output.old output.new }
 {
     let mut session = Session::new(alloc);
     let mut input = Input::new();
@@ -142,8 +145,8 @@ fn answer<W: Write>(
 ) -> Result<(), Fault>
     ensures put { OnOk result (PutsRun session.old session.new (W.contents writer.old)
         (W.contents writer.new) output.old output.new) }
-    ensures kept { IfErr result (λ fault. fault ≢ Fault.Failed → (writer.new ≡ writer.old) × (output.new
-        ≡ output.old)) }
+    ensures kept { IfErr result
+        (λ fault. fault ≢ Fault.Failed → (writer.new ≡ writer.old) × (output.new ≡ output.old)) }
 {
     let Some(line) = utf8::text_of(line) else {
         return Err(Fault::BadLine);

@@ -42,9 +42,11 @@ pub trait Positions {
     /// line; then `Utf16IndexOutOfBounds`, with the column and the line's number of code units,
     /// where the column is past them.
     fn try_position_to_char(&self, position: Position) -> Result<usize>
-        ensures { result ≡ checked (of_text.position_error (shown self.now).breaks
+        ensures { result
+            ≡ checked (of_text.position_error (shown self.now).breaks
             (shown self.now).text position.line position.column)
-            (of_text.position_to_char (shown self.now).breaks (shown self.now).text position.line position.column) };
+            (of_text.position_to_char (shown self.now).breaks
+            (shown self.now).text position.line position.column) };
 
     /// The position of the character `char_idx`, counted from 0, or of the end of the text.
     ///
@@ -66,7 +68,8 @@ pub trait Positions {
     /// There is such a line, and the column is at most its number of code units. Costs a few
     /// look-ups; takes no memory.
     fn position_to_char(&self, position: Position) -> usize
-        requires { of_text.position_error (shown self.now).breaks (shown self.now).text position.line position.column
+        requires { of_text.position_error (shown self.now).breaks
+            (shown self.now).text position.line position.column
             ≡ None }
         ensures { result ≡ of_text.position_to_char (shown self.now).breaks
             (shown self.now).text position.line position.column }

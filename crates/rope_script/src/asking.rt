@@ -27,8 +27,8 @@ use std::alloc::Global;
 
 /// A part of a rope, or none where the range is not in it.
 pub(crate) fn part_of(rope: &Rope, range: Option<(usize, usize)>) -> Option<RopeSlice<'_>>
-    ensures { MatchOption result (of_parts.part_of (content rope.now) range ≡ None) (λ part. of_parts.part_of
-        (content rope.now) range ≡ Some (content_of part)) }
+    ensures { MatchOption result (of_parts.part_of (content rope.now) range ≡ None)
+        (λ part. of_parts.part_of (content rope.now) range ≡ Some (content_of part)) }
 {
     match range {
         None => {
@@ -85,8 +85,9 @@ fn answer(alloc: Global, ropes: &[Rope], part: &RopeSlice<'_>, query: &Query) ->
 
 /// The lengths of a part.
 fn lens(part: &RopeSlice<'_>) -> Reply
-    ensures { result ≡ Reply.Lens (byte_len (text_of part.now)) (length (text_of part.now)) (line_count
-        (breaks_of part.now) (text_of part.now)) (utf16_len (text_of part.now)) }
+    ensures { result
+        ≡ Reply.Lens (byte_len (text_of part.now)) (length (text_of part.now))
+        (line_count (breaks_of part.now) (text_of part.now)) (utf16_len (text_of part.now)) }
 {
     Reply::Lens(
         part.len_bytes(),
@@ -98,8 +99,8 @@ fn lens(part: &RopeSlice<'_>) -> Reply
 
 /// The reply to a number that may be refused.
 fn number_reply(number: Result<usize>) -> Reply
-    ensures { (error : Option Error) (value : ℕ) → number ≡ checked error value → result ≡ refusal_or error
-        (Reply.Number value) }
+    ensures { (error : Option Error) (value : ℕ) → number ≡ checked error value
+        → result ≡ refusal_or error (Reply.Number value) }
 {
     match number {
         Ok(number) => Reply::Number(number),
@@ -126,8 +127,8 @@ fn convert(part: &RopeSlice<'_>, conv: Conv, index: usize) -> Result<usize>
 
 /// A byte of a part.
 fn byte(part: &RopeSlice<'_>, byte_idx: usize) -> Reply
-    ensures { MatchOption (slice_get (encode_utf8_all (text_of part.now)) byte_idx) (result ≡ Reply.Absent)
-        (λ byte. result ≡ Reply.Byte byte) }
+    ensures { MatchOption (slice_get (encode_utf8_all (text_of part.now)) byte_idx)
+        (result ≡ Reply.Absent) (λ byte. result ≡ Reply.Byte byte) }
 {
     match part.get_byte(byte_idx) {
         None => Reply::Absent,
@@ -137,8 +138,8 @@ fn byte(part: &RopeSlice<'_>, byte_idx: usize) -> Reply
 
 /// A character of a part.
 fn character(part: &RopeSlice<'_>, char_idx: usize) -> Reply
-    ensures { MatchOption (slice_get (text_of part.now) char_idx) (result ≡ Reply.Absent) (λ character. result
-        ≡ Reply.Char character) }
+    ensures { MatchOption (slice_get (text_of part.now) char_idx) (result ≡ Reply.Absent)
+        (λ character. result ≡ Reply.Char character) }
 {
     match part.get_char(char_idx) {
         None => Reply::Absent,
@@ -148,9 +149,10 @@ fn character(part: &RopeSlice<'_>, char_idx: usize) -> Reply
 
 /// A line of a part.
 fn line(alloc: Global, part: &RopeSlice<'_>, line_idx: usize) -> Result<Reply>
-    ensures line { IfOk result (λ reply. MatchBool (nat_lt line_idx (line_count (breaks_of part.now)
-        (text_of part.now)))
-        (IsTextReply reply (of_lines.line (breaks_of part.now) (text_of part.now) line_idx)) (reply ≡ Reply.Absent)) }
+    ensures line { IfOk result
+        (λ reply. MatchBool (nat_lt line_idx (line_count (breaks_of part.now) (text_of part.now)))
+        (IsTextReply reply (of_lines.line (breaks_of part.now) (text_of part.now) line_idx))
+        (reply ≡ Reply.Absent)) }
     ensures memory { IfErr result (λ e. e ≡ OutOfMemory) }
 {
     match part.get_line(line_idx) {
@@ -215,9 +217,10 @@ fn compare(
 
 /// The position of a character of a part.
 fn to_position(part: &RopeSlice<'_>, char_idx: usize) -> Reply
-    ensures { result ≡ refusal_or (char_index_error char_idx (length (text_of part.now)))
-        (Reply.Position (of_text.char_to_line (breaks_of part.now) (text_of part.now) char_idx) (char_to_column
-        (breaks_of part.now) (text_of part.now) char_idx)) }
+    ensures { result
+        ≡ refusal_or (char_index_error char_idx (length (text_of part.now)))
+        (Reply.Position (of_text.char_to_line (breaks_of part.now) (text_of part.now) char_idx)
+        (char_to_column (breaks_of part.now) (text_of part.now) char_idx)) }
 {
     match part.try_char_to_position(char_idx) {
         Ok(position) => Reply::Position(position.line, position.column),
@@ -227,7 +230,8 @@ fn to_position(part: &RopeSlice<'_>, char_idx: usize) -> Reply
 
 /// The character of a part at a position.
 fn from_position(part: &RopeSlice<'_>, line: usize, column: usize) -> Reply
-    ensures { result ≡ refusal_or (position_error (breaks_of part.now) (text_of part.now) line column)
+    ensures { result
+        ≡ refusal_or (position_error (breaks_of part.now) (text_of part.now) line column)
         (Reply.Number (position_to_char (breaks_of part.now) (text_of part.now) line column)) }
 {
     number_reply(part.try_position_to_char(Position { line, column }))

@@ -22,7 +22,8 @@ pub(crate) fn insert(ropes: &mut Vec<Rope>, rope: usize, char_idx: usize, text: 
 
 /// Inserts a character into a rope.
 pub(crate) fn insert_char(ropes: &mut Vec<Rope>, rope: usize, char_idx: usize, c: char) -> Reply
-    ensures { Inserts rope char_idx (c ∷ []) (map content ropes.old.items) result (map content ropes.new.items) }
+    ensures { Inserts rope char_idx (c ∷ []) (map content ropes.old.items) result
+        (map content ropes.new.items) }
 {
     if rope >= ropes.len() {
         return Reply::NoRope;
@@ -58,7 +59,8 @@ pub(crate) fn remove(
     start: Option<usize>,
     end: Option<usize>,
 ) -> Reply
-    ensures { Removes rope start end (map content ropes.old.items) result (map content ropes.new.items) }
+    ensures { Removes rope start end (map content ropes.old.items) result
+        (map content ropes.new.items) }
 {
     if rope >= ropes.len() {
         return Reply::NoRope;
@@ -85,7 +87,8 @@ pub(crate) fn join(ropes: &mut Vec<Rope>, rope: usize, other: usize) -> Reply
 
 /// Why the text of a second rope may not stand behind that of the first.
 fn join_error(rope: &Rope, other: &Rope) -> Option<Error>
-    ensures error { result ≡ append_error rope.now.breaks other.now.breaks rope.now.text other.now.text }
+    ensures error { result
+        ≡ append_error rope.now.breaks other.now.breaks rope.now.text other.now.text }
     ensures rope { IsRope rope.now }
     ensures other { IsRope other.now }
 {

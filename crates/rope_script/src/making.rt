@@ -14,8 +14,11 @@ use std::alloc::Global;
 
 /// Adds an empty rope with Unicode's line breaks.
 pub(crate) fn make_empty(alloc: Global, ropes: &mut Vec<Rope>) -> Result<Reply>
-    ensures step { IfOk result (λ reply. OrNoMemory (Adds [] Unicode HasFewChunks (map content ropes.old.items) reply
-        (map content ropes.new.items)) (map content ropes.old.items) reply (map content ropes.new.items)) }
+    ensures step { IfOk result
+        (λ reply. OrNoMemory
+        (Adds [] Unicode HasFewChunks (map content ropes.old.items) reply
+        (map content ropes.new.items))
+        (map content ropes.old.items) reply (map content ropes.new.items)) }
     ensures err { OnErr result (ropes.new.items ≡ ropes.old.items) }
     ensures memory { IfErr result (λ e. e ≡ OutOfMemory) }
 {
@@ -33,9 +36,11 @@ pub(crate) fn make_text(
     breaks: LineBreaks,
     text: &str,
 ) -> Result<Reply>
-    ensures step { IfOk result (λ reply. OrNoMemory (Adds (chars text.now) breaks HasFewChunks
-        (map content ropes.old.items) reply (map content ropes.new.items)) (map content ropes.old.items) reply
-        (map content ropes.new.items)) }
+    ensures step { IfOk result
+        (λ reply. OrNoMemory
+        (Adds (chars text.now) breaks HasFewChunks (map content ropes.old.items) reply
+        (map content ropes.new.items))
+        (map content ropes.old.items) reply (map content ropes.new.items)) }
     ensures err { OnErr result (ropes.new.items ≡ ropes.old.items) }
     ensures memory { IfErr result (λ e. e ≡ OutOfMemory) }
 {
@@ -48,9 +53,12 @@ pub(crate) fn make_text(
 
 /// Adds a clone of a rope.
 pub(crate) fn make_clone(ropes: &mut Vec<Rope>, rope: usize) -> Result<Reply>
-    ensures step { IfOk result (λ reply. OfRope rope (λ cloned. OrNoMemory (AddsSame cloned
-        (map content ropes.old.items) reply (map content ropes.new.items)) (map content ropes.old.items) reply
-        (map content ropes.new.items)) (map content ropes.old.items) reply (map content ropes.new.items)) }
+    ensures step { IfOk result
+        (λ reply. OfRope rope
+        (λ cloned. OrNoMemory
+        (AddsSame cloned (map content ropes.old.items) reply (map content ropes.new.items))
+        (map content ropes.old.items) reply (map content ropes.new.items))
+        (map content ropes.old.items) reply (map content ropes.new.items)) }
     ensures err { OnErr result (ropes.new.items ≡ ropes.old.items) }
     ensures memory { IfErr result (λ e. e ≡ OutOfMemory) }
 {

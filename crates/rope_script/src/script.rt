@@ -1,4 +1,5 @@
-//! Commands, queries and replies.
+//! What a session of ropes may be asked, and what it replies: commands that make and change ropes,
+//! queries that read them, and a reply for each.
 use ropey::{Error, LineBreaks};
 use std::cmp::Ordering;
 

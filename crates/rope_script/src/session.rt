@@ -50,8 +50,10 @@ impl Session {
     /// could not grow. The command that met it has done nothing, and those before it are done.
     pub fn run(&mut self, commands: &[Command], replies: &mut Vec<Reply>) -> Result<()>
         ensures run { Ran self.old commands.now replies.old.items replies.new.items self.new }
-        ensures all { OnOk result (vec_len replies.new ≡ vec_len replies.old + length commands.now) }
-        ensures stopped { OnErr result (vec_len replies.new < vec_len replies.old + length commands.now) }
+        ensures all { OnOk result
+            (vec_len replies.new ≡ vec_len replies.old + length commands.now) }
+        ensures stopped { OnErr result
+            (vec_len replies.new < vec_len replies.old + length commands.now) }
         ensures err { IfErr result (λ e. e ≡ OutOfMemory) }
     {
         for command in commands {

@@ -12,7 +12,8 @@ use std::alloc::Global;
 
 /// The chunks of a part, each copied.
 pub(crate) fn chunk_texts(alloc: Global, part: &RopeSlice<'_>) -> Result<Vec<String>>
-    ensures texts { IfOk result (λ texts. map (λ s. chars (string_bytes s)) texts.items ≡ chunks_of part.now) }
+    ensures texts { IfOk result
+        (λ texts. map (λ s. chars (string_bytes s)) texts.items ≡ chunks_of part.now) }
     ensures memory { IfErr result (λ e. e ≡ OutOfMemory) }
 {
     let mut texts = Vec::new(alloc);
@@ -25,8 +26,9 @@ pub(crate) fn chunk_texts(alloc: Global, part: &RopeSlice<'_>) -> Result<Vec<Str
 
 /// A copy of the next chunk, if there is one.
 fn copy_next(alloc: Global, chunks: &mut Chunks<'_>) -> Result<Option<String>>
-    ensures next { IfOk result (λ next. MatchOption next (ahead chunks.old ≡ []) (λ text. ahead chunks.old ≡ chars
-        (string_bytes text) ∷ ahead chunks.new)) }
+    ensures next { IfOk result
+        (λ next. MatchOption next (ahead chunks.old ≡ [])
+        (λ text. ahead chunks.old ≡ chars (string_bytes text) ∷ ahead chunks.new)) }
     ensures memory { IfErr result (λ e. e ≡ OutOfMemory) }
 {
     match chunks.next() {

@@ -16,20 +16,22 @@ pub(crate) trait Walker {
 
     /// The next item, or none at the end, where it stays.
     fn next_item(&mut self, alloc: Global) -> Result<Option<Item>>
-        ensures item { IfOk result (λ item. (moves : List moves.Move) (items : List (Option items.Item))
+        ensures item { IfOk result
+            (λ item. (moves : List moves.Move) (items : List (Option items.Item))
             → gives self.new moves items → gives self.old (Move.Next ∷ moves) (item ∷ items)) }
         ensures memory { IfErr result (λ e. e ≡ OutOfMemory) };
 
     /// The item before, or none at the start, where it stays.
     fn prev_item(&mut self, alloc: Global) -> Result<Option<Item>>
-        ensures item { IfOk result (λ item. (moves : List moves.Move) (items : List (Option items.Item))
+        ensures item { IfOk result
+            (λ item. (moves : List moves.Move) (items : List (Option items.Item))
             → gives self.new moves items → gives self.old (Move.Prev ∷ moves) (item ∷ items)) }
         ensures memory { IfErr result (λ e. e ≡ OutOfMemory) };
 
     /// Turns it round.
     fn turn(&mut self)
-        ensures { (moves : List moves.Move) (items : List (Option items.Item)) → gives self.new moves items
-            → gives self.old (Move.Reverse ∷ moves) items };
+        ensures { (moves : List moves.Move) (items : List (Option items.Item))
+            → gives self.new moves items → gives self.old (Move.Reverse ∷ moves) items };
 
     ghost ends: { (s : Self) → gives s [] [] };
 }

@@ -36,8 +36,9 @@ pub(crate) fn walk(
 }
 
 fn walk_bytes(alloc: Global, part: &RopeSlice<'_>, index: usize, moves: &[Move]) -> Result<Reply>
-    ensures walk { IfOk result (Walks IsByteItem (nat_le index (byte_len (text_of part.now))) (encode_utf8_all
-        (text_of part.now)) index moves.now) }
+    ensures walk { IfOk result
+        (Walks IsByteItem (nat_le index (byte_len (text_of part.now)))
+        (encode_utf8_all (text_of part.now)) index moves.now) }
     ensures memory { IfErr result (λ e. e ≡ OutOfMemory) }
 {
     match part.get_bytes_at(index) {
@@ -58,7 +59,8 @@ fn walk_chars(alloc: Global, part: &RopeSlice<'_>, index: usize, moves: &[Move])
 }
 
 fn walk_lines(alloc: Global, part: &RopeSlice<'_>, index: usize, moves: &[Move]) -> Result<Reply>
-    ensures walk { IfOk result (Walks IsLineItem (nat_le index (line_count (breaks_of part.now) (text_of part.now)))
+    ensures walk { IfOk result
+        (Walks IsLineItem (nat_le index (line_count (breaks_of part.now) (text_of part.now)))
         (lines_of (content_of part.now)) index moves.now) }
     ensures memory { IfErr result (λ e. e ≡ OutOfMemory) }
 {
@@ -75,7 +77,8 @@ fn walk_chunks(
     index: usize,
     moves: &[Move],
 ) -> Result<Reply>
-    ensures walk { IfOk result (Walks IsTextItem (is_inside (content_of part.now) at index) (chunks_of part.now)
+    ensures walk { IfOk result
+        (Walks IsTextItem (is_inside (content_of part.now) at index) (chunks_of part.now)
         (chunk_place (content_of part.now) at index) moves.now) }
     ensures memory { IfErr result (λ e. e ≡ OutOfMemory) }
 {
@@ -89,8 +92,9 @@ fn walk_chunks(
 /// the end.
 fn chunks_from<'a>(part: &RopeSlice<'a>, at: At, index: usize) -> Option<Chunks<'a>>
     ensures { MatchOption result (is_inside (content_of part.now) at index ≡ false)
-        (λ chunks. (is_inside (content_of part.now) at index ≡ true) × (chunks ≡ at_place (chunks_of part.now)
-        (chunk_place (content_of part.now) at index))) }
+        (λ chunks. (is_inside (content_of part.now) at index ≡ true)
+        × (chunks
+        ≡ at_place (chunks_of part.now) (chunk_place (content_of part.now) at index))) }
 {
     let found = match at {
         At::Byte => part.get_chunks_at_byte(index),

@@ -96,12 +96,6 @@ module _ (breaks : LineBreaks) (p : Place) (b : ℕ) (g : IsCaret p b) (info : T
       let j : ℕ = byte_to_char p.here b in
       small_of breaks (first_line breaks (drop j p.here)) info e (omega (arith, parts_fit, size_front (line_start breaks (drop j p.here) 1) (drop j p.here)))
 
-  pub line_small : (line : TextInfo) → line ≡ info_of breaks (first_line breaks (halves_at p b).back) → IsSmall line
-  line_small line is =
-      let back : List ℕ = (halves_at p b).back in
-      small_of breaks (first_line breaks back) line is
-      (omega (arith, parts_fit, size_two (drop (byte_to_char p.here b) p.here) (concat p.after), size_front (line_start breaks back 1) back))
-
   pub place_fits : b + info.bytes < 2 ^ 63
   place_fits =
       let j : ℕ = byte_to_char p.here b in

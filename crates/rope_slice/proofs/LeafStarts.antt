@@ -25,7 +25,7 @@ use Rattle.rope_slice.proofs.ClippedChunks.{size_of_part, cons_some}
 use Rattle.rope_slice.proofs.Measured.{Measured, measured}
 use Rattle.rope_slice.proofs.LeafParts.{leaf_in, meets_byte, meets_char}
 use Rattle.rope_slice.specs.Path.{Place, leaves, HoldsPlace}
-use Rattle.rope_slice.specs.Span.{alone, edge_at, clipped_place, clipped_at, IsWithin, IsSpan}
+use Rattle.rope_slice.specs.Span.{alone, edge_at, clipped_place, clipped_at, IsWithin, IsSpan, IsSpanFrom}
 use Rattle.rope_slice.specs.Starts.{AreBefore, IsItem, IsHolding, size_in}
 use Rattle.rope_slice.proofs.Spans.{bytes_before_within, leaves_clipped, some_leaf}
 use Rattle.rope_text.specs.declared.line_breaks.LineBreaks.{LineBreaks}
@@ -221,8 +221,9 @@ module _ (t : Tree) (start end : TextInfo) (tree : IsTree t) (s : IsExcerpt t.br
   meets : (info.chars < end.chars) × (start.chars < info.chars + length p.here)
   meets = meets_in t start end s idx place p info e unit i at h
 
-  pub span_here : IsSpan p info.bytes (edge_at (leaves p) start.bytes) (edge_at (leaves p) end.bytes)
-  span_here = is_span t start end p info tree s e h.info_is meets.0 meets.1
+  pub span_here : IsSpanFrom p start.bytes end.bytes
+  span_here =
+      subst (λ (n : ℕ). IsSpan p n (edge_at (leaves p) start.bytes) (edge_at (leaves p) end.bytes)) (ap (λ x. x.bytes) h.info_is) (is_span t start end p info tree s e h.info_is meets.0 meets.1)
 
   pub holds_here : idx ≤ size_in unit (slice_range (text t) start.chars end.chars)
       → IsHolding unit idx (record { text = slice_range (text t) start.chars end.chars; chunks = clip t.leaves start.chars end.chars; breaks = t.breaks }) (clipped_at p start.bytes end.bytes)

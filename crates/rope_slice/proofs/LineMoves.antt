@@ -6,7 +6,7 @@ use Rattle.std.proofs.Math.Seq.{drop-append_seam}
 use Rattle.rope_text.specs.declared.line_breaks.LineBreaks.{LineBreaks}
 use Rattle.rope_text.specs.declared.text_info.TextInfo.{TextInfo}
 use Rattle.rope_text.specs.Content.{Content}
-use Rattle.rope_text.specs.TextInfo.{info_of, info_sum}
+use Rattle.rope_text.specs.TextInfo.{info_of, info_sum, HasSum}
 use Rattle.rope_text.specs.Lines.{line_start, line_count}
 use Rattle.rope_text.specs.Cutting.{parts_crlf}
 use Rattle.rope_text.specs.LineParts.{first_line, last_start}
@@ -20,7 +20,7 @@ use Rattle.rope_slice.specs.InChunk.{IsInChunk}
 use Rattle.rope_slice.proofs.InChunks.{in_chunk_end}
 use Rattle.rope_slice.specs.Caret.{Halves, HoldsAhead}
 use Rattle.rope_slice.specs.Lines.{IsLineStart}
-use Rattle.rope_tree.specs.Search.{IsSmall}
+use Rattle.rope_tree.proofs.Infos.{sum_of_small}
 use Rattle.rope_slice.proofs.Carets.{small_of, size_front}
 
 -- a step forward
@@ -61,14 +61,14 @@ module _ (c : Content) (h : Halves) (before : TextInfo) (l total : ℕ) (breaks 
         fits = s.fits;
       }
 
-  pub next_small : IsSmall before × IsSmall passed_on
-  next_small =
+  pub next_sum : HasSum before passed_on
+  next_sum =
       let sum = next_counts c.breaks c.text l inside in
       let size = ap (λ x. x.bytes) sum in
-      let most = size_front (line_start c.breaks c.text (l + 1)) c.text in (
-        small_of c.breaks (take (line_start c.breaks c.text l) c.text) before s.before_is (omega (arith, s.fits)),
-        small_of c.breaks (slice_range c.text (line_start c.breaks c.text l) (line_start c.breaks c.text (l + 1))) passed_on counts_are (omega (arith, s.fits)),
-      )
+      let most = size_front (line_start c.breaks c.text (l + 1)) c.text in
+      sum_of_small before passed_on
+      (small_of c.breaks (take (line_start c.breaks c.text l) c.text) before s.before_is (omega (arith, s.fits)))
+      (small_of c.breaks (slice_range c.text (line_start c.breaks c.text l) (line_start c.breaks c.text (l + 1))) passed_on counts_are (omega (arith, s.fits)))
 
 -- a line starts in no CR LF
 pub start_apart : (c : Content) (h : Halves) (before : TextInfo) (l total : ℕ) → IsLineStart c h before l total → parts_crlf h.front h.back ≡ false

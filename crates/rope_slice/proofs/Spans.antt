@@ -1,5 +1,6 @@
 -- A way to a leaf within a part: what of the leaf lies in the part, and the steps to the chunk before and after.
-use Rattle.std.proofs.Common.{◌≡◌, ℕ, ◌+◌, ◌-◌, ◌<◌, ◌≤◌, min, List, [], ◌∷◌, ◌++◌, length, take, refl, sym, ap, subst, ◌∙◌, arith, inl, inr, All, append_assoc}
+use Rattle.std.proofs.Common.{◌≡◌, ℕ, Bool, true, false, ◌+◌, ◌-◌, ◌<◌, ◌≤◌, min, List, [], ◌∷◌, ◌++◌, length, take, refl, sym, ap, subst, ◌∙◌, arith, inl, inr, All, append_assoc}
+use Rattle.std.specs.Bool.{OnTrue, OnFalse}
 use Rattle.std.specs.List.{concat, slice_range}
 use Rattle.std.proofs.lemmas.Bool.{cases_lt}
 use Rattle.std.proofs.lemmas.List.{append-nil, length-append, nil_from_length, take_all, take_at, take-append-le}
@@ -13,7 +14,7 @@ use Rattle.rope_text.proofs.Measures.{IsMeasure-byte_len, size_le, size_lt, size
 use Rattle.rope_text.proofs.CuttingLaws.{concat-append}
 use Rattle.rope_text.proofs.ClipLaws.{clip_empty, concat-clip, length-slice_range, slice_range_past}
 use Rattle.rope_slice.specs.Path.{Place, IsNext, leaves}
-use Rattle.rope_slice.specs.Span.{alone, Edge, edge_at, clipped_place, clipped_at, IsWithin, IsSpan}
+use Rattle.rope_slice.specs.Span.{alone, Edge, edge_at, clipped_place, clipped_at, IsWithin, IsSpan, IsSpanFrom}
 use Rattle.rope_slice.proofs.ClippedChunks.{clip-append, cons_some, size_of_part}
 
 -- the bytes of a text's middle part up to a place of the text
@@ -249,45 +250,52 @@ pub record IsCut (p : Place) (start : ℕ) (from to : Edge) : Type 0 where
 pub cut : (p : Place) (start : ℕ) (from to : Edge) → IsSpan p start from to → IsCut p start from to
 cut p start from to h = record { in_order = in_order p start from to h; ordered = omega (arith, h.ordered); low = low_here p start from to h; high = high_here p start from to h }
 
--- a step to the next leaf, or to the one before
-pub record Steps (p q : Place) (start from to : ℕ) : Type 0 where
-  pub is_span : IsSpan q start (edge_at (leaves q) from) (edge_at (leaves q) to)
+-- the way goes from one leaf to the next within the part
+pub record Steps (p q : Place) (from to : ℕ) : Type 0 where
+  pub before : IsSpanFrom p from to
+  pub behind : IsSpanFrom q from to
   pub moved : IsNext (clipped_at p from to) (clipped_at q from to)
 
-pub record StepsBack (p q : Place) (start len from to : ℕ) : Type 0 where
-  pub room : len ≤ start
-  pub is_span : IsSpan p (start - len) (edge_at (leaves p) from) (edge_at (leaves p) to)
-  pub moved : IsNext (clipped_at p from to) (clipped_at q from to)
-
-pub span_next : (p q : Place) (start len from to : ℕ) → IsSpan p start (edge_at (leaves p) from) (edge_at (leaves p) to) → len ≡ byte_len p.here → IsNext p q → len < to - start → Steps p q (start + len) from to
-span_next p q start len from to h e n l =
+pub span_next : (p q : Place) (from to : ℕ) → IsSpanFrom p from to → IsNext p q → byte_len p.here < to - byte_len (concat p.before) → Steps p q from to
+span_next p q from to h n l =
+    let start : ℕ = byte_len (concat p.before) in
     let a = edge_at (leaves p) from in
     let b = edge_at (leaves p) to in
     let w = within_span p start a b h (omega arith) in
     let more = ends_later p start a b w (omega arith) in
     let v = within_next p q n start a b w more in
-    let is_span : IsSpan q (start + len) a b = record { some = λ _. rw e v; none = λ none. absurd (omega (arith, w.some)); ordered = h.ordered } in
+    let is_span : IsSpan q (start + byte_len p.here) a b = record { some = λ _. v; none = λ none. absurd (omega (arith, w.some)); ordered = h.ordered } in
     let moved = clipped_next p q n a.chars b.chars w.ends v.starts (some_leaf p w.solid) (some_leaf q v.solid) in
     let same = sym (leaves_next p q n) in
     record {
-      is_span = subst (λ (ls : List (List ℕ)). IsSpan q (start + len) (edge_at ls from) (edge_at ls to)) same is_span;
+      before = h;
+      behind = subst (λ (k : ℕ). IsSpan q k (edge_at (leaves q) from) (edge_at (leaves q) to)) (sym (bytes_next p q n))
+          (subst (λ (ls : List (List ℕ)). IsSpan q (start + byte_len p.here) (edge_at ls from) (edge_at ls to)) same is_span);
       moved = subst (λ (ls : List (List ℕ)). IsNext (clipped_at p from to) (clipped_place q (edge_at ls from).chars (edge_at ls to).chars)) same moved;
     }
 
-pub span_prev : (p q : Place) (start len from to : ℕ) → IsSpan q start (edge_at (leaves q) from) (edge_at (leaves q) to) → len ≡ byte_len p.here → IsNext p q → from < start → StepsBack p q start len from to
-span_prev p q start len from to h e n l =
+pub span_prev : (p q : Place) (from to : ℕ) → IsSpanFrom q from to → IsNext p q → from < byte_len (concat q.before) → Steps p q from to
+span_prev p q from to h n l =
+    let start : ℕ = byte_len (concat q.before) in
     let a = edge_at (leaves q) from in
     let b = edge_at (leaves q) to in
     let w = within_span q start a b h (omega arith) in
     let v = within_prev p q n start a b w l in
-    let is_span : IsSpan p (start - len) a b = record { some = λ _. rw e v; none = λ none. absurd (omega (arith, w.some)); ordered = h.ordered } in
+    let is_span : IsSpan p (start - byte_len p.here) a b = record { some = λ _. v; none = λ none. absurd (omega (arith, w.some)); ordered = h.ordered } in
     let moved = clipped_next p q n a.chars b.chars v.ends w.starts (some_leaf p v.solid) (some_leaf q w.solid) in
     let same = leaves_next p q n in
+    let first : start - byte_len p.here ≡ byte_len (concat p.before) = omega (arith, bytes_next p q n) in
     record {
-      room = omega (arith, bytes_next p q n, w.start_is);
-      is_span = subst (λ (ls : List (List ℕ)). IsSpan p (start - len) (edge_at ls from) (edge_at ls to)) same is_span;
+      before = subst (λ (k : ℕ). IsSpan p k (edge_at (leaves p) from) (edge_at (leaves p) to)) first
+          (subst (λ (ls : List (List ℕ)). IsSpan p (start - byte_len p.here) (edge_at ls from) (edge_at ls to)) same is_span);
+      behind = h;
       moved = subst (λ (ls : List (List ℕ)). IsNext (clipped_place p (edge_at ls from).chars (edge_at ls to).chars) (clipped_at q from to)) same moved;
     }
+
+-- where the way may have stayed
+pub span_after : (old new : Place) (from to : ℕ) (moved : Bool) → IsSpanFrom old from to → OnTrue moved (IsSpanFrom new from to) → OnFalse moved (new ≡ old) → IsSpanFrom new from to
+span_after old new from to true h goes stays = goes
+span_after old new from to false h goes stays = subst (λ (p : Place). IsSpanFrom p from to) (sym stays) h
 
 -- a text as the only leaf
 alone_by : (before after : List (List ℕ)) (here text : List ℕ) → before ≡ [] → here ≡ text → after ≡ [] → record { before = before; here = here; after = after } ≡ alone text

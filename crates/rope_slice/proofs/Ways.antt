@@ -189,12 +189,12 @@ module _ (t : Tree) (nodes : List Tree) (at : ℕ) (leaf : List ℕ) (start : �
   start_way = ap (λ p. byte_len (concat p.before)) way_is ∙ sym w.start_is
 
   -- the node beside it
-  leaf_at : (i : ℕ) (n : Tree) (x : List ℕ) → i < length nodes → n ≡ get_or nodes i n → n.leaves ≡ x ∷ [] → x ≡ get_or t.leaves ((w.index - at) + i) []
-  leaf_at i n x within is own =
-      let e : x ∷ [] ≡ get_or t.leaves ((w.index - at) + i) [] ∷ [] = sym own ∙ ap (λ u. u.leaves) is ∙ w.list.each i n within in
+  leaf_at : (i : ℕ) (x : List ℕ) → i < length nodes → ((d : Tree) → (get_or nodes i d).leaves ≡ x ∷ []) → x ≡ get_or t.leaves ((w.index - at) + i) []
+  leaf_at i x within own =
+      let e : x ∷ [] ≡ get_or t.leaves ((w.index - at) + i) [] ∷ [] = sym (own t) ∙ w.list.each i t within in
       cc
 
-  module _ (n : Tree) (x : List ℕ) (is_more : at + 1 < length nodes) (is : n ≡ get_or nodes (at + 1) n) (own : n.leaves ≡ x ∷ []) where
+  module _ (x : List ℕ) (is_more : at + 1 < length nodes) (own : (d : Tree) → (get_or nodes (at + 1) d).leaves ≡ x ∷ []) where
     pub way_on : IsWay t nodes (at + 1) x (start + byte_len leaf)
     way_on =
         let l = w.list in
@@ -207,7 +207,7 @@ module _ (t : Tree) (nodes : List Tree) (at : ℕ) (leaf : List ℕ) (start : �
           tree = w.tree;
           index = w.index + 1;
           within = omega (arith, last, is_more, first);
-          leaf_is = leaf_at (at + 1) n x is_more is own ∙ ap (λ k. get_or t.leaves k []) here;
+          leaf_is = leaf_at (at + 1) x is_more own ∙ ap (λ k. get_or t.leaves k []) here;
           start_is = omega (arith, w.start_is, ap (λ k. byte_len (concat (take k t.leaves))) next, ap byte_len (before_more t.leaves w.index w.within), IsMeasure-byte_len.joined (before t.leaves w.index) (get_or t.leaves w.index []), ap byte_len w.leaf_is);
           list = record {
             here = λ _. is_more;
@@ -219,7 +219,7 @@ module _ (t : Tree) (nodes : List Tree) (at : ℕ) (leaf : List ℕ) (start : �
           };
         }
 
-  module _ (n : Tree) (x : List ℕ) (later : 0 < at) (inside : at < length nodes) (is : n ≡ get_or nodes (at - 1) n) (own : n.leaves ≡ x ∷ []) where
+  module _ (x : List ℕ) (later : 0 < at) (inside : at < length nodes) (own : (d : Tree) → (get_or nodes (at - 1) d).leaves ≡ x ∷ []) where
     pub way_back : IsWay t nodes (at - 1) x (start - byte_len x) × (byte_len x ≤ start)
     way_back =
         let l = w.list in
@@ -229,7 +229,7 @@ module _ (t : Tree) (nodes : List Tree) (at : ℕ) (leaf : List ℕ) (start : �
         let same : k - (at - 1) ≡ w.index - at = omega arith in
         let here : (w.index - at) + (at - 1) ≡ k = omega arith in
         let up : suc k ≡ w.index = omega arith in
-        let leaf_is = leaf_at (at - 1) n x (omega arith) is own ∙ ap (λ j. get_or t.leaves j []) here in
+        let leaf_is = leaf_at (at - 1) x (omega arith) own ∙ ap (λ j. get_or t.leaves j []) here in
         let within : k < length t.leaves = omega (arith, w.within) in
         let size : start ≡ byte_len (concat (take k t.leaves)) + byte_len x =
         w.start_is ∙ ap (λ j. byte_len (concat (take j t.leaves))) (sym up) ∙ ap byte_len (before_more t.leaves k within) ∙ IsMeasure-byte_len.joined (before t.leaves k) (get_or t.leaves k []) ∙ ap (λ y. byte_len (before t.leaves k) + byte_len y) (sym leaf_is) in (

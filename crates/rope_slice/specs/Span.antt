@@ -63,5 +63,5 @@ pub record IsSpan (p : Place) (start : ℕ) (from to : Edge) : Type 0 where
   pub ordered : from.chars ≤ to.chars
 
 -- the same, of the part from one byte up to another
-abbrev pub IsSpanFrom : Place → ℕ → ℕ → ℕ → Type 0
-IsSpanFrom p start from to = IsSpan p start (edge_at (leaves p) from) (edge_at (leaves p) to)
+abbrev pub IsSpanFrom : Place → ℕ → ℕ → Type 0
+IsSpanFrom p from to = IsSpan p (byte_len (concat p.before)) (edge_at (leaves p) from) (edge_at (leaves p) to)

@@ -1,10 +1,13 @@
 -- How a path keeps its leaf: by the byte at which that starts, and by the list in which it stands.
-use Rattle.std.specs.Prelude.{◌≡◌, ℕ, ◌+◌, ◌-◌, ◌<◌, ◌≤◌, List, [], ◌∷◌, length, take, drop, get_or, All}
+use Rattle.std.specs.Prelude.{◌≡◌, ℕ, ◌+◌, ◌-◌, ◌<◌, ◌≤◌, Option, List, [], ◌∷◌, length, take, drop, get_or, All, IsSomeAnd}
+use Rattle.std.specs.Borrow.{Bor}
 use Rattle.std.specs.List.{concat}
 use Rattle.rope_text.specs.declared.TheConstants.{MAX_CHILDREN}
 use Rattle.rope_text.specs.Text.{byte_len}
 use Rattle.rope_text.specs.Lookup.{chunk_index_at_byte}
-use Rattle.rope_tree.specs.Tree.{Tree, IsTree}
+use Rattle.rope_text.specs.declared.text_info.TextInfo.{TextInfo}
+use Rattle.rope_tree.specs.Tree.{Tree, IsTree, tree_over}
+use Rattle.rope_tree.specs.View.{IsInnerOf}
 use Rattle.rope_slice.specs.Path.{Place}
 
 -- the place among the leaves of the one that starts at a byte
@@ -33,3 +36,12 @@ pub record IsWay (t : Tree) (nodes : List Tree) (at : ℕ) (leaf : List ℕ) (st
   pub leaf_is : leaf ≡ get_or t.leaves index []
   pub start_is : start ≡ byte_len (concat (take index t.leaves))
   pub list : AreInList t.leaves index nodes at
+
+-- these nodes are the children of one, with their running totals
+abbrev pub AreListed : List Tree → Option (Bor (List TextInfo)) → Type 0
+AreListed nodes totals = IsSomeAnd totals (λ sums. IsInnerOf (tree_over nodes) nodes sums.now)
+
+-- a way whose list, if it has one, has its totals at hand
+pub record IsListedWay (t : Tree) (nodes : List Tree) (totals : Option (Bor (List TextInfo))) (at : ℕ) (leaf : List ℕ) (start : ℕ) : Type 0 where
+  pub way : IsWay t nodes at leaf start
+  pub listed : 0 < length nodes → AreListed nodes totals

@@ -12,6 +12,7 @@ ghost use Rattle.rope_text.specs.Sides.{ahead, at_start, turned, GoesRight, Goes
 ghost use Rattle.rope_slice.specs.Slice.{content_of, text_of, chunks_of, breaks_of};
 ghost use Rattle.rope_slice.specs.Starts.{IsItem, size_in, chunk_place};
 
+use crate::path::Heads;
 use crate::slice::{RopeSlice, within};
 use crate::span::Span;
 use rope_tree::{Unit, count};
@@ -174,7 +175,7 @@ impl<'a> Chunks<'a> {
         if self.is_empty {
             return None;
         }
-        if self.is_past != is_left && !self.span.step(is_left) {
+        if self.is_past != is_left && !self.span.step(is_left, Heads::Left) {
             return None;
         }
         self.is_past = !is_left;

@@ -3,6 +3,7 @@ ghost use Rattle.std.specs.Prelude.{◌≡◌, ℕ, ◌+◌, ◌<◌, ◌≤◌,
 ghost use Rattle.std.proofs.Common.{rules};
 ghost use Rattle.rope_text.specs.Compare.{blocks};
 
+use crate::path::Heads;
 use crate::pieces::Pieces;
 use crate::slice::RopeSlice;
 use std::hash::{Hash, Hasher};
@@ -66,7 +67,7 @@ impl<'a> Hash for RopeSlice<'a> {
         let (mut piece, mut pieces) = Pieces::of(self);
         while !piece.is_empty() {
             held = feed_piece(state, &mut block, held, piece);
-            piece = pieces.next_piece();
+            piece = pieces.next_piece(Heads::Touched);
         }
         if held > 0 {
             state.write(&block[..held]);

@@ -10,8 +10,7 @@ ghost use Rattle.rope_text.specs.Cutting.{parts_crlf};
 ghost use Rattle.rope_text.specs.Lines.{line_count};
 ghost use Rattle.rope_text.specs.LineParts.{part_between, line_of, lines_of, first_line, last_start};
 ghost use Rattle.rope_text.specs.Sides.{ahead, at_start, at_place, turned, GoesRight, GoesLeft, GoesAhead, StepsBack};
-ghost use Rattle.rope_text.specs.TextInfo.{info_of, info_sum, HasPart};
-ghost use Rattle.rope_tree.specs.Search.{IsSmall};
+ghost use Rattle.rope_text.specs.TextInfo.{info_of, info_sum, HasPart, HasSum};
 ghost use Rattle.rope_slice.specs.Slice.{content_of, text_of, chunks_of, breaks_of};
 ghost use Rattle.rope_slice.specs.Caret.{AreChunks, HoldsAhead, PassesLine, PassesBack};
 ghost use Rattle.rope_slice.specs.Path.{leaves};
@@ -21,6 +20,7 @@ ghost use Rattle.rope_slice.specs.Found.{GivesWithin};
 ghost use Rattle.rope_slice.specs.InChunk.{IsInChunk};
 
 use crate::excerpt::Excerpt;
+use crate::path::Heads;
 use crate::plain::{LinePlace, Plain};
 use crate::point::end_of;
 use crate::slice::{RopeSlice, within};
@@ -335,7 +335,7 @@ fn pass_chunks(span: &mut Span<'_>, breaks: LineBreaks) -> (usize, TextInfo)
     ensures same { leaves span.new ≡ leaves span.old }
 {
     let mut passed = TextInfo::new();
-    while span.step(false) {
+    while span.step(false, Heads::Left) {
         let more = TextInfo::of_first_line(span.chunk(), breaks);
         passed = passed.plus(more);
         if more.break_count > 0 {
@@ -355,7 +355,7 @@ fn pass_chunks_back(span: &mut Span<'_>, skip: usize, breaks: LineBreaks) -> (us
 {
     let mut passed = TextInfo::new();
     let mut left = skip;
-    while span.step(true) {
+    while span.step(true, Heads::Left) {
         let chunk = span.chunk();
         let end = byte_len_of(chunk);
         let (start, more) = TextInfo::of_last_line(chunk, end, left, breaks);
@@ -375,7 +375,7 @@ impl<'a> Caret<'a> {
     // in words, and stall.
     #[inline(never)]
     fn pass_line(&mut self, before: &mut TextInfo, breaks: LineBreaks) -> &'a str
-        requires { IsSmall before.old }
+        requires { HasSum before.old (info_of breaks (first_line breaks self.old.back)) }
         ensures front { self.new.front ≡ self.old.front ++ first_line breaks self.old.back }
         ensures back { self.old.back ≡ first_line breaks self.old.back ++ self.new.back }
         ensures chunks { self.new.chunks ≡ self.old.chunks }

@@ -12,6 +12,7 @@ ghost use Rattle.rope_text.specs.Compare.{text_cmp};
 ghost use Rattle.rope_slice.specs.Slice.{text_of};
 ghost use Rattle.rope_slice.specs.Same.{IsSameFrom};
 
+use crate::path::Heads;
 use crate::pieces::Pieces;
 use crate::slice::RopeSlice;
 use std::cmp::Ordering;
@@ -62,7 +63,7 @@ fn filled<'a>(front: &'a [u8], pieces: &mut Pieces<'a>) -> &'a [u8]
     if !front.is_empty() {
         return front;
     }
-    pieces.next_piece()
+    pieces.next_piece(Heads::Left)
 }
 
 // The lexicographic order of two lists of bytes, each given as its first piece and the pieces after

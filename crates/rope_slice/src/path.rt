@@ -1,22 +1,22 @@
 //! A leaf of a tree, from which a cursor goes to the leaves beside it; and a leaf within a part of
 //! the text. No step takes memory.
-ghost use Rattle.std.specs.Prelude.{◌≡◌, ◌+◌, ◌-◌, ◌<◌, ◌≤◌, ◌∷◌, []};
+ghost use Rattle.std.specs.Prelude.{◌≡◌, ◌+◌, ◌-◌, ◌<◌, ◌≤◌, ◌∷◌, [], All, length, slice_index_or};
 ghost use Rattle.std.specs.Bool.{OnTrue, OnFalse};
 ghost use Rattle.std.specs.List.{concat};
 ghost use Rattle.std.specs.Str.{chars};
 ghost use Rattle.rope_text.specs.Text.{byte_len};
 ghost use Rattle.rope_text.specs.TextInfo.{info_of};
 ghost use Rattle.rope_tree.specs.Search.{count_of};
-ghost use Rattle.rope_tree.specs.Tree.{IsTree, text};
+ghost use Rattle.rope_tree.specs.Tree.{Tree, IsTree, text};
 ghost use Rattle.rope_slice.specs.Excerpt.{content_of as excerpt_content, text_of as excerpt_text};
 ghost use Rattle.rope_slice.specs.Path.{leaves, IsBeside, IsLast, IsNext, HoldsPlace};
-ghost use Rattle.rope_slice.specs.Way.{IsLow};
+ghost use Rattle.rope_slice.specs.Way.{IsLow, AreListed};
 ghost use Rattle.rope_slice.specs.Starts.{IsItem, IsHolding, size_in};
 
 use crate::excerpt::{Before, Excerpt};
 use rope_text::str_utils::byte_len_of;
 use rope_text::{Steps, TextInfo};
-use rope_tree::{Node, Unit, View, count, place_of, total_before};
+use rope_tree::{Node, Totals, Unit, View, count, place_of, total_before};
 use std::marker::Model;
 
 /// A leaf of a tree, seen as the leaves before it, the leaf, and the leaves after it.
@@ -27,9 +27,10 @@ use std::marker::Model;
 #[derive(Drop)]
 pub(crate) struct Path<'a> {
     root: &'a Node,
-    // the children of the node over the leaf, and which of them it is; none where the tree is that
-    // leaf
+    // the children of the node over the leaf with their running totals, and which of them it is;
+    // none where the tree is that leaf
     nodes: &'a [Node],
+    totals: Option<&'a Totals>,
     at: usize,
     leaf: &'a str,
     // the bytes of the text before the leaf
@@ -39,29 +40,49 @@ pub(crate) struct Path<'a> {
 impl<'a> Model for Path<'a> {
     ghost use Rattle.std.specs.Str.{chars};
     ghost use Rattle.rope_slice.specs.Path.{Place};
-    ghost use Rattle.rope_slice.specs.Way.{place_at, IsWay};
+    ghost use Rattle.rope_slice.specs.Way.{place_at, IsListedWay};
 
     ghost Value = { Place };
 
     ghost view = { λ a. place_at a.root.now.leaves (chars a.leaf.now) a.start };
 
-    ghost invariant = { λ a. IsWay a.root.now a.nodes.now a.at (chars a.leaf.now) a.start };
+    ghost invariant = { λ a.
+        IsListedWay a.root.now a.nodes.now a.totals a.at (chars a.leaf.now) a.start };
 }
 
-// The text of a leaf below another node.
-fn lowest_text(node: &Node) -> &str
-    requires { IsLow node.now }
-    ensures { node.now.leaves ≡ chars result.now ∷ [] }
+// The text of a leaf in its list. Its length comes from the list's totals, so that nothing of the
+// leaf is read: a walk over leaves would miss on each.
+#[inline(always)]
+fn text_in_list<'a>(nodes: &'a [Node], totals: Option<&Totals>, at: usize) -> &'a str
+    requires within { at < length nodes.now }
+    requires low { All IsLow nodes.now }
+    requires listed { AreListed nodes.now totals }
+    ensures { (d : Tree) → (slice_index_or nodes.now at d).leaves ≡ chars result.now ∷ [] }
 {
-    match node.view() {
+    let Some(totals) = totals else {
+        unreachable!();
+    };
+    let info = totals.get(at).minus(total_before(totals, at));
+    match nodes[at].known_view(info) {
         View::Leaf(leaf) => leaf.as_str(),
         View::Inner(_, _) => unreachable!(),
     }
 }
 
-// Prefetch: reads the head of each leaf of a list, so that a walk that comes to one after the other
-// doesn't miss on each. Answers whether all have bytes, as leaves have: a caller that tests it
-// keeps the compiler from dropping the reads.
+/// Whether a walk that comes to a list reads the heads of its leaves ahead.
+#[derive(Clone, Copy)]
+pub(crate) enum Heads {
+    /// Bytes, characters and hashes: they read one leaf after the other, each of which is a miss
+    /// where edits have scattered them.
+    Touched,
+    /// Chunks, lines and comparisons, which are faster so: a chunk's length is known without it,
+    /// and blocks of leaves in a row come by themselves.
+    Left,
+}
+
+// Prefetch: reads the head of each leaf of a list, so that their misses overlap. Answers whether
+// all have bytes, as leaves have: a caller that tests it keeps the compiler from dropping the
+// reads.
 fn touch_heads(nodes: &[Node]) -> bool {
     nodes.iter().all(|node| node.info().bytes > 0)
 }
@@ -78,10 +99,12 @@ impl<'a> Path<'a> {
         ensures holds { HoldsPlace unit root.now.breaks idx result.0.before result.0.here result.1 }
     {
         let mut here = root;
-        let mut nodes: &[Node] = &[];
+        // A leaf's counts come from its list's totals, so that no walk misses on the leaf's head.
+        let mut inside = root.info();
+        let (mut nodes, mut totals): (&[Node], Option<&Totals>) = (&[], None);
         let (mut at, mut rest, mut before) = (0, idx, TextInfo::new());
         'down: loop {
-            match here.view() {
+            match here.known_view(inside) {
                 View::Leaf(leaf) => {
                     let leaf = leaf.as_str();
                     let start = before.bytes;
@@ -89,6 +112,7 @@ impl<'a> Path<'a> {
                         Path {
                             root,
                             nodes,
+                            totals,
                             at,
                             leaf,
                             start,
@@ -96,13 +120,14 @@ impl<'a> Path<'a> {
                         before,
                     );
                 }
-                View::Inner(children, totals) => {
-                    at = place_of(totals, unit, rest, &mut Steps::new());
+                View::Inner(children, sums) => {
+                    at = place_of(sums, unit, rest, &mut Steps::new());
                     let child = &children[at];
-                    let front = total_before(totals, at);
+                    let front = total_before(sums, at);
                     rest -= count(front, unit);
                     before = before.plus(front);
-                    nodes = children;
+                    inside = sums.get(at).minus(front);
+                    (nodes, totals) = (children, Some(sums));
                     here = child;
                 }
             }
@@ -116,40 +141,48 @@ impl<'a> Path<'a> {
         self.leaf
     }
 
+    /// The bytes of the tree's text before the leaf.
+    pub(crate) fn start(&self) -> usize
+        ensures { result ≡ byte_len (concat self.now.before) }
+    {
+        self.start
+    }
+
     // The leaf that holds a byte of the tree's text. Never inlined: most steps stay in the list of
     // the leaf.
     #[inline(never)]
-    fn look_up(&self, byte_idx: usize) -> Path<'a>
+    fn look_up(&self, byte_idx: usize, heads: Heads) -> Path<'a>
         requires { byte_idx < byte_len (concat (leaves self.now)) }
         ensures leaves { leaves result ≡ leaves self.now }
         ensures starts { byte_len (concat result.before) ≤ byte_idx }
         ensures ends { byte_idx < byte_len (concat result.before) + byte_len result.here }
     {
         let (path, _) = Path::at(self.root, Unit::Byte, byte_idx);
-        if touch_heads(path.nodes) {
+        if matches!(heads, Heads::Left) || touch_heads(path.nodes) {
             return path;
         }
         Path::at(self.root, Unit::Byte, byte_idx).0
     }
 
     /// Goes to the next leaf, if there is one; else it stays.
-    pub(crate) fn step_on(&mut self) -> bool
+    pub(crate) fn step_on(&mut self, heads: Heads) -> bool
         ensures moved { OnTrue result (IsNext self.old self.new) }
         ensures stays { OnFalse result (self.new ≡ self.old) }
         ensures ended { OnFalse result (self.old.after ≡ []) }
     {
         let start = self.start + byte_len_of(self.leaf);
         let at = self.at + 1;
-        if at < self.nodes.len() {
+        let (nodes, totals) = (self.nodes, self.totals);
+        if at < nodes.len() {
             self.at = at;
-            self.leaf = lowest_text(&self.nodes[at]);
+            self.leaf = text_in_list(nodes, totals, at);
             self.start = start;
             return true;
         }
         if start == self.root.info().bytes {
             return false;
         }
-        *self = self.look_up(start);
+        *self = self.look_up(start, heads);
         true
     }
 
@@ -162,21 +195,23 @@ impl<'a> Path<'a> {
         if self.start == 0 {
             return false;
         }
-        if self.at == 0 {
-            *self = self.look_up(self.start - 1);
+        if self.at > 0 {
+            let (nodes, totals) = (self.nodes, self.totals);
+            let at = self.at - 1;
+            let leaf = text_in_list(nodes, totals, at);
+            self.at = at;
+            self.leaf = leaf;
+            self.start -= byte_len_of(leaf);
             return true;
         }
-        let at = self.at - 1;
-        let leaf = lowest_text(&self.nodes[at]);
-        self.at = at;
-        self.leaf = leaf;
-        self.start -= byte_len_of(leaf);
+        let last_before = self.start - 1;
+        *self = self.look_up(last_before, Heads::Left);
         true
     }
 
     /// Goes to the next leaf, or backward to the one before. Answers whether there is one; else it
     /// stays.
-    pub(crate) fn step(&mut self, is_backward: bool) -> bool
+    pub(crate) fn step(&mut self, is_backward: bool, heads: Heads) -> bool
         ensures moved { OnTrue result (IsBeside is_backward self.old self.new) }
         ensures stays { OnFalse result (self.new ≡ self.old) }
         ensures ended { OnFalse result (IsLast is_backward self.old) }
@@ -184,7 +219,7 @@ impl<'a> Path<'a> {
         if is_backward {
             self.step_back()
         } else {
-            self.step_on()
+            self.step_on(heads)
         }
     }
 }
@@ -194,9 +229,7 @@ impl<'a> Path<'a> {
 #[derive(Drop)]
 pub(crate) struct TreeSpan<'a> {
     path: Path<'a>,
-    // the bytes of the text before the leaf, of which the chunk is a part
-    at: usize,
-    // those before the part's start, and before its end
+    // the bytes of the text before the part's start, and before its end
     from: usize,
     to: usize,
 }
@@ -209,7 +242,7 @@ impl<'a> Model for TreeSpan<'a> {
 
     ghost view = { λ a. clipped_at a.path a.from a.to };
 
-    ghost invariant = { λ a. IsSpanFrom a.path a.at a.from a.to };
+    ghost invariant = { λ a. IsSpanFrom a.path a.from a.to };
 }
 
 impl<'a> TreeSpan<'a> {
@@ -226,8 +259,8 @@ impl<'a> TreeSpan<'a> {
         let start = excerpt.start;
         let place = excerpt.place(unit, idx).min(count(excerpt.end, unit) - 1);
         let (path, before) = Path::at(excerpt.node, unit, place);
-        let (at, from, to) = (before.bytes, start.bytes, excerpt.end.bytes);
-        let span = TreeSpan { path, at, from, to };
+        let (from, to) = (start.bytes, excerpt.end.bytes);
+        let span = TreeSpan { path, from, to };
         (span, Before::since(before, start))
     }
 
@@ -244,30 +277,23 @@ impl<'a> TreeSpan<'a> {
         ensures { chars result.now ≡ self.now.here }
     {
         let leaf = self.path.leaf();
-        let low = self.from.saturating_sub(self.at);
-        let high = (self.to - self.at).min(leaf.len());
+        let start = self.path.start();
+        let low = self.from.saturating_sub(start);
+        let high = (self.to - start).min(leaf.len());
         &leaf[low..high]
     }
 
     /// Goes to the next chunk, or backward to the one before. Answers whether there is one; else it
     /// stays.
-    pub(crate) fn step(&mut self, is_backward: bool) -> bool
+    pub(crate) fn step(&mut self, is_backward: bool, heads: Heads) -> bool
         ensures moved { OnTrue result (IsBeside is_backward self.old self.new) }
         ensures stays { OnFalse result (self.new ≡ self.old) }
         ensures ended { OnFalse result (IsLast is_backward self.old) }
     {
+        let start = self.path.start();
         if is_backward {
-            if self.at <= self.from || !self.path.step(true) {
-                return false;
-            }
-            self.at -= self.path.leaf().len();
-            return true;
+            return self.from < start && self.path.step(true, heads);
         }
-        let len = self.path.leaf().len();
-        if self.to - self.at <= len || !self.path.step(false) {
-            return false;
-        }
-        self.at += len;
-        true
+        self.path.leaf().len() < self.to - start && self.path.step(false, heads)
     }
 }

@@ -3,7 +3,7 @@ ghost use Rattle.std.specs.Prelude.{◌≡◌, ◌++◌, [], length};
 ghost use Rattle.std.specs.Str.{chars, encode_utf8_all};
 ghost use Rattle.rope_slice.specs.Slice.{text_of};
 
-use crate::path::Path;
+use crate::path::{Heads, Path};
 use crate::slice::RopeSlice;
 use rope_tree::Unit;
 use std::marker::Model;
@@ -63,7 +63,7 @@ impl<'a> Pieces<'a> {
     }
 
     /// The next piece; an empty one only at the end, where it stays.
-    pub(crate) fn next_piece(&mut self) -> &'a [u8]
+    pub(crate) fn next_piece(&mut self, heads: Heads) -> &'a [u8]
         ensures bytes { result.now ++ self.new ≡ self.old }
         ensures some { length result.now ≡ 0 → self.new ≡ [] }
     {
@@ -73,7 +73,7 @@ impl<'a> Pieces<'a> {
         let Some(path) = &mut self.way else {
             return &[];
         };
-        if !path.step_on() {
+        if !path.step_on(heads) {
             return &[];
         }
         let bytes = path.leaf().as_bytes();

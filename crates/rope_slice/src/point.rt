@@ -4,6 +4,7 @@ ghost use Rattle.std.specs.Str.{IsCharBoundary};
 ghost use Rattle.rope_slice.specs.Path.{IsBeside, IsLast};
 ghost use Rattle.rope_slice.specs.Point.{IsChunkAt, IsCharBetween};
 
+use crate::path::Heads;
 use crate::span::Span;
 
 // Where a walk over so many items ends, to the left or to the right.
@@ -22,7 +23,7 @@ fn chunk_beside<'a>(mut span: Span<'a>, is_left: bool) -> (Span<'a>, Option<&'a 
     ensures stays { IfNone result.1 (result.0 ≡ span.entry) }
     ensures ended { IfNone result.1 (IsLast is_left span.entry) }
 {
-    let has_moved = span.step(is_left);
+    let has_moved = span.step(is_left, Heads::Touched);
     let chunk = span.chunk();
     (span, has_moved.then_some(chunk))
 }

@@ -11,7 +11,7 @@ ghost use Rattle.rope_slice.specs.Path.{IsBeside, IsLast, leaves};
 ghost use Rattle.rope_slice.specs.Starts.{IsItem, IsHolding, size_in};
 
 use crate::excerpt::Before;
-use crate::path::TreeSpan;
+use crate::path::{Heads, TreeSpan};
 use crate::slice::RopeSlice;
 use rope_text::TextInfo;
 use rope_text::str_utils::char_to_byte_idx;
@@ -140,17 +140,17 @@ impl<'a> Span<'a> {
     /// stays.
     // Inlined: a plain text has none, which costs no call.
     #[inline(always)]
-    pub(crate) fn step(&mut self, is_backward: bool) -> bool
+    pub(crate) fn step(&mut self, is_backward: bool, heads: Heads) -> bool
         ensures moved { OnTrue result (IsBeside is_backward self.old self.new) }
         ensures stays { OnFalse result (self.new ≡ self.old) }
         ensures ended { OnFalse result (IsLast is_backward self.old) }
     {
-        self.way.is_some() && self.step_in_tree(is_backward)
+        self.way.is_some() && self.step_in_tree(is_backward, heads)
     }
 
     // The same, for a text that may be plain.
     #[inline(never)]
-    fn step_in_tree(&mut self, is_backward: bool) -> bool
+    fn step_in_tree(&mut self, is_backward: bool, heads: Heads) -> bool
         ensures moved { OnTrue result (IsBeside is_backward self.old self.new) }
         ensures stays { OnFalse result (self.new ≡ self.old) }
         ensures ended { OnFalse result (IsLast is_backward self.old) }
@@ -158,7 +158,7 @@ impl<'a> Span<'a> {
         let Some(way) = &mut self.way else {
             return false;
         };
-        if !way.step(is_backward) {
+        if !way.step(is_backward, heads) {
             return false;
         }
         self.chunk = way.chunk();

@@ -19,7 +19,10 @@ struct Writes {
 }
 
 impl Hasher for Writes {
-    ghost write = { λ s bytes. record { lens = (s.lens * 1000 + length bytes) % 2 ^ 64; last = first_or s.last bytes } };
+    ghost write = { λ s bytes. record {
+        lens = (s.lens * 1000 + length bytes) % 2 ^ 64;
+        last = first_or s.last bytes
+    } };
 
     ghost finish = { λ s. s.lens };
 

@@ -5,8 +5,10 @@ ghost use Rattle.std.specs.Str.{chars};
 
 use rope_plain::failure::{Failure, within};
 use rope_plain::{holds, same};
-use rope_text::str_utils::{byte_to_char_idx_of, char_to_byte_idx_of, count_chars};
-use rope_text::{LineBreaks, Steps};
+use rope_text::str_utils::{
+    byte_to_char_idx_of, char_to_byte_idx_of, count_chars, utf16_to_char_idx_of,
+};
+use rope_text::{LineBreaks, Steps, TextInfo};
 use rope_tree::build::build;
 use rope_tree::{Maker, Node, NodeText, Unit, convert};
 use std::alloc::{AllocError, Global};
@@ -31,6 +33,26 @@ fn ends_at(text: &str, count: usize, byte: usize) -> Result<(), Failure>
     belong(text, count, count, byte, byte.saturating_add(3))
 }
 
+/// Fails unless each code unit of a text is found, and the end behind them.
+fn expect_units(text: &str) -> Result<(), Failure> {
+    let info = TextInfo::from_str(text, LineBreaks::Lf);
+    let mut idx: usize = 0;
+    let mut unit: usize = 0;
+    for c in text.chars() {
+        let next = unit.saturating_add(c.len_utf16());
+        let found = [
+            utf16_to_char_idx_of(text, info, unit),
+            utf16_to_char_idx_of(text, info, next.saturating_sub(1)),
+        ];
+        same!(found, [idx; 2]);
+        idx = idx.saturating_add(1);
+        unit = next;
+    }
+    same!(utf16_to_char_idx_of(text, info, unit), idx);
+    same!(utf16_to_char_idx_of(text, info, usize::MAX), idx);
+    Ok(())
+}
+
 /// Fails unless each place of a text is found.
 fn expect_places(text: &str) -> Result<(), Failure> {
     let count = count_chars(text);
@@ -44,7 +66,8 @@ fn expect_places(text: &str) -> Result<(), Failure> {
         byte = next;
     }
     same!(idx, count);
-    ends_at(text, count, byte)
+    ends_at(text, count, byte)?;
+    expect_units(text)
 }
 
 /// The byte and the character of a place of a tree; the end of what can be asked, where it has

@@ -47,9 +47,6 @@ all_ones m n k full within =
     let rest : ℕ = n - k in
     omega (arith, ones_more m k rest n (omega (arith, within)), ones_le m k, ones_le (m / 2 ^ k) rest, full)
 
-pub marks_more : (x y a b n : ℕ) → n ≡ a + b → marks_below x y n ≡ marks_below x y a + marks_below (x / 2 ^ a) (y / 2 ^ a) b
-marks_more x y a b n e = omega (arith, ones_more x a b n e, ones_more y a b n e)
-
 pub shift_more : (m a b : ℕ) → m / 2 ^ a / 2 ^ b ≡ m / 2 ^ (a + b)
 shift_more m a b = div-div-eq-div-mul m (2 ^ a) (2 ^ b) ∙ ap (λ x. m / x) (sym (pow-add 2 a b))
 

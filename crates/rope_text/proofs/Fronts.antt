@@ -17,10 +17,10 @@ use Rattle.rope_text.specs.ByteBreaks.{break_at, byte_break_count, unit_count, c
 use Rattle.rope_text.specs.Breaks.{begins_with_lf, ends_break, break_ends, break_count}
 use Rattle.rope_text.specs.Lines.{line_start}
 use Rattle.rope_text.specs.Conversions.{byte_to_char, utf16_to_char, char_to_line}
-use Rattle.rope_text.proofs.Blocks.{count_by-block}
+use Rattle.rope_text.proofs.Blocks.{count_by-block, count_by-drop}
 use Rattle.rope_text.proofs.ByteLaws.{length-chars, utf16_len-chars, length-from_bytes, pairs-from_bytes}
 use Rattle.rope_text.proofs.ByteBreakLaws.{byte_break_count-encodes, break_count-chars, byte_break_count-past, break_first, width_first}
-use Rattle.rope_text.proofs.ConversionLaws.{byte_to_char_is, utf16_to_char_is, byte_len_more, char_to_line_more, char_to_line_past}
+use Rattle.rope_text.proofs.ConversionLaws.{byte_to_char_is, byte_to_char-fits, byte_to_char-over, byte_to_char-past, utf16_to_char_is, byte_len_more, char_to_line_more, char_to_line_past}
 use Rattle.rope_text.proofs.Encoded.{Encoded-encode}
 use Rattle.rope_text.proofs.FirstBytes.{first_scalar, rest_scalars, starts_same}
 use Rattle.rope_text.proofs.Measures.{size_lt, size_le, IsMeasure-byte_len, IsMeasure-utf16_len}
@@ -101,6 +101,56 @@ byte_place bs b p u at fits last =
     let more = size_lt byte_len IsMeasure-byte_len (chars bs) f.0 (suc f.0) (omega arith) less in
     elim (cases_lt b next) [ inl over ↦ over | inr under ↦ absurd (last next (omega (arith, f.2)) under (byte_len_boundary bs (suc f.0) u)) ]) in
     ap (λ j. byte_len (take j (chars bs))) same ∙ f.2
+
+-- a place between characters begins one, if it isn't the end
+begins_at : (bs : List ℕ) (p : ℕ) → IsCharBoundary bs p → p < length bs → begins_char (get_or bs p 0) ≡ true
+begins_at bs p at l = let big = at.1 l in grind (arith, nat_tests)
+
+begins_later : (bs : List ℕ) (i j : ℕ) → i ≤ j → count_by begins_char (drop j bs) ≤ count_by begins_char (drop i bs)
+begins_later bs i j l =
+    let same : i + (j - i) ≡ j = omega arith in
+    let chars = rw same at (count_by-block begins_char bs i (j - i)) in
+    omega arith
+
+-- the character that holds the byte b is the last that begins at or before it
+held_inside : (bs : List ℕ) (b : ℕ) → IsUtf8 bs → b < length bs
+    → count_by begins_char bs ≡ (byte_to_char (chars bs) b + 1) + count_by begins_char (drop (b + 1) bs)
+held_inside bs b u inside =
+    let cs : List ℕ = chars bs in
+    let i : ℕ = byte_to_char cs b in
+    let p : ℕ = byte_len (take i cs) in
+    let q : ℕ = byte_len (take (suc i) cs) in
+    let size = byte_len-chars bs u in
+    let fits : p ≤ b = byte_to_char-fits cs b in
+    let less : i < length cs = elim (cases_lt i (length cs)) [
+      | inl less ↦ less
+      | inr past ↦ absurd (omega (arith, fits, ap byte_len (take_all i cs past), size))
+    ] in
+    let over : b < q = byte_to_char-over cs b less in
+    let here = count_by-drop begins_char bs p (omega arith) in
+    let one : cond {A = ℕ} (begins_char (get_or bs p 0)) 1 0 ≡ 1 = ap (λ (t : Bool). cond {A = ℕ} t 1 0) (begins_at bs p (byte_len_boundary bs i u) (omega arith)) in
+    omega (
+      arith,
+      here,
+      one,
+      less,
+      begins_from bs i u,
+      begins_from bs (suc i) u,
+      length-drop i cs,
+      length-drop (suc i) cs,
+      begins_later bs (p + 1) (b + 1) (omega arith),
+      begins_later bs (b + 1) q (omega arith),
+      length-chars bs u,
+    )
+
+pub held_begins : (bs text : List ℕ) (b : ℕ) → IsUtf8 text → bs ≡ text → b < length bs
+    → count_by begins_char bs ≡ (byte_to_char (chars text) b + 1) + count_by begins_char (drop (b + 1) bs)
+held_begins bs text b u same =
+    subst (λ xs. b < length xs → count_by begins_char xs ≡ (byte_to_char (chars text) b + 1) + count_by begins_char (drop (b + 1) xs)) (sym same) (held_inside text b u)
+
+-- the end is behind all characters
+pub held_past : (bs text : List ℕ) (b : ℕ) → IsUtf8 text → bs ≡ text → length bs ≤ b → byte_to_char (chars text) b ≡ length (chars text)
+held_past bs text b u same past = byte_to_char-past (chars text) b (omega (arith, byte_len-chars text u, ap length same))
 
 units_later : (bs : List ℕ) (i j : ℕ) → i ≤ j → unit_count (drop j bs) ≤ unit_count (drop i bs)
 units_later bs i j l =

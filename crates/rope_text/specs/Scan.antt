@@ -2,6 +2,7 @@
 use Rattle.std.specs.Prelude.{◌≡◌, ℕ, ◌+◌, ◌<◌, ◌≤◌, ◌^◌, Bool, true, cond, List, length, drop, count_by, IsTrue}
 use Rattle.rope_text.specs.declared.back.Back.{Back}
 use Rattle.rope_text.specs.declared.line_breaks.LineBreaks.{LineBreaks}
+use Rattle.rope_text.specs.declared.seek.Passed.{Passed}
 use Rattle.rope_text.specs.Bytes.{begins_char, begins_pair}
 use Rattle.rope_text.specs.ByteBreaks.{breaks_at, byte_break_count}
 
@@ -11,6 +12,12 @@ pub record IsFront (breaks : LineBreaks) (bytes : List ℕ) (in_chars at in_pair
   pub none : byte_break_count breaks bytes ≡ byte_break_count breaks (drop at bytes)
   pub chars : count_by begins_char bytes ≡ in_chars + count_by begins_char (drop at bytes)
   pub pairs : count_by begins_pair bytes ≡ in_pairs + count_by begins_pair (drop at bytes)
+
+-- so many characters and pairs of code units begin before the place
+pub record HasPassed (bytes : List ℕ) (passed : Passed) : Type 0 where
+  pub within : passed.at ≤ length bytes
+  pub chars : count_by begins_char bytes ≡ passed.chars + count_by begins_char (drop passed.at bytes)
+  pub pairs : count_by begins_pair bytes ≡ passed.pairs + count_by begins_pair (drop passed.at bytes)
 
 -- the way back begins at the byte `end`, with so many breaks to pass
 abbrev pub back_from : ℕ → ℕ → Back

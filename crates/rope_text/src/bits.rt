@@ -41,17 +41,13 @@ pub(crate) fn place_of_mark(first: u64, second: u64, n: usize) -> usize
     if second == 0 && ones_before(first, 32) == 32 {
         return n;
     }
-    let (mut ones, mut more, mut left, mut place) = (first, second, n, 0);
+    let mut place = 0;
     let mut step = 5usize;
     while step > 0 {
         step -= 1;
-        let half = 1 << step;
-        let passed = ones_before(ones, half) + ones_before(more, half);
-        if left >= passed {
-            left -= passed;
-            ones >>= half;
-            more >>= half;
-            place += half;
+        let to = place + (1 << step);
+        if ones_before(first, to) + ones_before(second, to) <= n {
+            place = to;
         }
     }
     place

@@ -84,7 +84,8 @@ fn unicode_mask(bytes: &[u8], at: usize) -> u64
 fn ascii_mask(bytes: &[u8], at: usize, mark: Mark) -> u64
     requires { (at + 32) + ahead mark ≤ length bytes.now }
     ensures { (n : ℕ) → n ≤ 32 → HasNoMultibyte mark bytes.now at n
-        → marks mark (drop at bytes.now) ≡ ones_below result n + marks mark (drop (at + n) bytes.now) }
+        → marks mark (drop at bytes.now)
+        ≡ ones_below result n + marks mark (drop (at + n) bytes.now) }
 {
     let x = u8x32::from_slice(&bytes[at..]);
     let mut y = x;

@@ -5,13 +5,13 @@
 //! The first line break of a text is found with what the text before it counts, in one pass.
 #![tactic(auto, using(crate::proofs::Blocks::begins_le, crate::proofs::Blocks::pairs_le, crate::proofs::Blocks::byte_break_count_le))]
 
-ghost use Rattle.std.specs.Prelude.{◌≡◌, ◌+◌, ◌<◌, ◌≤◌, length, count_by, drop, take, IsTrue};
-ghost use Rattle.rope_text.specs.Bytes.{begins_char};
+ghost use Rattle.std.specs.Prelude.{◌≡◌, ◌+◌, ◌<◌, ◌≤◌, List, ℕ, length, count_by, drop, take, IsTrue};
+ghost use Rattle.rope_text.specs.Bytes.{begins_char, begins_pair};
 ghost use Rattle.rope_text.specs.ByteBreaks.{byte_break_count, char_width, IsUnitPlaceOf, breaks_at};
 ghost use Rattle.rope_text.specs.Marks.{IsPlaceOf, IsPassed};
 ghost use Rattle.std.specs.Str.{chars};
 ghost use Rattle.rope_text.specs.Conversions.{line_to_byte, line_to_char};
-ghost use Rattle.rope_text.specs.Scan.{IsFront};
+ghost use Rattle.rope_text.specs.Scan.{IsFront, HasPassed};
 
 use crate::bits::{first_mark, ones_before, ones_between, place_of_mark};
 use crate::lanes::{Mark, ahead, is_mark, known_mask, marks_between, marks_in, mask, masks_of};
@@ -118,6 +118,52 @@ pub(crate) fn skip_breaks_back(
         at -= 32;
     }
     (0, n)
+}
+
+/// A place that a search has come to, and what begins before it.
+#[derive(Clone, Copy)]
+pub(crate) struct Passed {
+    pub at: usize,
+    pub chars: usize,
+    pub pairs: usize,
+}
+
+impl Passed {
+    /// The start of a text.
+    pub fn none() -> Passed
+        ensures passed { (bytes : List ℕ) → HasPassed bytes result }
+        ensures none { result.chars + result.pairs ≡ 0 }
+    {
+        Passed {
+            at: 0,
+            chars: 0,
+            pairs: 0,
+        }
+    }
+}
+
+/// A place at or before the code unit `n`, from the end back over whole blocks, where it is known
+/// what the text counts. It is the end if no code unit has that number.
+pub(crate) fn skip_units_back(bytes: &[u8], n: usize, chars: usize, pairs: usize) -> Passed
+    requires chars { chars ≡ count_by begins_char bytes.now }
+    requires pairs { pairs ≡ count_by begins_pair bytes.now }
+    ensures passed { HasPassed bytes.now result }
+    ensures before { result.chars + result.pairs ≤ n }
+{
+    let mut passed = Passed {
+        at: bytes.len(),
+        chars,
+        pairs,
+    };
+    while passed.chars + passed.pairs > n {
+        if passed.at < 32 {
+            return Passed::none();
+        }
+        passed.at -= 32;
+        passed.chars -= marks_in(bytes, passed.at, Mark::Char);
+        passed.pairs -= marks_in(bytes, passed.at, Mark::Pair);
+    }
+    passed
 }
 
 /// The byte at which the character begins that holds the code unit `n`, counted from the byte

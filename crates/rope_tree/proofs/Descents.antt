@@ -1,5 +1,5 @@
 -- What a step down from a node to one of its children keeps.
-use Rattle.std.proofs.Common.{◌≡◌, ℕ, zero, suc, ◌+◌, ◌-◌, ◌<◌, ◌≤◌, false, List, [], ◌∷◌, ◌++◌, length, get_or, take, drop, refl, sym, ap, subst, ◌∙◌, arith}
+use Rattle.std.proofs.Common.{◌≡◌, ℕ, zero, suc, ◌+◌, ◌-◌, ◌<◌, ◌≤◌, false, List, [], ◌∷◌, ◌++◌, length, get_or, take, drop, refl, sym, ap, ap₂, subst, ◌∙◌, arith}
 use Rattle.std.specs.List.{concat}
 use Rattle.std.proofs.lemmas.List.{append-nil, append_assoc, take-append-drop, take_more, take-append-le}
 use Rattle.std.proofs.Math.Seq.{take-append-add}
@@ -22,6 +22,7 @@ use Rattle.rope_tree.specs.Found.{IsFound}
 use Rattle.rope_tree.proofs.LeafLaws.{seam_of_left, leaves_seam}
 use Rattle.rope_tree.proofs.NodeLaws.{leaves_of-append, byte_len-joined, child_at, more_at}
 use Rattle.rope_tree.proofs.Infos.{small_info}
+use Rattle.rope_tree.proofs.TotalLaws.{same_counts}
 
 -- a count of joined texts
 pub count_of-sum : (unit : Unit) (a b : TextInfo) → count_of unit (info_sum a b) ≡ count_of unit a + count_of unit b
@@ -71,6 +72,22 @@ module _ (breaks : LineBreaks) (left own right : List (List ℕ)) (a : AreLeaves
   front_info i le =
       ap (λ xs. info_of breaks (concat xs)) (front_leaves i le) ∙ ap (info_of breaks) (concat-append left (take i own))
       ∙ info_of-append_apart breaks (concat left) (concat (take i own)) (front_apart i)
+
+-- the total of the k-th child is the counts before it with its own
+pub child_total : (ts : List Tree) (totals : List TextInfo) (k : ℕ) (child : Tree) (front all : TextInfo) → AreChildren (breaks_of ts) (height_of ts) ts → HasTotals (breaks_of ts) totals ts
+    → k < length ts → child ≡ get_or ts k child → front ≡ info_of (breaks_of ts) (joined (take k ts)) → all ≡ get_or totals k all
+    → all ≡ info_sum front (info_of child.breaks (text child))
+child_total ts totals k child front all a h l here before is =
+    let own = child_at (breaks_of ts) (height_of ts) ts k child a l (sym here) in
+    is ∙ h.total_at k all l ∙ more_at (breaks_of ts) (height_of ts) ts k child a l (sym here) ∙ ap₂ info_sum (sym before) (ap (λ b. info_of b (text child)) (sym own.same_breaks))
+
+-- so its own are what is left of it
+pub child_counts : (ts : List Tree) (totals : List TextInfo) (k : ℕ) (child : Tree) (front all own : TextInfo) → AreChildren (breaks_of ts) (height_of ts) ts → HasTotals (breaks_of ts) totals ts
+    → k < length ts → child ≡ get_or ts k child → front ≡ info_of (breaks_of ts) (joined (take k ts)) → all ≡ get_or totals k all → info_sum front own ≡ all
+    → own ≡ info_of child.breaks (text child)
+child_counts ts totals k child front all own a h l here before is sum =
+    let e = sum ∙ child_total ts totals k child front all a h l here before is in
+    same_counts own (info_of child.breaks (text child)) (omega (arith, ap (λ i. i.bytes) e)) (omega (arith, ap (λ i. i.chars) e)) (omega (arith, ap (λ i. i.utf16_surrogates) e)) (omega (arith, ap (λ i. i.break_count) e))
 
 -- the place is in the k-th child
 pub record Descends (breaks : LineBreaks) (unit : Unit) (at : ℕ) (ts : List Tree) (k : ℕ) (child : Tree) (front : TextInfo) : Type 0 where

@@ -38,10 +38,12 @@ fn cut_at_seam(rest: &NodeText, text: &str) -> SeamCut
     ensures boundary { IsCharBoundary text.now result.taken }
     ensures whole { result.leaf ++ (result.behind ++ chars (drop result.taken text.now))
         ≡ rest.now ++ chars text.now }
-    ensures apart { parts_crlf result.leaf (result.behind ++ chars (drop result.taken text.now)) ≡ false }
+    ensures apart { parts_crlf result.leaf (result.behind ++ chars (drop result.taken text.now))
+        ≡ false }
     ensures long { MIN_CUT_BYTES ≤ byte_len result.leaf }
     ensures short { byte_len result.leaf ≤ MAX_BYTES }
-    ensures left { byte_len result.leaf + (byte_len result.behind + (length text.now - result.taken))
+    ensures left { byte_len result.leaf
+        + (byte_len result.behind + (length text.now - result.taken))
         ≡ byte_len rest.now + length text.now }
 {
     let first = rest.as_str();

@@ -20,9 +20,8 @@ pub fn first_sought(unit: Unit) -> usize
 }
 
 /// Converts an index from the unit `from` to the unit `to`, in a text whose counts are known. It
-/// scans the text from its nearer end, but for an index in code units. Nothing is scanned where
-/// both units count the same: bytes and characters in ASCII, characters and code units in a text
-/// without pairs.
+/// scans the text from its nearer end, and nothing where both units count the same: bytes and
+/// characters in ASCII, characters and code units in a text without pairs.
 #[inline(always)]
 pub fn convert_in(
     text: &str,

@@ -346,7 +346,8 @@ impl Rope {
 
     // The byte's index, or its refusal.
     fn within_bytes(&self, byte_idx: usize) -> Result<usize>
-        ensures value { result ≡ checked (byte_index_error byte_idx (byte_len self.now.text)) byte_idx }
+        ensures value { result
+            ≡ checked (byte_index_error byte_idx (byte_len self.now.text)) byte_idx }
         ensures within { IfOk result (λ idx. idx ≤ byte_len self.now.text) }
     {
         let bytes = self.len_bytes();
@@ -358,7 +359,8 @@ impl Rope {
 
     // The character's index, or its refusal.
     pub(crate) fn within_chars(&self, char_idx: usize) -> Result<usize>
-        ensures value { result ≡ checked (char_index_error char_idx (length self.now.text)) char_idx }
+        ensures value { result
+            ≡ checked (char_index_error char_idx (length self.now.text)) char_idx }
         ensures within { IfOk result (λ idx. idx ≤ length self.now.text) }
         ensures kept { IsRope self.now }
     {

@@ -127,7 +127,8 @@ impl Rope {
         ensures steps { length text.now ≤ MAX_SHORT_BYTES
             → IsEditCount (insert_nodes self.old.depth) self.old.depth steps.new }
         ensures steps_long { OnOk result
-            (IsEditCount (long_insert_nodes (length text.now) self.old.depth) self.old.depth steps.new) }
+            (IsEditCount (long_insert_nodes (length text.now) self.old.depth)
+            self.old.depth steps.new) }
     {
         let mut maker = self.begin_edit(steps);
         let inserted = self.insert_made(char_idx, text, &mut maker);

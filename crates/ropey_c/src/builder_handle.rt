@@ -59,7 +59,8 @@ impl BuilderHandle {
 
     // Takes the builder out, if there is one.
     pub(crate) fn take(&mut self, alloc: Global) -> Option<Box<Intake>>
-        ensures taken { MatchOption result (self.old.held ≡ None) (λ held. self.old.held ≡ Some held.value) }
+        ensures taken { MatchOption result (self.old.held ≡ None)
+            (λ held. self.old.held ≡ Some held.value) }
         ensures left { self.new.held ≡ None }
     {
         replace(self, BuilderHandle::none(alloc)).into_box()

@@ -81,7 +81,8 @@ pub extern "C" fn ropey_builder_finish(
     rope: &mut Handle,
     valid: &mut usize,
 ) -> u32
-    ensures answer { FinishesAt builder.old.held result valid.old valid.new rope.old.rope rope.new.rope }
+    ensures answer { FinishesAt builder.old.held result valid.old valid.new rope.old.rope
+        rope.new.rope }
     ensures spent { builder.new.held ≡ None }
 {
     let Some(held) = builder.take(alloc) else {

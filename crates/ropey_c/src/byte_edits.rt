@@ -35,18 +35,24 @@ fn char_at_byte(rope: &Rope, byte_idx: usize) -> Result<usize>
 
 // The characters that a range of bytes has, from a start up to an end.
 pub(crate) fn chars_of_bytes(rope: &Rope, start: usize, end: usize) -> Result<(usize, usize)>
-    ensures ok { IfOk result (λ bounds. (byte_range_error rope.now.text (Some start) (Some end) ≡ None)
-        × (bounds.0 ≡ byte_to_char rope.now.text start) × (bounds.1 ≡ byte_to_char rope.now.text end)
-        × (bounds.0 ≤ bounds.1) × (bounds.1 ≤ length rope.now.text)) }
-    ensures err { IfErr result (λ e. byte_range_error rope.now.text (Some start) (Some end) ≡ Some e) }
+    ensures ok { IfOk result
+        (λ bounds. (byte_range_error rope.now.text (Some start) (Some end) ≡ None)
+        × (bounds.0 ≡ byte_to_char rope.now.text start)
+        × (bounds.1 ≡ byte_to_char rope.now.text end) × (bounds.0 ≤ bounds.1)
+        × (bounds.1 ≤ length rope.now.text)) }
+    ensures err { IfErr result
+        (λ e. byte_range_error rope.now.text (Some start) (Some end) ≡ Some e) }
 {
     let _ = rope.try_byte_slice(start..end)?;
     Ok((rope.byte_to_char(start), rope.byte_to_char(end)))
 }
 
 fn insert_at_byte(rope: &mut Rope, byte_idx: usize, text: &[u8]) -> u32
-    ensures status { IsTextStatus text.now (byte_insert_error rope.old.text byte_idx (chars text.now)) result }
-    ensures ok { result ≡ OK → rope.new.text ≡ inserted rope.old.text (byte_to_char rope.old.text byte_idx) (chars text.now) }
+    ensures status { IsTextStatus text.now
+        (byte_insert_error rope.old.text byte_idx (chars text.now)) result }
+    ensures ok { result ≡ OK
+        → rope.new.text
+        ≡ inserted rope.old.text (byte_to_char rope.old.text byte_idx) (chars text.now) }
     ensures err { 0 < result → rope.new ≡ rope.old }
     ensures breaks { rope.new.breaks ≡ rope.old.breaks }
     ensures kept { IsRope rope.old → IsRope rope.new }
@@ -77,7 +83,8 @@ pub extern "C" fn ropey_insert_at_byte(
 ) -> u32
     ensures changes { Changes rope.old.rope rope.new.rope result
         (λ old. IsTextStatus text.now (byte_insert_error old.text byte_idx (chars text.now)) result)
-        (λ old new. (new.text ≡ inserted old.text (byte_to_char old.text byte_idx) (chars text.now)) × (new.breaks ≡ old.breaks)) }
+        (λ old new. (new.text ≡ inserted old.text (byte_to_char old.text byte_idx) (chars text.now))
+        × (new.breaks ≡ old.breaks)) }
     ensures kept { HoldsRope rope.new.rope }
 {
     let Some(mut held) = rope.take(alloc) else {
@@ -90,7 +97,10 @@ pub extern "C" fn ropey_insert_at_byte(
 
 fn remove_bytes(rope: &mut Rope, start: usize, end: usize) -> u32
     ensures status { IsStatus (byte_range_error rope.old.text (Some start) (Some end)) result }
-    ensures ok { result ≡ OK → rope.new.text ≡ removed rope.old.text (byte_to_char rope.old.text start) (byte_to_char rope.old.text end) }
+    ensures ok { result ≡ OK
+        → rope.new.text
+        ≡ removed rope.old.text (byte_to_char rope.old.text start)
+        (byte_to_char rope.old.text end) }
     ensures err { 0 < result → rope.new ≡ rope.old }
     ensures breaks { rope.new.breaks ≡ rope.old.breaks }
     ensures kept { IsRope rope.old → IsRope rope.new }
@@ -116,7 +126,9 @@ pub extern "C" fn ropey_remove_bytes(
 ) -> u32
     ensures changes { Changes rope.old.rope rope.new.rope result
         (λ old. IsStatus (byte_range_error old.text (Some start) (Some end)) result)
-        (λ old new. (new.text ≡ removed old.text (byte_to_char old.text start) (byte_to_char old.text end)) × (new.breaks ≡ old.breaks)) }
+        (λ old new. (new.text
+        ≡ removed old.text (byte_to_char old.text start) (byte_to_char old.text end))
+        × (new.breaks ≡ old.breaks)) }
     ensures kept { HoldsRope rope.new.rope }
 {
     let Some(mut held) = rope.take(alloc) else {

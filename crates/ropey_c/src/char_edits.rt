@@ -17,10 +17,12 @@ use ropey::{Error, Result, Rope};
 use std::alloc::Global;
 
 fn insert(rope: &mut Rope, char_idx: usize, text: &[u8]) -> u32
-    ensures status { IsTextStatus text.now (insert_error rope.old.text char_idx (chars text.now)) result }
+    ensures status { IsTextStatus text.now (insert_error rope.old.text char_idx (chars text.now))
+        result }
     ensures ok { result ≡ OK → rope.new.text ≡ inserted rope.old.text char_idx (chars text.now) }
     ensures err { 0 < result → rope.new ≡ rope.old }
-    ensures empty { length text.now ≡ 0 → insert_error rope.old.text char_idx [] ≡ None → (result ≡ OK) × (rope.new ≡ rope.old) }
+    ensures empty { length text.now ≡ 0 → insert_error rope.old.text char_idx [] ≡ None
+        → (result ≡ OK) × (rope.new ≡ rope.old) }
     ensures breaks { rope.new.breaks ≡ rope.old.breaks }
     ensures kept { IsRope rope.old → IsRope rope.new }
 {
@@ -48,8 +50,11 @@ pub extern "C" fn ropey_insert(
 ) -> u32
     ensures changes { Changes rope.old.rope rope.new.rope result
         (λ old. IsTextStatus text.now (insert_error old.text char_idx (chars text.now)) result)
-        (λ old new. (new.text ≡ inserted old.text char_idx (chars text.now)) × (new.breaks ≡ old.breaks)) }
-    ensures empty { length text.now ≡ 0 → Keeps rope.old.rope rope.new.rope result (λ old. insert_error old.text char_idx [] ≡ None) }
+        (λ old new. (new.text ≡ inserted old.text char_idx (chars text.now))
+        × (new.breaks ≡ old.breaks)) }
+    ensures empty { length text.now ≡ 0
+        → Keeps rope.old.rope rope.new.rope result
+        (λ old. insert_error old.text char_idx [] ≡ None) }
     ensures kept { HoldsRope rope.new.rope }
 {
     let Some(mut held) = rope.take(alloc) else {
@@ -112,7 +117,9 @@ pub extern "C" fn ropey_remove(alloc: Global, rope: &mut Handle, start: usize, e
     ensures changes { Changes rope.old.rope rope.new.rope result
         (λ old. IsStatus (char_range_error (Some start) (Some end) (length old.text)) result)
         (λ old new. (new.text ≡ removed old.text start end) × (new.breaks ≡ old.breaks)) }
-    ensures empty { start ≡ end → Keeps rope.old.rope rope.new.rope result (λ old. char_range_error (Some start) (Some end) (length old.text) ≡ None) }
+    ensures empty { start ≡ end
+        → Keeps rope.old.rope rope.new.rope result
+        (λ old. char_range_error (Some start) (Some end) (length old.text) ≡ None) }
     ensures kept { HoldsRope rope.new.rope }
 {
     let Some(mut held) = rope.take(alloc) else {
@@ -127,8 +134,10 @@ pub extern "C" fn ropey_remove(alloc: Global, rope: &mut Handle, start: usize, e
 fn split_off(alloc: Global, rope: &mut Rope, char_idx: usize, tail: &mut Handle) -> u32
     ensures status { IsStatus (char_index_error char_idx (length rope.old.text)) result }
     ensures front { result ≡ OK → rope.new.text ≡ take char_idx rope.old.text }
-    ensures back { result ≡ OK → IsSomeAnd tail.new.rope
-        (λ back. (back.text ≡ drop char_idx rope.old.text) × (back.breaks ≡ rope.old.breaks) × IsRope back) }
+    ensures back { result ≡ OK
+        → IsSomeAnd tail.new.rope
+        (λ back. (back.text ≡ drop char_idx rope.old.text) × (back.breaks ≡ rope.old.breaks)
+        × IsRope back) }
     ensures err { 0 < result → (rope.new ≡ rope.old) × (tail.new.rope ≡ tail.old.rope) }
     ensures breaks { rope.new.breaks ≡ rope.old.breaks }
     ensures kept { IsRope rope.new }
@@ -167,8 +176,10 @@ pub extern "C" fn ropey_split_off(
     ensures front { Changes rope.old.rope rope.new.rope result
         (λ old. IsStatus (char_index_error char_idx (length old.text)) result)
         (λ old new. (new.text ≡ take char_idx old.text) × (new.breaks ≡ old.breaks)) }
-    ensures back { result ≡ OK → IsSomeAnd tail.new.rope
-        (λ back. (back.text ≡ drop char_idx (text_at rope.old.rope)) × (back.breaks ≡ breaks_at rope.old.rope) × IsRope back) }
+    ensures back { result ≡ OK
+        → IsSomeAnd tail.new.rope
+        (λ back. (back.text ≡ drop char_idx (text_at rope.old.rope))
+        × (back.breaks ≡ breaks_at rope.old.rope) × IsRope back) }
     ensures err { 0 < result → tail.new.rope ≡ tail.old.rope }
     ensures kept { HoldsRope rope.new.rope }
 {
@@ -182,8 +193,10 @@ pub extern "C" fn ropey_split_off(
 
 // Whether another rope may be put behind one, but for memory.
 fn may_append(rope: &Rope, other: &Rope) -> Result<()>
-    ensures ok { OnOk result (append_error rope.now.breaks other.now.breaks rope.now.text other.now.text ≡ None) }
-    ensures err { IfErr result (λ e. append_error rope.now.breaks other.now.breaks rope.now.text other.now.text ≡ Some e) }
+    ensures ok { OnOk result
+        (append_error rope.now.breaks other.now.breaks rope.now.text other.now.text ≡ None) }
+    ensures err { IfErr result
+        (λ e. append_error rope.now.breaks other.now.breaks rope.now.text other.now.text ≡ Some e) }
 {
     if rope.line_breaks() != other.line_breaks() {
         return Err(Error::LineBreaksDiffer);
@@ -205,18 +218,28 @@ fn may_append(rope: &Rope, other: &Rope) -> Result<()>
 /// clone of it. Where one of two ropes with one set of line breaks is empty, no memory is taken.
 #[unsafe(no_mangle)]
 pub extern "C" fn ropey_append(alloc: Global, rope: &mut Handle, other: &mut Handle) -> u32
-    ensures none { rope.old.rope ≡ None → (result ≡ NO_ROPE_HELD) × (rope.new.rope ≡ None) × (other.new.rope ≡ other.old.rope) }
-    ensures lone { other.old.rope ≡ None → (result ≡ NO_ROPE_HELD) × (other.new.rope ≡ None) × (rope.new.rope ≡ rope.old.rope) }
+    ensures none { rope.old.rope ≡ None
+        → (result ≡ NO_ROPE_HELD) × (rope.new.rope ≡ None) × (other.new.rope ≡ other.old.rope) }
+    ensures lone { other.old.rope ≡ None
+        → (result ≡ NO_ROPE_HELD) × (other.new.rope ≡ None) × (rope.new.rope ≡ rope.old.rope) }
     ensures changes { IfSome other.old.rope (λ o. Changes rope.old.rope rope.new.rope result
         (λ old. IsStatus (append_error old.breaks o.breaks old.text o.text) result)
         (λ old new. (new.text ≡ old.text ++ o.text) × (new.breaks ≡ old.breaks))) }
-    ensures empty { IfSome other.old.rope (λ o. length o.text ≡ 0 → Keeps rope.old.rope rope.new.rope result
+    ensures empty { IfSome other.old.rope
+        (λ o. length o.text ≡ 0
+        → Keeps rope.old.rope rope.new.rope result
         (λ old. append_error old.breaks o.breaks old.text o.text ≡ None)) }
-    ensures taken { IfSome other.old.rope (λ o. IfSome rope.old.rope (λ old. append_error old.breaks o.breaks old.text o.text ≡ None
-        → length old.text ≡ 0 → 0 < length o.text → (result ≡ OK) × (rope.new.rope ≡ Some o))) }
-    ensures spent { IfSome rope.old.rope (λ old. IfSome other.old.rope (λ o. append_error old.breaks o.breaks old.text o.text ≡ None
+    ensures taken { IfSome other.old.rope
+        (λ o. IfSome rope.old.rope
+        (λ old. append_error old.breaks o.breaks old.text o.text ≡ None → length old.text ≡ 0
+        → 0 < length o.text → (result ≡ OK) × (rope.new.rope ≡ Some o))) }
+    ensures spent { IfSome rope.old.rope
+        (λ old. IfSome other.old.rope
+        (λ o. append_error old.breaks o.breaks old.text o.text ≡ None
         → other.new.rope ≡ None)) }
-    ensures left { IfSome rope.old.rope (λ old. IfSome other.old.rope (λ o. append_error old.breaks o.breaks old.text o.text ≢ None
+    ensures left { IfSome rope.old.rope
+        (λ old. IfSome other.old.rope
+        (λ o. append_error old.breaks o.breaks old.text o.text ≢ None
         → other.new.rope ≡ other.old.rope)) }
     ensures kept { HoldsRope rope.new.rope }
 {

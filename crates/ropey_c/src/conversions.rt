@@ -23,7 +23,8 @@ use crate::status::{NO_ROPE_HELD, answer};
 /// `NO_ROPE_HELD`, then `BYTE_INDEX_OUT_OF_BOUNDS`.
 #[unsafe(no_mangle)]
 pub extern "C" fn ropey_byte_to_char(rope: &Lent, byte_idx: usize, char_idx: &mut usize) -> u32
-    ensures answer { AnswersAt rope.now.rope (λ r. checked (byte_index_error byte_idx (byte_len r.text)) (byte_to_char r.text byte_idx))
+    ensures answer { AnswersAt rope.now.rope
+        (λ r. checked (byte_index_error byte_idx (byte_len r.text)) (byte_to_char r.text byte_idx))
         result char_idx.old char_idx.new }
     ensures kept { HoldsRope rope.now.rope }
 {
@@ -41,7 +42,9 @@ pub extern "C" fn ropey_byte_to_char(rope: &Lent, byte_idx: usize, char_idx: &mu
 /// `NO_ROPE_HELD`, then `BYTE_INDEX_OUT_OF_BOUNDS`.
 #[unsafe(no_mangle)]
 pub extern "C" fn ropey_byte_to_line(rope: &Lent, byte_idx: usize, line_idx: &mut usize) -> u32
-    ensures answer { AnswersAt rope.now.rope (λ r. checked (byte_index_error byte_idx (byte_len r.text)) (byte_to_line r.breaks r.text byte_idx))
+    ensures answer { AnswersAt rope.now.rope
+        (λ r. checked (byte_index_error byte_idx (byte_len r.text))
+        (byte_to_line r.breaks r.text byte_idx))
         result line_idx.old line_idx.new }
     ensures kept { HoldsRope rope.now.rope }
 {
@@ -58,7 +61,8 @@ pub extern "C" fn ropey_byte_to_line(rope: &Lent, byte_idx: usize, line_idx: &mu
 /// `NO_ROPE_HELD`, then `CHAR_INDEX_OUT_OF_BOUNDS`.
 #[unsafe(no_mangle)]
 pub extern "C" fn ropey_char_to_byte(rope: &Lent, char_idx: usize, byte_idx: &mut usize) -> u32
-    ensures answer { AnswersAt rope.now.rope (λ r. checked (char_index_error char_idx (length r.text)) (char_to_byte r.text char_idx))
+    ensures answer { AnswersAt rope.now.rope
+        (λ r. checked (char_index_error char_idx (length r.text)) (char_to_byte r.text char_idx))
         result byte_idx.old byte_idx.new }
     ensures kept { HoldsRope rope.now.rope }
 {
@@ -76,7 +80,9 @@ pub extern "C" fn ropey_char_to_byte(rope: &Lent, char_idx: usize, byte_idx: &mu
 /// `NO_ROPE_HELD`, then `CHAR_INDEX_OUT_OF_BOUNDS`.
 #[unsafe(no_mangle)]
 pub extern "C" fn ropey_char_to_line(rope: &Lent, char_idx: usize, line_idx: &mut usize) -> u32
-    ensures answer { AnswersAt rope.now.rope (λ r. checked (char_index_error char_idx (length r.text)) (char_to_line r.breaks r.text char_idx))
+    ensures answer { AnswersAt rope.now.rope
+        (λ r. checked (char_index_error char_idx (length r.text))
+        (char_to_line r.breaks r.text char_idx))
         result line_idx.old line_idx.new }
     ensures kept { HoldsRope rope.now.rope }
 {
@@ -94,7 +100,8 @@ pub extern "C" fn ropey_char_to_line(rope: &Lent, char_idx: usize, line_idx: &mu
 /// `NO_ROPE_HELD`, then `CHAR_INDEX_OUT_OF_BOUNDS`.
 #[unsafe(no_mangle)]
 pub extern "C" fn ropey_char_to_utf16(rope: &Lent, char_idx: usize, utf16_idx: &mut usize) -> u32
-    ensures answer { AnswersAt rope.now.rope (λ r. checked (char_index_error char_idx (length r.text)) (char_to_utf16 r.text char_idx))
+    ensures answer { AnswersAt rope.now.rope
+        (λ r. checked (char_index_error char_idx (length r.text)) (char_to_utf16 r.text char_idx))
         result utf16_idx.old utf16_idx.new }
     ensures kept { HoldsRope rope.now.rope }
 {
@@ -112,7 +119,9 @@ pub extern "C" fn ropey_char_to_utf16(rope: &Lent, char_idx: usize, utf16_idx: &
 /// `NO_ROPE_HELD`, then `UTF16_INDEX_OUT_OF_BOUNDS`.
 #[unsafe(no_mangle)]
 pub extern "C" fn ropey_utf16_to_char(rope: &Lent, utf16_idx: usize, char_idx: &mut usize) -> u32
-    ensures answer { AnswersAt rope.now.rope (λ r. checked (utf16_index_error utf16_idx (utf16_len r.text)) (utf16_to_char r.text utf16_idx))
+    ensures answer { AnswersAt rope.now.rope
+        (λ r. checked (utf16_index_error utf16_idx (utf16_len r.text))
+        (utf16_to_char r.text utf16_idx))
         result char_idx.old char_idx.new }
     ensures kept { HoldsRope rope.now.rope }
 {
@@ -129,7 +138,9 @@ pub extern "C" fn ropey_utf16_to_char(rope: &Lent, utf16_idx: usize, char_idx: &
 /// `NO_ROPE_HELD`, then `LINE_INDEX_OUT_OF_BOUNDS`.
 #[unsafe(no_mangle)]
 pub extern "C" fn ropey_line_to_byte(rope: &Lent, line_idx: usize, byte_idx: &mut usize) -> u32
-    ensures answer { AnswersAt rope.now.rope (λ r. checked (line_index_error line_idx (line_count r.breaks r.text)) (line_to_byte r.breaks r.text line_idx))
+    ensures answer { AnswersAt rope.now.rope
+        (λ r. checked (line_index_error line_idx (line_count r.breaks r.text))
+        (line_to_byte r.breaks r.text line_idx))
         result byte_idx.old byte_idx.new }
     ensures kept { HoldsRope rope.now.rope }
 {
@@ -146,7 +157,9 @@ pub extern "C" fn ropey_line_to_byte(rope: &Lent, line_idx: usize, byte_idx: &mu
 /// `NO_ROPE_HELD`, then `LINE_INDEX_OUT_OF_BOUNDS`.
 #[unsafe(no_mangle)]
 pub extern "C" fn ropey_line_to_char(rope: &Lent, line_idx: usize, char_idx: &mut usize) -> u32
-    ensures answer { AnswersAt rope.now.rope (λ r. checked (line_index_error line_idx (line_count r.breaks r.text)) (line_to_char r.breaks r.text line_idx))
+    ensures answer { AnswersAt rope.now.rope
+        (λ r. checked (line_index_error line_idx (line_count r.breaks r.text))
+        (line_to_char r.breaks r.text line_idx))
         result char_idx.old char_idx.new }
     ensures kept { HoldsRope rope.now.rope }
 {

@@ -17,7 +17,8 @@ use ropey::{Rope, RopeSlice};
 // Writes the bytes over those from a place on.
 fn write_at(buffer: &mut [u8], at: usize, bytes: &[u8])
     requires { at + length bytes.now ≤ length buffer.old }
-    ensures { buffer.new ≡ take at buffer.old ++ bytes.now ++ drop (at + length bytes.now) buffer.old }
+    ensures { buffer.new
+        ≡ take at buffer.old ++ bytes.now ++ drop (at + length bytes.now) buffer.old }
 {
     buffer[at..at + bytes.len()].copy_from_slice(bytes);
 }
@@ -25,7 +26,8 @@ fn write_at(buffer: &mut [u8], at: usize, bytes: &[u8])
 // Writes the chunks to the front of a buffer that has room for them.
 fn copy_chunks(slice: &RopeSlice<'_>, buffer: &mut [u8])
     requires { byte_len (text_of slice.now) ≤ length buffer.old }
-    ensures { buffer.new ≡ encode_utf8_all (text_of slice.now) ++ drop (byte_len (text_of slice.now)) buffer.old }
+    ensures { buffer.new
+        ≡ encode_utf8_all (text_of slice.now) ++ drop (byte_len (text_of slice.now)) buffer.old }
 {
     // This opens what every slice keeps: its chunks join to its text.
     let _ = slice.len_bytes();
@@ -51,7 +53,8 @@ fn copy(slice: &RopeSlice<'_>, buffer: &mut [u8], len: &mut usize) -> u32
 
 fn copy_chars(rope: &Rope, start: usize, end: usize, buffer: &mut [u8], len: &mut usize) -> u32
     ensures { CopiesOf (char_range_error (Some start) (Some end) (length rope.now.text))
-        (encode_utf8_all (slice_range rope.now.text start end)) result buffer.old buffer.new len.old len.new }
+        (encode_utf8_all (slice_range rope.now.text start end))
+        result buffer.old buffer.new len.old len.new }
 {
     match char_bounds(&(start..end), rope.len_chars()) {
         Ok((start, end)) => copy(&rope.slice(start..end), buffer, len),
@@ -76,8 +79,10 @@ pub extern "C" fn ropey_copy_chars(
     buffer: &mut [u8],
     len: &mut usize,
 ) -> u32
-    ensures answer { CopiesAt rope.now.rope (λ r. char_range_error (Some start) (Some end) (length r.text))
-        (λ r. encode_utf8_all (slice_range r.text start end)) result buffer.old buffer.new len.old len.new }
+    ensures answer { CopiesAt rope.now.rope
+        (λ r. char_range_error (Some start) (Some end) (length r.text))
+        (λ r. encode_utf8_all (slice_range r.text start end))
+        result buffer.old buffer.new len.old len.new }
     ensures kept { HoldsRope rope.now.rope }
 {
     let Some(held) = rope.held() else {
@@ -88,7 +93,9 @@ pub extern "C" fn ropey_copy_chars(
 
 fn copy_bytes(rope: &Rope, start: usize, end: usize, buffer: &mut [u8], len: &mut usize) -> u32
     ensures { CopiesOf (byte_range_error rope.now.text (Some start) (Some end))
-        (encode_utf8_all (slice_range rope.now.text (byte_to_char rope.now.text start) (byte_to_char rope.now.text end)))
+        (encode_utf8_all
+        (slice_range rope.now.text (byte_to_char rope.now.text start)
+        (byte_to_char rope.now.text end)))
         result buffer.old buffer.new len.old len.new }
 {
     match rope.try_byte_slice(start..end) {
@@ -115,7 +122,8 @@ pub extern "C" fn ropey_copy_bytes(
     len: &mut usize,
 ) -> u32
     ensures answer { CopiesAt rope.now.rope (λ r. byte_range_error r.text (Some start) (Some end))
-        (λ r. encode_utf8_all (slice_range r.text (byte_to_char r.text start) (byte_to_char r.text end)))
+        (λ r. encode_utf8_all
+        (slice_range r.text (byte_to_char r.text start) (byte_to_char r.text end)))
         result buffer.old buffer.new len.old len.new }
     ensures kept { HoldsRope rope.now.rope }
 {

@@ -35,8 +35,8 @@ pub(crate) fn counts_of(slice: &RopeSlice<'_>) -> Counts
 }
 
 fn count_chars(rope: &Rope, start: usize, end: usize, counts: &mut Counts) -> u32
-    ensures { CountsOf (char_range_error (Some start) (Some end) (length rope.now.text)) rope.now.breaks
-        (slice_range rope.now.text start end) result counts.old counts.new }
+    ensures { CountsOf (char_range_error (Some start) (Some end) (length rope.now.text))
+        rope.now.breaks (slice_range rope.now.text start end) result counts.old counts.new }
 {
     match char_bounds(&(start..end), rope.len_chars()) {
         Ok((start, end)) => {
@@ -61,7 +61,8 @@ pub extern "C" fn ropey_counts_in_chars(
     end: usize,
     counts: &mut Counts,
 ) -> u32
-    ensures answer { CountsAt rope.now.rope (λ r. char_range_error (Some start) (Some end) (length r.text))
+    ensures answer { CountsAt rope.now.rope
+        (λ r. char_range_error (Some start) (Some end) (length r.text))
         (λ r. slice_range r.text start end) result counts.old counts.new }
     ensures kept { HoldsRope rope.now.rope }
 {
@@ -73,7 +74,9 @@ pub extern "C" fn ropey_counts_in_chars(
 
 fn count_bytes(rope: &Rope, start: usize, end: usize, counts: &mut Counts) -> u32
     ensures { CountsOf (byte_range_error rope.now.text (Some start) (Some end)) rope.now.breaks
-        (slice_range rope.now.text (byte_to_char rope.now.text start) (byte_to_char rope.now.text end)) result counts.old counts.new }
+        (slice_range rope.now.text (byte_to_char rope.now.text start)
+        (byte_to_char rope.now.text end))
+        result counts.old counts.new }
 {
     match rope.try_byte_slice(start..end) {
         Ok(slice) => {
@@ -98,7 +101,8 @@ pub extern "C" fn ropey_counts_in_bytes(
     counts: &mut Counts,
 ) -> u32
     ensures answer { CountsAt rope.now.rope (λ r. byte_range_error r.text (Some start) (Some end))
-        (λ r. slice_range r.text (byte_to_char r.text start) (byte_to_char r.text end)) result counts.old counts.new }
+        (λ r. slice_range r.text (byte_to_char r.text start) (byte_to_char r.text end))
+        result counts.old counts.new }
     ensures kept { HoldsRope rope.now.rope }
 {
     match rope.held() {

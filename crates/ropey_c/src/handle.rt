@@ -59,7 +59,8 @@ impl Handle {
 
     // Takes the rope out, if there is one.
     pub(crate) fn take(&mut self, alloc: Global) -> Option<Box<Rope>>
-        ensures taken { MatchOption result (self.old.rope ≡ None) (λ rope. self.old.rope ≡ Some rope.value) }
+        ensures taken { MatchOption result (self.old.rope ≡ None)
+            (λ rope. self.old.rope ≡ Some rope.value) }
         ensures left { self.new.rope ≡ None }
         ensures kept { HoldsRope self.old.rope }
     {

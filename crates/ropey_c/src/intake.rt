@@ -33,7 +33,12 @@ impl Model for Intake {
 
     ghost Value = { Taking };
 
-    ghost view = { λ i. record { text = i.texts.text; rest = take i.rest_len i.rest; breaks = i.texts.breaks; refused = i.refused } };
+    ghost view = { λ i. record {
+        text = i.texts.text;
+        rest = take i.rest_len i.rest;
+        breaks = i.texts.breaks;
+        refused = i.refused
+    } };
 
     ghost invariant = { λ i. IsIntake i.texts i.taken i.rest_len i.refused };
 }
@@ -74,10 +79,14 @@ impl Intake {
     fn settle(&mut self, all: &[u8], valid: &mut usize) -> u32
         requires { self.old.refused ≡ OK }
         ensures faulty { 4 ≤ length (text_rest all.now) → result ≡ INVALID_UTF8 }
-        ensures fine { length (text_rest all.now) < 4 → IsStatus (size_error (byte_len self.old.text + length (text_front all.now))) result }
-        ensures place { result ≡ INVALID_UTF8 → valid.new ≡ byte_len self.old.text + utf8_valid_len all.now }
+        ensures fine { length (text_rest all.now) < 4
+            → IsStatus (size_error (byte_len self.old.text + length (text_front all.now))) result }
+        ensures place { result ≡ INVALID_UTF8
+            → valid.new ≡ byte_len self.old.text + utf8_valid_len all.now }
         ensures kept { result ≢ INVALID_UTF8 → valid.new ≡ valid.old }
-        ensures taken { result ≡ OK → (self.new.text ≡ self.old.text ++ chars (text_front all.now)) × (self.new.rest ≡ text_rest all.now) }
+        ensures taken { result ≡ OK
+            → (self.new.text ≡ self.old.text ++ chars (text_front all.now))
+            × (self.new.rest ≡ text_rest all.now) }
         ensures refused { self.new.refused ≡ result }
         ensures breaks { self.new.breaks ≡ self.old.breaks }
     {

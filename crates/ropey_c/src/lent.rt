@@ -24,7 +24,8 @@ impl Model for Lent {
 impl Lent {
     // What lies at the pointer, for as long as the handle is lent.
     fn behind<'a>(&'a self) -> Option<&'a Rope>
-        ensures { MatchOption result (self.now.rope ≡ None) (λ rope. self.now.rope ≡ Some rope.now) }
+        ensures { MatchOption result (self.now.rope ≡ None)
+            (λ rope. self.now.rope ≡ Some rope.now) }
     {
         let at = self.ptr;
         if at.is_null() {
@@ -35,7 +36,8 @@ impl Lent {
 
     // The rope, if there is one.
     pub(crate) fn held<'a>(&'a self) -> Option<&'a Rope>
-        ensures found { MatchOption result (self.now.rope ≡ None) (λ rope. self.now.rope ≡ Some rope.now) }
+        ensures found { MatchOption result (self.now.rope ≡ None)
+            (λ rope. self.now.rope ≡ Some rope.now) }
         ensures kept { MatchOption result (self.now.rope ≡ None) (λ rope. IsRope rope.now) }
     {
         let rope = self.behind()?;

@@ -31,7 +31,8 @@ pub struct Span {
 /// `NO_ROPE_HELD`.
 #[unsafe(no_mangle)]
 pub extern "C" fn ropey_get_break_set(rope: &Lent, break_set: &mut u32) -> u32
-    ensures answer { FindsAt rope.now.rope (λ r. Some (number_of r.breaks)) NO_ROPE_HELD result break_set.old break_set.new }
+    ensures answer { FindsAt rope.now.rope (λ r. Some (number_of r.breaks))
+        NO_ROPE_HELD result break_set.old break_set.new }
     ensures kept { HoldsRope rope.now.rope }
 {
     let Some(held) = rope.held() else {

@@ -37,7 +37,8 @@ pub(crate) fn keep(alloc: Global, made: Rope, rope: &mut Handle) -> u32
 
 fn make(alloc: Global, text: &str, breaks: LineBreaks, rope: &mut Handle) -> u32
     ensures status { IsStatus None result }
-    ensures ok { result ≡ OK → IsSomeAnd rope.new.rope (λ r. (r.text ≡ chars text.now) × IsBuilt breaks r) }
+    ensures ok { result ≡ OK
+        → IsSomeAnd rope.new.rope (λ r. (r.text ≡ chars text.now) × IsBuilt breaks r) }
     ensures err { 0 < result → rope.new.rope ≡ rope.old.rope }
 {
     match Rope::from_str_with(alloc, text, breaks) {
@@ -48,7 +49,8 @@ fn make(alloc: Global, text: &str, breaks: LineBreaks, rope: &mut Handle) -> u32
 
 fn make_checked(alloc: Global, text: &[u8], breaks: LineBreaks, rope: &mut Handle) -> u32
     ensures status { IsTextStatus text.now None result }
-    ensures ok { result ≡ OK → IsSomeAnd rope.new.rope (λ r. (r.text ≡ chars text.now) × IsBuilt breaks r) }
+    ensures ok { result ≡ OK
+        → IsSomeAnd rope.new.rope (λ r. (r.text ≡ chars text.now) × IsBuilt breaks r) }
     ensures err { 0 < result → rope.new.rope ≡ rope.old.rope }
 {
     match utf8::text_of(text) {
@@ -73,7 +75,9 @@ pub extern "C" fn ropey_from_text(
     rope: &mut Handle,
 ) -> u32
     ensures status { IsMakerStatus (given_breaks break_set) text.now result }
-    ensures ok { result ≡ OK → IsSomeAnd rope.new.rope (λ r. (r.text ≡ chars text.now) × IsBuiltWith (given_breaks break_set) r) }
+    ensures ok { result ≡ OK
+        → IsSomeAnd rope.new.rope
+        (λ r. (r.text ≡ chars text.now) × IsBuiltWith (given_breaks break_set) r) }
     ensures err { 0 < result → rope.new.rope ≡ rope.old.rope }
 {
     match given_breaks(break_set) {
@@ -100,7 +104,9 @@ pub extern "C" fn ropey_from_text_unchecked(
 ) -> u32
     requires { IsUtf8 text.now }
     ensures status { IsMakerStatus (given_breaks break_set) text.now result }
-    ensures ok { result ≡ OK → IsSomeAnd rope.new.rope (λ r. (r.text ≡ chars text.now) × IsBuiltWith (given_breaks break_set) r) }
+    ensures ok { result ≡ OK
+        → IsSomeAnd rope.new.rope
+        (λ r. (r.text ≡ chars text.now) × IsBuiltWith (given_breaks break_set) r) }
     ensures err { 0 < result → rope.new.rope ≡ rope.old.rope }
 {
     match given_breaks(break_set) {

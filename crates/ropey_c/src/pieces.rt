@@ -60,7 +60,9 @@ fn find_pieces<'a>(
     count: &mut usize,
     bytes_before: &mut usize,
 ) -> u32
-    ensures { FillsFrom (Some rope.now) byte_idx result pieces.old pieces.new count.old count.new bytes_before.old bytes_before.new }
+    ensures { FillsFrom (Some rope.now)
+        byte_idx result pieces.old pieces.new count.old count.new bytes_before.old
+        bytes_before.new }
 {
     if byte_idx > rope.len_bytes() {
         return BYTE_INDEX_OUT_OF_BOUNDS;
@@ -87,7 +89,8 @@ pub extern "C" fn ropey_chunks_from_byte<'a>(
     count: &mut usize,
     bytes_before: &mut usize,
 ) -> u32
-    ensures answer { FillsFrom rope.now.rope byte_idx result pieces.old pieces.new count.old count.new bytes_before.old bytes_before.new }
+    ensures answer { FillsFrom rope.now.rope byte_idx result pieces.old pieces.new count.old
+        count.new bytes_before.old bytes_before.new }
     ensures kept { HoldsRope rope.now.rope }
 {
     let Some(held) = rope.held() else {
@@ -103,7 +106,9 @@ fn find_pieces_before<'a>(
     count: &mut usize,
     bytes_before: &mut usize,
 ) -> u32
-    ensures { FillsBefore (Some rope.now) byte_idx result pieces.old pieces.new count.old count.new bytes_before.old bytes_before.new }
+    ensures { FillsBefore (Some rope.now)
+        byte_idx result pieces.old pieces.new count.old count.new bytes_before.old
+        bytes_before.new }
 {
     if byte_idx > rope.len_bytes() {
         return BYTE_INDEX_OUT_OF_BOUNDS;
@@ -130,7 +135,8 @@ pub extern "C" fn ropey_chunks_before_byte<'a>(
     count: &mut usize,
     bytes_before: &mut usize,
 ) -> u32
-    ensures answer { FillsBefore rope.now.rope byte_idx result pieces.old pieces.new count.old count.new bytes_before.old bytes_before.new }
+    ensures answer { FillsBefore rope.now.rope byte_idx result pieces.old pieces.new count.old
+        count.new bytes_before.old bytes_before.new }
     ensures kept { HoldsRope rope.now.rope }
 {
     let Some(held) = rope.held() else {
@@ -171,8 +177,9 @@ fn write_found<'a>(
     chars_before: &mut usize,
     line_breaks_before: &mut usize,
 ) -> u32
-    ensures { FillsFound found.entry missing result pieces.old pieces.new count.old count.new bytes_before.old bytes_before.new
-        chars_before.old chars_before.new line_breaks_before.old line_breaks_before.new }
+    ensures { FillsFound found.entry missing result pieces.old pieces.new count.old count.new
+        bytes_before.old bytes_before.new chars_before.old chars_before.new line_breaks_before.old
+        line_breaks_before.new }
 {
     match found {
         Some(found) => {
@@ -208,9 +215,11 @@ pub extern "C" fn ropey_chunks_at_byte<'a>(
     chars_before: &mut usize,
     line_breaks_before: &mut usize,
 ) -> u32
-    ensures answer { FillsAt rope.now.rope (λ r. byte_len r.text) byte_idx (λ r. chunk_place_at_byte r.chunks byte_idx)
-        BYTE_INDEX_OUT_OF_BOUNDS result pieces.old pieces.new count.old count.new bytes_before.old bytes_before.new
-        chars_before.old chars_before.new line_breaks_before.old line_breaks_before.new }
+    ensures answer { FillsAt rope.now.rope (λ r. byte_len r.text) byte_idx
+        (λ r. chunk_place_at_byte r.chunks byte_idx)
+        BYTE_INDEX_OUT_OF_BOUNDS result pieces.old pieces.new count.old count.new bytes_before.old
+        bytes_before.new chars_before.old chars_before.new line_breaks_before.old
+        line_breaks_before.new }
     ensures kept { HoldsRope rope.now.rope }
 {
     let Some(held) = rope.held() else {
@@ -243,9 +252,11 @@ pub extern "C" fn ropey_chunks_at_char<'a>(
     chars_before: &mut usize,
     line_breaks_before: &mut usize,
 ) -> u32
-    ensures answer { FillsAt rope.now.rope (λ r. length r.text) char_idx (λ r. chunk_place_at_char r.chunks char_idx)
-        CHAR_INDEX_OUT_OF_BOUNDS result pieces.old pieces.new count.old count.new bytes_before.old bytes_before.new
-        chars_before.old chars_before.new line_breaks_before.old line_breaks_before.new }
+    ensures answer { FillsAt rope.now.rope (λ r. length r.text) char_idx
+        (λ r. chunk_place_at_char r.chunks char_idx)
+        CHAR_INDEX_OUT_OF_BOUNDS result pieces.old pieces.new count.old count.new bytes_before.old
+        bytes_before.new chars_before.old chars_before.new line_breaks_before.old
+        line_breaks_before.new }
     ensures kept { HoldsRope rope.now.rope }
 {
     let Some(held) = rope.held() else {
@@ -279,9 +290,11 @@ pub extern "C" fn ropey_chunks_at_line_break<'a>(
     chars_before: &mut usize,
     line_breaks_before: &mut usize,
 ) -> u32
-    ensures answer { FillsAt rope.now.rope (λ r. line_count r.breaks r.text) line_idx (λ r. chunk_place_at_line_break r.breaks r.chunks line_idx)
-        LINE_INDEX_OUT_OF_BOUNDS result pieces.old pieces.new count.old count.new bytes_before.old bytes_before.new
-        chars_before.old chars_before.new line_breaks_before.old line_breaks_before.new }
+    ensures answer { FillsAt rope.now.rope (λ r. line_count r.breaks r.text) line_idx
+        (λ r. chunk_place_at_line_break r.breaks r.chunks line_idx)
+        LINE_INDEX_OUT_OF_BOUNDS result pieces.old pieces.new count.old count.new bytes_before.old
+        bytes_before.new chars_before.old chars_before.new line_breaks_before.old
+        line_breaks_before.new }
     ensures kept { HoldsRope rope.now.rope }
 {
     let Some(held) = rope.held() else {
@@ -305,7 +318,8 @@ fn find_line_pieces<'a>(
     pieces: &mut [Piece<'a>],
     count: &mut usize,
 ) -> u32
-    ensures { FillsLine (Some rope.now) line_idx result pieces.old pieces.new count.old count.new bytes.old bytes.new }
+    ensures { FillsLine (Some rope.now)
+        line_idx result pieces.old pieces.new count.old count.new bytes.old bytes.new }
 {
     if line_idx >= rope.len_lines() {
         return LINE_INDEX_OUT_OF_BOUNDS;
@@ -334,7 +348,8 @@ pub extern "C" fn ropey_line_pieces<'a>(
     pieces: &mut [Piece<'a>],
     count: &mut usize,
 ) -> u32
-    ensures answer { FillsLine rope.now.rope line_idx result pieces.old pieces.new count.old count.new bytes.old bytes.new }
+    ensures answer { FillsLine rope.now.rope line_idx result pieces.old pieces.new count.old
+        count.new bytes.old bytes.new }
     ensures kept { HoldsRope rope.now.rope }
 {
     let Some(held) = rope.held() else {

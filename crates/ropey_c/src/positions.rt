@@ -45,8 +45,10 @@ fn answer_place(found: Result<Position>, place: &mut Place) -> u32
 /// `NO_ROPE_HELD`, then `CHAR_INDEX_OUT_OF_BOUNDS`.
 #[unsafe(no_mangle)]
 pub extern "C" fn ropey_char_to_position(rope: &Lent, char_idx: usize, place: &mut Place) -> u32
-    ensures answer { PlacesAt rope.now.rope (λ r. checked (char_index_error char_idx (length r.text))
-        (position_at r.breaks r.text char_idx)) result place.old place.new }
+    ensures answer { PlacesAt rope.now.rope
+        (λ r. checked (char_index_error char_idx (length r.text))
+        (position_at r.breaks r.text char_idx))
+        result place.old place.new }
     ensures kept { HoldsRope rope.now.rope }
 {
     let Some(held) = rope.held() else {
@@ -69,8 +71,10 @@ pub extern "C" fn ropey_position_to_char(
     column: usize,
     char_idx: &mut usize,
 ) -> u32
-    ensures answer { AnswersAt rope.now.rope (λ r. checked (of_text.position_error r.breaks r.text line column)
-        (of_text.position_to_char r.breaks r.text line column)) result char_idx.old char_idx.new }
+    ensures answer { AnswersAt rope.now.rope
+        (λ r. checked (of_text.position_error r.breaks r.text line column)
+        (of_text.position_to_char r.breaks r.text line column))
+        result char_idx.old char_idx.new }
     ensures kept { HoldsRope rope.now.rope }
 {
     let Some(held) = rope.held() else {

@@ -46,9 +46,12 @@ fn has_room(rope: &Rope, start: usize, end: usize, text: &str) -> bool
 fn replaced(rope: &Rope, start: usize, end: usize, text: &str) -> Result<Rope>
     requires ordered { start ≤ end }
     requires within { end ≤ length rope.now.text }
-    ensures ok { IfOk result (λ made. (replaced_size_error rope.now.text start end (chars text.now) ≡ None)
-        × (made.text ≡ replaced rope.now.text start end (chars text.now)) × (made.breaks ≡ rope.now.breaks) × IsRope made) }
-    ensures err { IfErr result (IsRefusal (replaced_size_error rope.now.text start end (chars text.now))) }
+    ensures ok { IfOk result
+        (λ made. (replaced_size_error rope.now.text start end (chars text.now) ≡ None)
+        × (made.text ≡ replaced rope.now.text start end (chars text.now))
+        × (made.breaks ≡ rope.now.breaks) × IsRope made) }
+    ensures err { IfErr result
+        (IsRefusal (replaced_size_error rope.now.text start end (chars text.now))) }
 {
     if !has_room(rope, start, end, text) {
         return Err(Error::TooLong);
@@ -66,7 +69,8 @@ fn replaced(rope: &Rope, start: usize, end: usize, text: &str) -> Result<Rope>
 fn exchange(rope: &mut Rope, start: usize, end: usize, text: &str) -> u32
     requires ordered { start ≤ end }
     requires within { end ≤ length rope.old.text }
-    ensures status { IsStatus (replaced_size_error rope.old.text start end (chars text.now)) result }
+    ensures status { IsStatus (replaced_size_error rope.old.text start end (chars text.now))
+        result }
     ensures ok { result ≡ OK → rope.new.text ≡ replaced rope.old.text start end (chars text.now) }
     ensures err { 0 < result → rope.new ≡ rope.old }
     ensures breaks { rope.new.breaks ≡ rope.old.breaks }
@@ -82,7 +86,8 @@ fn exchange(rope: &mut Rope, start: usize, end: usize, text: &str) -> u32
 }
 
 fn replace_chars(rope: &mut Rope, start: usize, end: usize, text: &[u8]) -> u32
-    ensures status { IsTextStatus text.now (replace_error rope.old.text start end (chars text.now)) result }
+    ensures status { IsTextStatus text.now (replace_error rope.old.text start end (chars text.now))
+        result }
     ensures ok { result ≡ OK → rope.new.text ≡ replaced rope.old.text start end (chars text.now) }
     ensures err { 0 < result → rope.new ≡ rope.old }
     ensures breaks { rope.new.breaks ≡ rope.old.breaks }
@@ -115,7 +120,8 @@ pub extern "C" fn ropey_replace(
 ) -> u32
     ensures changes { Changes rope.old.rope rope.new.rope result
         (λ old. IsTextStatus text.now (replace_error old.text start end (chars text.now)) result)
-        (λ old new. (new.text ≡ replaced old.text start end (chars text.now)) × (new.breaks ≡ old.breaks)) }
+        (λ old new. (new.text ≡ replaced old.text start end (chars text.now))
+        × (new.breaks ≡ old.breaks)) }
     ensures kept { HoldsRope rope.new.rope }
 {
     let Some(mut held) = rope.take(alloc) else {
@@ -127,9 +133,12 @@ pub extern "C" fn ropey_replace(
 }
 
 fn replace_bytes(rope: &mut Rope, start: usize, end: usize, text: &[u8]) -> u32
-    ensures status { IsTextStatus text.now (byte_replace_error rope.old.text start end (chars text.now)) result }
-    ensures ok { result ≡ OK → rope.new.text
-        ≡ replaced rope.old.text (byte_to_char rope.old.text start) (byte_to_char rope.old.text end) (chars text.now) }
+    ensures status { IsTextStatus text.now
+        (byte_replace_error rope.old.text start end (chars text.now)) result }
+    ensures ok { result ≡ OK
+        → rope.new.text
+        ≡ replaced rope.old.text (byte_to_char rope.old.text start)
+        (byte_to_char rope.old.text end) (chars text.now) }
     ensures err { 0 < result → rope.new ≡ rope.old }
     ensures breaks { rope.new.breaks ≡ rope.old.breaks }
     ensures kept { IsRope rope.old → IsRope rope.new }
@@ -160,8 +169,11 @@ pub extern "C" fn ropey_replace_bytes(
     text: &[u8],
 ) -> u32
     ensures changes { Changes rope.old.rope rope.new.rope result
-        (λ old. IsTextStatus text.now (byte_replace_error old.text start end (chars text.now)) result)
-        (λ old new. (new.text ≡ replaced old.text (byte_to_char old.text start) (byte_to_char old.text end) (chars text.now))
+        (λ old. IsTextStatus text.now (byte_replace_error old.text start end (chars text.now))
+        result)
+        (λ old new. (new.text
+        ≡ replaced old.text (byte_to_char old.text start) (byte_to_char old.text end)
+        (chars text.now))
         × (new.breaks ≡ old.breaks)) }
     ensures kept { HoldsRope rope.new.rope }
 {

@@ -46,7 +46,8 @@ fn bytes_of(text: &str) -> &[u8]
 // The bytes of a slice that lies in one chunk, and else none.
 #[inline(always)]
 fn lent_of<'a>(slice: &RopeSlice<'a>) -> &'a [u8]
-    ensures one { length (chunks_of slice.now) ≤ 1 → result.now ≡ encode_utf8_all (text_of slice.now) }
+    ensures one { length (chunks_of slice.now) ≤ 1
+        → result.now ≡ encode_utf8_all (text_of slice.now) }
     ensures more { 1 < length (chunks_of slice.now) → result.now ≡ [] }
 {
     match slice.as_str() {
@@ -155,7 +156,8 @@ fn find_lines<'a>(
     lines: &mut [Slice<'a>],
     count: &mut usize,
 ) -> u32
-    ensures { ShowsLinesFrom (Some rope.now) line_idx result lines.old lines.new count.old count.new }
+    ensures { ShowsLinesFrom (Some rope.now)
+        line_idx result lines.old lines.new count.old count.new }
 {
     if line_idx > rope.len_lines() {
         return LINE_INDEX_OUT_OF_BOUNDS;
@@ -177,7 +179,8 @@ pub extern "C" fn ropey_lines_from<'a>(
     lines: &mut [Slice<'a>],
     count: &mut usize,
 ) -> u32
-    ensures answer { ShowsLinesFrom rope.now.rope line_idx result lines.old lines.new count.old count.new }
+    ensures answer { ShowsLinesFrom rope.now.rope line_idx result lines.old lines.new count.old
+        count.new }
     ensures kept { HoldsRope rope.now.rope }
 {
     let Some(held) = rope.held() else {
@@ -192,7 +195,8 @@ fn find_lines_before<'a>(
     lines: &mut [Slice<'a>],
     count: &mut usize,
 ) -> u32
-    ensures { ShowsLinesBefore (Some rope.now) line_idx result lines.old lines.new count.old count.new }
+    ensures { ShowsLinesBefore (Some rope.now)
+        line_idx result lines.old lines.new count.old count.new }
 {
     if line_idx > rope.len_lines() {
         return LINE_INDEX_OUT_OF_BOUNDS;
@@ -215,7 +219,8 @@ pub extern "C" fn ropey_lines_before<'a>(
     lines: &mut [Slice<'a>],
     count: &mut usize,
 ) -> u32
-    ensures answer { ShowsLinesBefore rope.now.rope line_idx result lines.old lines.new count.old count.new }
+    ensures answer { ShowsLinesBefore rope.now.rope line_idx result lines.old lines.new count.old
+        count.new }
     ensures kept { HoldsRope rope.now.rope }
 {
     let Some(held) = rope.held() else {
@@ -272,7 +277,8 @@ fn find_chars_at<'a>(
     slice: &mut Slice<'a>,
     before: &mut Counts,
 ) -> u32
-    ensures { SliceOfCharsAt (Some rope.now) start end result slice.old slice.new before.old before.new }
+    ensures { SliceOfCharsAt (Some rope.now)
+        start end result slice.old slice.new before.old before.new }
 {
     match char_bounds(&(start..end), rope.len_chars()) {
         Ok((start, end)) => {
@@ -301,7 +307,8 @@ pub extern "C" fn ropey_char_slice_at<'a>(
     slice: &mut Slice<'a>,
     before: &mut Counts,
 ) -> u32
-    ensures answer { SliceOfCharsAt rope.now.rope start end result slice.old slice.new before.old before.new }
+    ensures answer { SliceOfCharsAt rope.now.rope start end result slice.old slice.new before.old
+        before.new }
     ensures kept { HoldsRope rope.now.rope }
 {
     let Some(held) = rope.held() else {
@@ -346,7 +353,8 @@ fn find_bytes_at<'a>(
     slice: &mut Slice<'a>,
     before: &mut Counts,
 ) -> u32
-    ensures { SliceOfBytesAt (Some rope.now) start end result slice.old slice.new before.old before.new }
+    ensures { SliceOfBytesAt (Some rope.now)
+        start end result slice.old slice.new before.old before.new }
 {
     if start <= end && end <= rope.len_bytes() {
         if let Some((part, counts)) = part_at_byte(rope, start, end) {
@@ -374,7 +382,8 @@ pub extern "C" fn ropey_byte_slice_at<'a>(
     slice: &mut Slice<'a>,
     before: &mut Counts,
 ) -> u32
-    ensures answer { SliceOfBytesAt rope.now.rope start end result slice.old slice.new before.old before.new }
+    ensures answer { SliceOfBytesAt rope.now.rope start end result slice.old slice.new before.old
+        before.new }
     ensures kept { HoldsRope rope.now.rope }
 {
     let Some(held) = rope.held() else {
@@ -390,7 +399,8 @@ fn count_chars_at(
     counts: &mut Counts,
     before: &mut Counts,
 ) -> u32
-    ensures { CountsInCharsAt (Some rope.now) start end result counts.old counts.new before.old before.new }
+    ensures { CountsInCharsAt (Some rope.now)
+        start end result counts.old counts.new before.old before.new }
 {
     match char_bounds(&(start..end), rope.len_chars()) {
         Ok((start, end)) => {
@@ -418,7 +428,8 @@ pub extern "C" fn ropey_counts_in_chars_at(
     counts: &mut Counts,
     before: &mut Counts,
 ) -> u32
-    ensures answer { CountsInCharsAt rope.now.rope start end result counts.old counts.new before.old before.new }
+    ensures answer { CountsInCharsAt rope.now.rope start end result counts.old counts.new before.old
+        before.new }
     ensures kept { HoldsRope rope.now.rope }
 {
     match rope.held() {
@@ -434,7 +445,8 @@ fn find_lines_at<'a>(
     count: &mut usize,
     before: &mut Counts,
 ) -> u32
-    ensures { ShowsLinesAt (Some rope.now) char_idx result lines.old lines.new count.old count.new before.old before.new }
+    ensures { ShowsLinesAt (Some rope.now)
+        char_idx result lines.old lines.new count.old count.new before.old before.new }
 {
     if char_idx > rope.len_chars() {
         return CHAR_INDEX_OUT_OF_BOUNDS;
@@ -462,7 +474,8 @@ pub extern "C" fn ropey_lines_at<'a>(
     count: &mut usize,
     before: &mut Counts,
 ) -> u32
-    ensures answer { ShowsLinesAt rope.now.rope char_idx result lines.old lines.new count.old count.new before.old before.new }
+    ensures answer { ShowsLinesAt rope.now.rope char_idx result lines.old lines.new count.old
+        count.new before.old before.new }
     ensures kept { HoldsRope rope.now.rope }
 {
     let Some(held) = rope.held() else {
@@ -496,7 +509,8 @@ fn find_lines_from_at<'a>(
     count: &mut usize,
     before: &mut Counts,
 ) -> u32
-    ensures { ShowsLinesFromAt (Some rope.now) line_idx result lines.old lines.new count.old count.new before.old before.new }
+    ensures { ShowsLinesFromAt (Some rope.now)
+        line_idx result lines.old lines.new count.old count.new before.old before.new }
 {
     if line_idx > rope.len_lines() {
         return LINE_INDEX_OUT_OF_BOUNDS;
@@ -521,7 +535,8 @@ pub extern "C" fn ropey_lines_from_at<'a>(
     count: &mut usize,
     before: &mut Counts,
 ) -> u32
-    ensures answer { ShowsLinesFromAt rope.now.rope line_idx result lines.old lines.new count.old count.new before.old before.new }
+    ensures answer { ShowsLinesFromAt rope.now.rope line_idx result lines.old lines.new count.old
+        count.new before.old before.new }
     ensures kept { HoldsRope rope.now.rope }
 {
     let Some(held) = rope.held() else {

@@ -99,7 +99,8 @@ pub extern "C" fn ropey_text_byte_to_line(
     byte_idx: usize,
     line_idx: &mut usize,
 ) -> u32
-    ensures { AnswersTextWith (given_breaks break_set) text.now (λ breaks t. byte_to_line breaks t byte_idx) result line_idx.old line_idx.new }
+    ensures { AnswersTextWith (given_breaks break_set) text.now
+        (λ breaks t. byte_to_line breaks t byte_idx) result line_idx.old line_idx.new }
 {
     let Some(breaks) = given_breaks(break_set) else {
         return UNKNOWN_BREAK_SET;
@@ -139,7 +140,8 @@ pub extern "C" fn ropey_text_char_to_line(
     char_idx: usize,
     line_idx: &mut usize,
 ) -> u32
-    ensures { AnswersTextWith (given_breaks break_set) text.now (λ breaks t. char_to_line breaks t char_idx) result line_idx.old line_idx.new }
+    ensures { AnswersTextWith (given_breaks break_set) text.now
+        (λ breaks t. char_to_line breaks t char_idx) result line_idx.old line_idx.new }
 {
     let Some(breaks) = given_breaks(break_set) else {
         return UNKNOWN_BREAK_SET;
@@ -162,7 +164,8 @@ pub extern "C" fn ropey_text_char_to_utf16(
     char_idx: usize,
     utf16_idx: &mut usize,
 ) -> u32
-    ensures { AnswersText text.now (λ t. char_to_utf16 t char_idx) result utf16_idx.old utf16_idx.new }
+    ensures { AnswersText text.now (λ t. char_to_utf16 t char_idx)
+        result utf16_idx.old utf16_idx.new }
 {
     let Some(text) = utf8::text_of(text) else {
         return INVALID_UTF8;
@@ -182,7 +185,8 @@ pub extern "C" fn ropey_text_utf16_to_char(
     utf16_idx: usize,
     char_idx: &mut usize,
 ) -> u32
-    ensures { AnswersText text.now (λ t. utf16_to_char t utf16_idx) result char_idx.old char_idx.new }
+    ensures { AnswersText text.now (λ t. utf16_to_char t utf16_idx)
+        result char_idx.old char_idx.new }
 {
     let Some(text) = utf8::text_of(text) else {
         return INVALID_UTF8;
@@ -203,7 +207,8 @@ pub extern "C" fn ropey_text_line_to_byte(
     line_idx: usize,
     byte_idx: &mut usize,
 ) -> u32
-    ensures { AnswersTextWith (given_breaks break_set) text.now (λ breaks t. line_to_byte breaks t line_idx) result byte_idx.old byte_idx.new }
+    ensures { AnswersTextWith (given_breaks break_set) text.now
+        (λ breaks t. line_to_byte breaks t line_idx) result byte_idx.old byte_idx.new }
 {
     let Some(breaks) = given_breaks(break_set) else {
         return UNKNOWN_BREAK_SET;
@@ -227,7 +232,8 @@ pub extern "C" fn ropey_text_line_to_char(
     line_idx: usize,
     char_idx: &mut usize,
 ) -> u32
-    ensures { AnswersTextWith (given_breaks break_set) text.now (λ breaks t. line_to_char breaks t line_idx) result char_idx.old char_idx.new }
+    ensures { AnswersTextWith (given_breaks break_set) text.now
+        (λ breaks t. line_to_char breaks t line_idx) result char_idx.old char_idx.new }
 {
     let Some(breaks) = given_breaks(break_set) else {
         return UNKNOWN_BREAK_SET;

@@ -144,7 +144,8 @@ impl Children {
         ensures child { result.place < length self.now }
         ensures place { at ≡ length (joined (take result.place self.now)) + result.inside }
         ensures goes { (child : Tree)
-            → GoesIn at result.inside (length (text (slice_index_or self.now result.place child))) to_right }
+            → GoesIn at result.inside (length (text (slice_index_or self.now result.place child)))
+            to_right }
     {
         let held = char_to_hold(at, to_right);
         let (place, follows) = try_place(&self.totals, held, usize::from(self.last), follows);
@@ -164,9 +165,12 @@ impl Children {
         requires within { at ≤ length (joined self.now) }
         requires right { to_right ≡ true → at < length (joined self.now) }
         ensures child { IfSome result (λ way. way.place < length self.now) }
-        ensures place { IfSome result (λ way. at ≡ length (joined (take way.place self.now)) + way.inside) }
-        ensures goes { IfSome result (λ way. (child : Tree)
-            → GoesIn at way.inside (length (text (slice_index_or self.now way.place child))) to_right) }
+        ensures place { IfSome result
+            (λ way. at ≡ length (joined (take way.place self.now)) + way.inside) }
+        ensures goes { IfSome result
+            (λ way. (child : Tree)
+            → GoesIn at way.inside (length (text (slice_index_or self.now way.place child)))
+            to_right) }
     {
         if !follows && self.height == 1 && touch_list(&self.nodes) {
             return None;

@@ -1,12 +1,10 @@
-use Rattle.std.proofs.Common.{◌≡◌, get_or, sym, ap, ap₂, refl, ◌∙◌, arith}
-use Rattle.rope_text.specs.declared.text_info.TextInfo.{TextInfo}
-use Rattle.rope_tree.specs.Tree.{text, height_of, breaks_of}
+use Rattle.std.proofs.Common.{ap, ap₂, refl, ◌∙◌, arith}
+use Rattle.rope_tree.specs.Tree.{breaks_of}
 use Rattle.rope_tree.specs.Search.{IsSmall}
-use Rattle.rope_text.specs.TextInfo.{info_of, info_sum, HasPart}
-use Rattle.rope_tree.proofs.NodeLaws.{small_totals, more_at}
-use Rattle.rope_tree.proofs.TotalLaws.{same_counts}
+use Rattle.rope_text.specs.TextInfo.{info_of, info_sum}
+use Rattle.rope_tree.proofs.NodeLaws.{small_totals}
 use Rattle.rope_tree.proofs.InsertLeaves.{text_of_leaf}
-use Rattle.rope_tree.proofs.Descents.{Descends, descends}
+use Rattle.rope_tree.proofs.Descents.{Descends, child_counts, child_total, descends}
 use Rattle.rope_tree.proofs.OnTheWay.{at_start, at_end, further, small_more}
 use Rattle.rope_tree.proofs.lookup.leaf_at.Goals.{After-total_before-front}
 use Rattle.rope_tree.proofs.Infos.{small_sum}
@@ -25,26 +23,11 @@ small c =
     small_more c.args.unit c.args.at c.args.node.now c.down.here.now c.down.rest c.down.before c.in-Inner.children.now c.place_of-place.result
     c.index-children-place.result c.total_before-front.result c.info-inside.ensures.tree c.down.invariant.0 c.in-Inner.ensures.is (down c)
 
--- the totals up to the child, less those before it
-total : (c : After-total_before-front) (d : TextInfo) → get_or c.in-Inner.totals.now c.place_of-place.result d ≡ info_sum c.total_before-front.result (info_of c.index-children-place.result.breaks (text c.index-children-place.result))
-total c d =
-    let ts = c.in-Inner.children.now in
-    let child = c.index-children-place.result in
-    let w = down c in
-    c.in-Inner.ensures.totals_right.total_at c.place_of-place.result d w.within ∙ more_at (breaks_of ts) (height_of ts) ts c.place_of-place.result child w.children w.within w.child_is
-    ∙ ap₂ info_sum (sym w.front_is) (ap (λ b. info_of b (text child)) (sym w.own.same_breaks))
-
--- what is left of a sum
-counts_are : (x y front : TextInfo) → info_sum front x ≡ info_sum front y → x ≡ y
-counts_are x y front e =
-    same_counts x y (omega (arith, ap (λ i. i.bytes) e)) (omega (arith, ap (λ i. i.chars) e)) (omega (arith, ap (λ i. i.utf16_surrogates) e)) (omega (arith, ap (λ i. i.break_count) e))
-
--- so the front is in them
-has_front : (c : After-total_before-front) (all : TextInfo) → ((d : TextInfo) → all ≡ get_or c.in-Inner.totals.now c.place_of-place.result d) → HasPart all c.total_before-front.result
-has_front c all is = part_of_sum _ _ _ (is all ∙ total c all)
-
 pub minus-inside-requires : goal.minus-inside-requires
-minus-inside-requires c = has_front (goal.at.minus-inside-requires c).After-total_before-front c.get.result c.get.ensures
+minus-inside-requires c =
+    let w = down (goal.at.minus-inside-requires c).After-total_before-front in
+    let v = c.in-Inner.ensures in
+    part_of_sum _ _ _ (child_total c.in-Inner.children.now c.in-Inner.totals.now c.place_of-place.result c.index-children-place.result c.total_before-front.result c.get.result v.children v.totals_right w.within c.index-children-place.is w.front_is (c.get.ensures c.get.result))
 
 pub down-init : goal.down-init
 down-init c = (
@@ -88,7 +71,8 @@ down-preserved c =
         counted = omega (arith, above, d.own.at_height, steps.counted, c.place_of-place.ensures.counted, c.in-Inner.ensures.children.at_least_two, c.in-Inner.ensures.totals_right.as_many);
         made = omega (arith, steps.made, c.place_of-place.ensures.made);
       },
-      counts_are c.minus-inside.result (info_of child.breaks (text child)) c.total_before-front.result (c.minus-inside.ensures.sum ∙ rw (c.get.ensures c.minus-inside.result) (total before c.minus-inside.result)),
+      child_counts c.in-Inner.children.now c.in-Inner.totals.now c.place_of-place.result child c.total_before-front.result c.get.result c.minus-inside.result
+          c.in-Inner.ensures.children c.in-Inner.ensures.totals_right d.within c.index-children-place.is d.front_is (c.get.ensures c.get.result) c.minus-inside.ensures.sum,
     )
 
 pub returns-in-Leaf-clause-found : goal.returns-in-Leaf-clause-found

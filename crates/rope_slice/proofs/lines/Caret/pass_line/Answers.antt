@@ -1,11 +1,11 @@
-use Rattle.std.proofs.Common.{◌≡◌, ◌∙◌, ap, arith}
-use Rattle.rope_text.specs.TextInfo.{info_of, info_sum}
+use Rattle.std.proofs.Common.{◌≡◌, ◌∙◌, ap, sym, subst, arith}
+use Rattle.rope_text.specs.TextInfo.{info_of, info_sum, HasSum}
 use Rattle.rope_text.specs.LineParts.{first_line}
 use Rattle.std.specs.Str.{chars}
 use Rattle.rope_text.specs.LineParts.{after_byte}
 use Rattle.rope_slice.specs.Caret.{halves_at, HoldsAhead}
 use Rattle.rope_slice.proofs.Carets.{between_boundary, between_after}
-use Rattle.rope_slice.proofs.CaretSteps.{holds_ahead, info_small, line_small, place_fits, pass_inside, more_small, pass_over}
+use Rattle.rope_slice.proofs.CaretSteps.{holds_ahead, info_small, place_fits, pass_inside, more_small, pass_over}
 use Rattle.rope_slice.proofs.lines.Caret.pass_line.Goals.{After-of_first_line-first}
 use Rattle.rope_tree.proofs.Infos.{sum_of_small}
 use Rattle.rope_slice.proofs.lines.Caret.pass_line.Goals as goal
@@ -45,8 +45,9 @@ returns-then-first-gt0-clause-back c =
 
 pub plus-requires : goal.plus-requires
 plus-requires c =
-    sum_of_small _ _ c.requires (info_small c.args.breaks c.self.inside.span c.self.inside.inside c.self.invariant c.of_first_line-first.result
-    (first_is (goal.at.plus-requires c).After-of_first_line-first))
+    subst (HasSum c.args.before.now) (sym (pass_inside c.args.breaks c.self.inside.span c.self.inside.inside c.self.invariant c.of_first_line-first.result
+    (first_is (goal.at.plus-requires c).After-of_first_line-first)
+    c.if-first-gt0.true).counts) (rw (← c.self.view_is) at c.requires)
 
 pub returns-then-first-gt0-clause-counts : goal.returns-then-first-gt0-clause-counts
 returns-then-first-gt0-clause-counts c =
@@ -77,11 +78,9 @@ returns-clause-back c =
 
 pub plus-requires-3 : goal.plus-requires-3
 plus-requires-3 c =
-    let first = (first_is (goal.at.plus-requires-3 c).After-of_first_line-first) in
-    sum_of_small _ _ c.requires (line_small c.args.breaks c.self.inside.span c.self.inside.inside c.self.invariant c.of_first_line-first.result
-    first c.plus-2.result (pass_over c.args.breaks c.self.inside.span c.self.inside.inside c.self.invariant c.of_first_line-first.result
-    first
-    c.pass_chunks-inside.new.span c.pass_chunks-inside.result.0 c.pass_chunks-inside.result.1 c.if-first-gt0.false c.pass_chunks-inside.ensures.passes c.plus-2.result c.plus-2.ensures.sum).counts)
+    subst (HasSum c.args.before.now) (sym (pass_over c.args.breaks c.self.inside.span c.self.inside.inside c.self.invariant c.of_first_line-first.result
+    (first_is (goal.at.plus-requires-3 c).After-of_first_line-first)
+    c.pass_chunks-inside.new.span c.pass_chunks-inside.result.0 c.pass_chunks-inside.result.1 c.if-first-gt0.false c.pass_chunks-inside.ensures.passes c.plus-2.result c.plus-2.ensures.sum).counts) (rw (← c.self.view_is) at c.requires)
 
 pub returns-clause-counts : goal.returns-clause-counts
 returns-clause-counts c =

@@ -6,7 +6,7 @@ use Rattle.rope_slice.proofs.Points.{stays_put}
 use Rattle.rope_slice.proofs.LineSteps.{left_of_line, right_of_line, no_line}
 use Rattle.rope_slice.proofs.PartsBetween.{line_from, line_to, line_apart, line_is}
 use Rattle.std.specs.Str.{chars}
-use Rattle.rope_slice.proofs.LineMoves.{line_held, start_apart, breaks_enough, inside_back, before_sum, before_up, start_is, prev_start, inside, after_is, next_start, next_small}
+use Rattle.rope_slice.proofs.LineMoves.{line_held, start_apart, breaks_enough, inside_back, before_sum, before_up, start_is, prev_start, inside, after_is, next_start, next_sum}
 use Rattle.rope_slice.proofs.lines.Lines.step.Goals.{Then-is_left, Else-is_left}
 use Rattle.rope_text.proofs.InfoLaws.{rest_of_sum}
 use Rattle.rope_slice.proofs.lines.Lines.step.Goals as goal
@@ -72,8 +72,8 @@ pass_line_back-held-requires-clause-part c =
 
 pub pass_line-held-requires : goal.pass_line-held-requires
 pass_line-held-requires c =
-    (next_small (content_of c.self.inside.slice) c.self.inside.caret c.self.inside.before c.self.inside.line c.self.inside.total c.line_breaks-breaks.result c.self.invariant
-    (not_last (goal.at.pass_line-held-requires c).Else-is_left) c.line_breaks-breaks.ensures).0
+    next_sum (content_of c.self.inside.slice) c.self.inside.caret c.self.inside.before c.self.inside.line c.self.inside.total c.line_breaks-breaks.result c.self.invariant
+    (not_last (goal.at.pass_line-held-requires c).Else-is_left) c.line_breaks-breaks.ensures
 
 pub between-requires-2-clause-to_is : goal.between-requires-2-clause-to_is
 between-requires-2-clause-to_is c =

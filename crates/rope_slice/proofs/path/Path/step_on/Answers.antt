@@ -1,52 +1,52 @@
 use Rattle.std.proofs.Common.{◌+◌, ◌∙◌, length, sym, ap, arith, inl, inr}
 use Rattle.std.proofs.lemmas.Bool.{cases_lt}
-use Rattle.std.proofs.lemmas.List.Elements.{All-get_or}
 use Rattle.std.specs.List.{concat}
 use Rattle.std.specs.Str.{chars}
 use Rattle.rope_text.specs.Text.{byte_len}
 use Rattle.rope_slice.specs.Path.{leaves}
-use Rattle.rope_slice.specs.Way.{IsLow, IsWay}
+use Rattle.rope_slice.specs.Way.{IsWay}
 use Rattle.rope_slice.proofs.Ways.{solid_leaves, leaves_way, start_way, way_on, ways_next, sizes, last_of, holds_next}
-use Rattle.rope_slice.proofs.path.Path.step_on.Goals.{After-byte_len_of, After-lowest_text-self-inside}
+use Rattle.rope_slice.proofs.path.Path.step_on.Goals.{After-byte_len_of, After-text_in_list-self-inside}
 use Rattle.rope_slice.proofs.path.Path.step_on.Goals as goal
 
 pub overflow_add-start : goal.overflow_add-start
 overflow_add-start c =
     let s = c.self.inside in
-    let w = c.self.invariant in
+    let w = c.self.invariant.way in
     let same = leaves_way s.root.now s.nodes.now s.at (chars s.leaf.now) s.start w in
     let parts = sizes s.root.now.leaves (solid_leaves s.root.now s.nodes.now s.at (chars s.leaf.now) s.start w) _ same in
     omega (arith, parts, start_way s.root.now s.nodes.now s.at (chars s.leaf.now) s.start w, w.tree.fits, c.byte_len_of.ensures)
 
 pub overflow_add-at : goal.overflow_add-at
 overflow_add-at c =
-    let l = c.self.invariant.list in
+    let l = c.self.invariant.way.list in
     elim (cases_lt 0 (c.self.inside.at + length c.self.inside.nodes.now)) [ inl some ↦ omega (arith, l.here some, l.few) | inr none ↦ omega arith ]
 
-on : (c : After-lowest_text-self-inside) → IsWay c.self.inside.root.now c.self.inside.nodes.now (c.self.inside.at + 1) (chars c.lowest_text-self-inside.result.now) (c.self.inside.start + byte_len (chars c.self.inside.leaf.now))
+on : (c : After-text_in_list-self-inside) → IsWay c.self.inside.root.now c.self.inside.nodes.now (c.self.inside.at + 1) (chars c.text_in_list-self-inside.result.now) (c.self.inside.start + byte_len (chars c.self.inside.leaf.now))
 on c =
     let s = c.self.inside in
-    way_on s.root.now s.nodes.now s.at (chars s.leaf.now) s.start c.self.invariant c.index-self-at.result (chars c.lowest_text-self-inside.result.now) c.if-at-self.true c.index-self-at.is (ap (λ u. u.leaves) c.index-self-at.is ∙ c.lowest_text-self-inside.ensures)
+    way_on s.root.now s.nodes.now s.at (chars s.leaf.now) s.start c.self.invariant.way (chars c.text_in_list-self-inside.result.now) c.if-at-nodes.true c.text_in_list-self-inside.ensures
 
-pub lowest_text-self-inside-requires : goal.lowest_text-self-inside-requires
-lowest_text-self-inside-requires c =
-    let s = c.self.inside in
-    All-get_or IsLow s.nodes.now (s.at + 1) c.index-self-at.result c.if-at-self.true c.self.invariant.list.low
+pub text_in_list-self-inside-requires-clause-low : goal.text_in_list-self-inside-requires-clause-low
+text_in_list-self-inside-requires-clause-low c = c.self.invariant.way.list.low
+
+pub text_in_list-self-inside-requires-clause-listed : goal.text_in_list-self-inside-requires-clause-listed
+text_in_list-self-inside-requires-clause-listed c = c.self.invariant.listed (omega (arith, c.if-at-nodes.true))
 
 pub invariant_of-self : goal.invariant_of-self
-invariant_of-self c = rw c.byte_len_of.ensures (on (goal.at.invariant_of-self c).After-lowest_text-self-inside)
+invariant_of-self c = rw c.byte_len_of.ensures record { way = on (goal.at.invariant_of-self c).After-text_in_list-self-inside; listed = c.self.invariant.listed }
 
-pub returns-then-at-self-clause-moved : goal.returns-then-at-self-clause-moved
-returns-then-at-self-clause-moved c =
+pub returns-then-at-nodes-clause-moved : goal.returns-then-at-nodes-clause-moved
+returns-then-at-nodes-clause-moved c =
     let s = c.self.inside in
-    let v = on (goal.at.returns-then-at-self-clause-moved c).After-lowest_text-self-inside in
+    let v = on (goal.at.returns-then-at-nodes-clause-moved c).After-text_in_list-self-inside in
     rw (← c.self.view_is, c.byte_len_of.ensures)
-    (ways_next s.root.now s.nodes.now s.nodes.now s.at (s.at + 1) (chars s.leaf.now) (chars c.lowest_text-self-inside.result.now) s.start (s.start + byte_len (chars s.leaf.now)) c.self.invariant v (omega arith))
+    (ways_next s.root.now s.nodes.now s.nodes.now s.at (s.at + 1) (chars s.leaf.now) (chars c.text_in_list-self-inside.result.now) s.start (s.start + byte_len (chars s.leaf.now)) c.self.invariant.way v (omega arith))
 
 pub returns-then-start-info-clause-ended : goal.returns-then-start-info-clause-ended
 returns-then-start-info-clause-ended c =
     let s = c.self.inside in
-    let w = c.self.invariant in
+    let w = c.self.invariant.way in
     let same = leaves_way s.root.now s.nodes.now s.at (chars s.leaf.now) s.start w in
     let all = last_of s.root.now.leaves (solid_leaves s.root.now s.nodes.now s.at (chars s.leaf.now) s.start w) _ same
     (omega (arith, start_way s.root.now s.nodes.now s.at (chars s.leaf.now) s.start w, c.byte_len_of.ensures, c.if-start-info.true, ap (λ i. i.bytes) c.info.ensures.value)) in
@@ -55,7 +55,7 @@ returns-then-start-info-clause-ended c =
 pub look_up-requires : goal.look_up-requires
 look_up-requires c =
     let s = c.self.inside in
-    let w = c.self.invariant in
+    let w = c.self.invariant.way in
     let same = leaves_way s.root.now s.nodes.now s.at (chars s.leaf.now) s.start w in
     let parts = sizes s.root.now.leaves (solid_leaves s.root.now s.nodes.now s.at (chars s.leaf.now) s.start w) _ same in
     let mine = ap leaves (sym c.self.view_is) ∙ same in
@@ -64,7 +64,7 @@ look_up-requires c =
 pub returns-clause-moved : goal.returns-clause-moved
 returns-clause-moved c =
     let s = c.self.inside in
-    let w = c.self.invariant in
+    let w = c.self.invariant.way in
     let same = leaves_way s.root.now s.nodes.now s.at (chars s.leaf.now) s.start w in
     let mine = ap leaves (sym c.self.view_is) ∙ same in
     let l = c.look_up.ensures in

@@ -13,14 +13,16 @@ use Rattle.rope_slice.proofs.path.TreeSpan.chunk.Goals as goal
 abbrev chars_at : Place → ℕ → ℕ
 chars_at p bytes = (edge_at (leaves p) bytes).chars
 
-here : (c : After-leaf-leaf) → IsCut c.self.inside.path c.self.inside.at (edge_at (leaves c.self.inside.path) c.self.inside.from) (edge_at (leaves c.self.inside.path) c.self.inside.to)
-here c = cut c.self.inside.path c.self.inside.at _ _ c.self.invariant
+here : (c : After-leaf-leaf) → IsCut c.self.inside.path (byte_len (concat c.self.inside.path.before)) (edge_at (leaves c.self.inside.path) c.self.inside.from) (edge_at (leaves c.self.inside.path) c.self.inside.to)
+here c = cut c.self.inside.path _ _ _ c.self.invariant
 
 size : (c : After-leaf-leaf) → length c.leaf-leaf.result.now ≡ byte_len c.self.inside.path.here
 size c = sym (byte_len-chars c.leaf-leaf.result.now c.leaf-leaf.utf8) ∙ ap byte_len c.leaf-leaf.ensures
 
 pub overflow_sub-self-inside : goal.overflow_sub-self-inside
-overflow_sub-self-inside c = (here (goal.at.overflow_sub-self-inside c).After-leaf-leaf).in_order
+overflow_sub-self-inside c =
+    let h = here (goal.at.overflow_sub-self-inside c).After-leaf-leaf in
+    omega (arith, c.start-start.ensures, h.in_order)
 
 pub range-requires-clause-start_le_end : goal.range-requires-clause-start_le_end
 range-requires-clause-start_le_end c =
@@ -40,7 +42,7 @@ pub range-requires-clause-start_boundary : goal.range-requires-clause-start_boun
 range-requires-clause-start_boundary c =
     let h = here (goal.at.range-requires-clause-start_boundary c).After-leaf-leaf in
     λ _. boundary_of c.leaf-leaf.result.now c.self.inside.path.here (chars_at c.self.inside.path c.self.inside.from - length (concat c.self.inside.path.before)) c.saturating_sub-low.result c.leaf-leaf.utf8 c.leaf-leaf.ensures
-    (c.saturating_sub-low.ensures ∙ sym h.low)
+    (omega (arith, c.saturating_sub-low.ensures, h.low, c.start-start.ensures))
 
 pub range-requires-clause-end_boundary : goal.range-requires-clause-end_boundary
 range-requires-clause-end_boundary c =
@@ -48,7 +50,7 @@ range-requires-clause-end_boundary c =
     let h = here e in
     let long = size e in
     boundary_of c.leaf-leaf.result.now c.self.inside.path.here (chars_at c.self.inside.path c.self.inside.to - length (concat c.self.inside.path.before)) c.min-high.result c.leaf-leaf.utf8 c.leaf-leaf.ensures
-    (omega (arith, c.min-high.ensures, h.high))
+    (omega (arith, c.min-high.ensures, h.high, c.start-start.ensures))
 
 pub returns : goal.returns
 returns c =
@@ -59,4 +61,4 @@ returns c =
     let j : ℕ = chars_at c.self.inside.path c.self.inside.to - length (concat c.self.inside.path.before) in
     rw (← c.self.view_is)
     (chars_of_part c.leaf-leaf.result.now c.self.inside.path.here c.range.result.now i j c.saturating_sub-low.result c.min-high.result c.leaf-leaf.utf8 c.leaf-leaf.ensures h.ordered
-    (c.saturating_sub-low.ensures ∙ sym h.low) (omega (arith, c.min-high.ensures, h.high)) c.range.ensures.value)
+    (omega (arith, c.saturating_sub-low.ensures, h.low, c.start-start.ensures)) (omega (arith, c.min-high.ensures, h.high, c.start-start.ensures)) c.range.ensures.value)

@@ -1,55 +1,60 @@
-use Rattle.std.proofs.Common.{◌≡◌, ◌+◌, length, refl, sym, ap, ◌∙◌, arith}
+use Rattle.std.proofs.Common.{◌≡◌, ℕ, List, length, sym, ap, ◌∙◌, arith}
+use Rattle.std.specs.Bool.{OnTrue}
+use Rattle.std.specs.Str.{chars, IsUtf8}
+use Rattle.std.proofs.lemmas.Bool.{OnTrue_at, OnTrue_from, OnFalse_from}
 use Rattle.rope_text.specs.Text.{byte_len}
 use Rattle.rope_text.proofs.Walks.{byte_len-chars}
-use Rattle.rope_slice.proofs.Spans.{in_order, Steps, StepsBack, no_next, no_prev, span_next, span_prev}
-use Rattle.rope_slice.proofs.path.TreeSpan.step.Goals.{After-leaf, Else-not-step-2, then-self-via-then-self, then-self-via-else-self+then-not-step, then-self-len-via-then-self-len, then-self-len-via-else-self-len+then-not-step-2}
+use Rattle.rope_slice.proofs.Spans.{in_order, Steps, no_next, no_prev, span_next, span_prev, span_after}
+use Rattle.rope_slice.proofs.path.TreeSpan.step.Goals.{After-step, After-step-then-leaf-self}
 use Rattle.rope_slice.proofs.path.TreeSpan.step.Goals as goal
 
 -- backward
-back : (c : After-leaf) → StepsBack c.step.new.self c.self.inside.path c.self.inside.at (length c.leaf.result.now) c.self.inside.from c.self.inside.to
+back : (c : After-step) → OnTrue c.step.result (Steps c.step.new.self c.self.inside.path c.self.inside.from c.self.inside.to)
 back c =
-    let size : length c.leaf.result.now ≡ byte_len c.step.new.self.here = sym (byte_len-chars c.leaf.result.now c.leaf.utf8) ∙ ap byte_len c.leaf.ensures in
-    span_prev c.step.new.self c.self.inside.path c.self.inside.at (length c.leaf.result.now) c.self.inside.from c.self.inside.to c.self.invariant size c.if-not-step.ensures.moved c.if-self.false
-
-pub returns-then-self-clause-ended : goal.returns-then-self-clause-ended
-returns-then-self-clause-ended c =
     let s = c.self.inside in
-    rw (c.if-is_backward.true, ← c.self.view_is) elim c.then-self.branch [
-      | then-self-via-then-self w ↦ no_prev s.path s.at _ _ c.self.invariant w.if-self.true
-      | then-self-via-else-self+then-not-step w ↦ rw w.if-not-step.ensures.ended refl
-    ]
+    OnTrue_from c.step.result _ (λ e. span_prev c.step.new.self s.path s.from s.to c.self.invariant (OnTrue_at e c.step.ensures.moved) (omega (arith, c.if-self-start.true, c.start-start.ensures)))
 
-pub overflow_sub-self : goal.overflow_sub-self
-overflow_sub-self c = (back (goal.at.overflow_sub-self c).After-leaf).room
+pub invariant_of-self : goal.invariant_of-self
+invariant_of-self c =
+    let s = c.self.inside in
+    let b = back (goal.at.invariant_of-self c).After-step in
+    span_after s.path c.step.new.self s.from s.to c.step.result c.self.invariant (OnTrue_from c.step.result _ (λ e. (OnTrue_at e b).before)) c.step.ensures.stays
 
-pub invariant_of-self-then-is_backward : goal.invariant_of-self-then-is_backward
-invariant_of-self-then-is_backward c = (back (goal.at.invariant_of-self-then-is_backward c).After-leaf).is_span
+pub returns-then-self-start-clause-moved : goal.returns-then-self-start-clause-moved
+returns-then-self-start-clause-moved c =
+    let b = back (goal.at.returns-then-self-start-clause-moved c).After-step in
+    rw (c.if-is_backward.true, ← c.self.view_is) (OnTrue_from c.step.result _ (λ e. (OnTrue_at e b).moved))
 
-pub returns-then-is_backward-clause-moved : goal.returns-then-is_backward-clause-moved
-returns-then-is_backward-clause-moved c = rw (c.if-is_backward.true, ← c.self.view_is) (back (goal.at.returns-then-is_backward-clause-moved c).After-leaf).moved
+pub returns-else-self-start-clause-ended : goal.returns-else-self-start-clause-ended
+returns-else-self-start-clause-ended c =
+    let s = c.self.inside in
+    rw (c.if-is_backward.true, ← c.self.view_is) (OnFalse_from _ _ (λ _. no_prev s.path _ _ _ c.self.invariant (omega (arith, c.start-start.ensures, c.if-self-start.false))))
 
 -- forward
-on : (c : Else-not-step-2) → Steps c.self.inside.path c.step-else-self-len.new.self (c.self.inside.at + length c.leaf-len.result.now) c.self.inside.from c.self.inside.to
-on c =
-    let s = c.self.inside in
-    let size : length c.leaf-len.result.now ≡ byte_len s.path.here = sym (byte_len-chars c.leaf-len.result.now c.leaf-len.utf8) ∙ ap byte_len c.leaf-len.ensures in
-    span_next s.path c.step-else-self-len.new.self s.at (length c.leaf-len.result.now) s.from s.to c.self.invariant size c.if-not-step-2.ensures.moved c.if-self-len.false
+size : (leaf here : List ℕ) → IsUtf8 leaf → chars leaf ≡ here → length leaf ≡ byte_len here
+size leaf here u e = sym (byte_len-chars leaf u) ∙ ap byte_len e
 
 pub overflow_sub-self-inside : goal.overflow_sub-self-inside
-overflow_sub-self-inside c = in_order c.self.inside.path c.self.inside.at _ _ c.self.invariant
+overflow_sub-self-inside c = omega (arith, c.start-start.ensures, in_order c.self.inside.path _ _ _ c.self.invariant)
 
-pub returns-then-self-len-clause-ended : goal.returns-then-self-len-clause-ended
-returns-then-self-len-clause-ended c =
+on : (c : After-step-then-leaf-self) → OnTrue c.step-then-leaf-self.result (Steps c.self.inside.path c.step-then-leaf-self.new.self c.self.inside.from c.self.inside.to)
+on c =
     let s = c.self.inside in
-    rw (c.if-is_backward.false, ← c.self.view_is) elim c.then-self-len.branch [
-      | then-self-len-via-then-self-len w ↦
-          let size : length c.leaf-len.result.now ≡ byte_len s.path.here = sym (byte_len-chars c.leaf-len.result.now c.leaf-len.utf8) ∙ ap byte_len c.leaf-len.ensures in
-          no_next s.path s.at _ _ c.self.invariant (omega (arith, w.if-self-len.true))
-      | then-self-len-via-else-self-len+then-not-step-2 w ↦ rw w.if-not-step-2.ensures.ended refl
-    ]
+    OnTrue_from c.step-then-leaf-self.result _ (λ e. span_next s.path c.step-then-leaf-self.new.self s.from s.to c.self.invariant (OnTrue_at e c.step-then-leaf-self.ensures.moved) (omega (arith, size c.leaf.result.now s.path.here c.leaf.utf8 c.leaf.ensures, c.if-leaf-self.true, c.start-start.ensures)))
 
-pub invariant_of-self-2 : goal.invariant_of-self-2
-invariant_of-self-2 c = (on (goal.at.invariant_of-self-2 c).Else-not-step-2).is_span
+pub invariant_of-self-then-leaf-self : goal.invariant_of-self-then-leaf-self
+invariant_of-self-then-leaf-self c =
+    let s = c.self.inside in
+    let b = on (goal.at.invariant_of-self-then-leaf-self c).After-step-then-leaf-self in
+    span_after s.path c.step-then-leaf-self.new.self s.from s.to c.step-then-leaf-self.result c.self.invariant (OnTrue_from c.step-then-leaf-self.result _ (λ e. (OnTrue_at e b).behind)) c.step-then-leaf-self.ensures.stays
 
-pub returns-clause-moved : goal.returns-clause-moved
-returns-clause-moved c = rw (c.if-is_backward.false, ← c.self.view_is) (on (goal.at.returns-clause-moved c).Else-not-step-2).moved
+pub returns-then-leaf-self-clause-moved : goal.returns-then-leaf-self-clause-moved
+returns-then-leaf-self-clause-moved c =
+    let b = on (goal.at.returns-then-leaf-self-clause-moved c).After-step-then-leaf-self in
+    rw (c.if-is_backward.false, ← c.self.view_is) (OnTrue_from c.step-then-leaf-self.result _ (λ e. (OnTrue_at e b).moved))
+
+pub returns-else-leaf-self-clause-ended : goal.returns-else-leaf-self-clause-ended
+returns-else-leaf-self-clause-ended c =
+    let s = c.self.inside in
+    let long = size c.leaf.result.now s.path.here c.leaf.utf8 c.leaf.ensures in
+    rw (c.if-is_backward.false, ← c.self.view_is) (OnFalse_from _ _ (λ _. no_next s.path _ _ _ c.self.invariant (omega (arith, long, c.start-start.ensures, c.if-leaf-self.false))))
