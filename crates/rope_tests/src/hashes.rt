@@ -20,8 +20,8 @@ struct Writes {
 
 impl Hasher for Writes {
     ghost write = { λ s bytes. record {
-        lens = (s.lens * 1000 + length bytes) % 2 ^ 64;
-        last = first_or s.last bytes
+      lens = (s.lens * 1000 + length bytes) % 2 ^ 64;
+      last = first_or s.last bytes;
     } };
 
     ghost finish = { λ s. s.lens };

@@ -34,10 +34,10 @@ impl Model for Intake {
     ghost Value = { Taking };
 
     ghost view = { λ i. record {
-        text = i.texts.text;
-        rest = take i.rest_len i.rest;
-        breaks = i.texts.breaks;
-        refused = i.refused
+      text = i.texts.text;
+      rest = take i.rest_len i.rest;
+      breaks = i.texts.breaks;
+      refused = i.refused;
     } };
 
     ghost invariant = { λ i. IsIntake i.texts i.taken i.rest_len i.refused };
