@@ -75,8 +75,8 @@ pub(crate) enum Heads {
     /// Bytes, characters and hashes: they read one leaf after the other, each of which is a miss
     /// where edits have scattered them.
     Touched,
-    /// Chunks, lines and comparisons, which are faster so: a chunk's length is known without it,
-    /// and blocks of leaves in a row come by themselves.
+    /// Chunks, lines and comparisons, which are faster so: a chunk's length is known without its
+    /// head, and where leaves lie in a row the processor reads ahead by itself.
     Left,
 }
 
