@@ -250,13 +250,9 @@ pub record IsCut (p : Place) (start : ℕ) (from to : Edge) : Type 0 where
 pub cut : (p : Place) (start : ℕ) (from to : Edge) → IsSpan p start from to → IsCut p start from to
 cut p start from to h = record { in_order = in_order p start from to h; ordered = omega (arith, h.ordered); low = low_here p start from to h; high = high_here p start from to h }
 
--- the way goes from one leaf to the next within the part
-pub record Steps (p q : Place) (from to : ℕ) : Type 0 where
-  pub before : IsSpanFrom p from to
-  pub behind : IsSpanFrom q from to
-  pub moved : IsNext (clipped_at p from to) (clipped_at q from to)
-
-pub span_next : (p q : Place) (from to : ℕ) → IsSpanFrom p from to → IsNext p q → byte_len p.here < to - byte_len (concat p.before) → Steps p q from to
+-- the way to the leaf beside, from a leaf of the part: it is within the part, too, and the two chunks stand side by side
+pub span_next : (p q : Place) (from to : ℕ) → IsSpanFrom p from to → IsNext p q → byte_len p.here < to - byte_len (concat p.before)
+    → IsSpanFrom q from to × IsNext (clipped_at p from to) (clipped_at q from to)
 span_next p q from to h n l =
     let start : ℕ = byte_len (concat p.before) in
     let a = edge_at (leaves p) from in
@@ -266,15 +262,14 @@ span_next p q from to h n l =
     let v = within_next p q n start a b w more in
     let is_span : IsSpan q (start + byte_len p.here) a b = record { some = λ _. v; none = λ none. absurd (omega (arith, w.some)); ordered = h.ordered } in
     let moved = clipped_next p q n a.chars b.chars w.ends v.starts (some_leaf p w.solid) (some_leaf q v.solid) in
-    let same = sym (leaves_next p q n) in
-    record {
-      before = h;
-      behind = subst (λ (k : ℕ). IsSpan q k (edge_at (leaves q) from) (edge_at (leaves q) to)) (sym (bytes_next p q n))
-          (subst (λ (ls : List (List ℕ)). IsSpan q (start + byte_len p.here) (edge_at ls from) (edge_at ls to)) same is_span);
-      moved = subst (λ (ls : List (List ℕ)). IsNext (clipped_at p from to) (clipped_place q (edge_at ls from).chars (edge_at ls to).chars)) same moved;
-    }
+    let same = sym (leaves_next p q n) in (
+      subst (λ (k : ℕ). IsSpan q k (edge_at (leaves q) from) (edge_at (leaves q) to)) (sym (bytes_next p q n))
+          (subst (λ (ls : List (List ℕ)). IsSpan q (start + byte_len p.here) (edge_at ls from) (edge_at ls to)) same is_span),
+      subst (λ (ls : List (List ℕ)). IsNext (clipped_at p from to) (clipped_place q (edge_at ls from).chars (edge_at ls to).chars)) same moved,
+    )
 
-pub span_prev : (p q : Place) (from to : ℕ) → IsSpanFrom q from to → IsNext p q → from < byte_len (concat q.before) → Steps p q from to
+pub span_prev : (p q : Place) (from to : ℕ) → IsSpanFrom q from to → IsNext p q → from < byte_len (concat q.before)
+    → IsSpanFrom p from to × IsNext (clipped_at p from to) (clipped_at q from to)
 span_prev p q from to h n l =
     let start : ℕ = byte_len (concat q.before) in
     let a = edge_at (leaves q) from in
@@ -284,13 +279,11 @@ span_prev p q from to h n l =
     let is_span : IsSpan p (start - byte_len p.here) a b = record { some = λ _. v; none = λ none. absurd (omega (arith, w.some)); ordered = h.ordered } in
     let moved = clipped_next p q n a.chars b.chars v.ends w.starts (some_leaf p v.solid) (some_leaf q w.solid) in
     let same = leaves_next p q n in
-    let first : start - byte_len p.here ≡ byte_len (concat p.before) = omega (arith, bytes_next p q n) in
-    record {
-      before = subst (λ (k : ℕ). IsSpan p k (edge_at (leaves p) from) (edge_at (leaves p) to)) first
-          (subst (λ (ls : List (List ℕ)). IsSpan p (start - byte_len p.here) (edge_at ls from) (edge_at ls to)) same is_span);
-      behind = h;
-      moved = subst (λ (ls : List (List ℕ)). IsNext (clipped_place p (edge_at ls from).chars (edge_at ls to).chars) (clipped_at q from to)) same moved;
-    }
+    let first : start - byte_len p.here ≡ byte_len (concat p.before) = omega (arith, bytes_next p q n) in (
+      subst (λ (k : ℕ). IsSpan p k (edge_at (leaves p) from) (edge_at (leaves p) to)) first
+          (subst (λ (ls : List (List ℕ)). IsSpan p (start - byte_len p.here) (edge_at ls from) (edge_at ls to)) same is_span),
+      subst (λ (ls : List (List ℕ)). IsNext (clipped_place p (edge_at ls from).chars (edge_at ls to).chars) (clipped_at q from to)) same moved,
+    )
 
 -- where the way may have stayed
 pub span_after : (old new : Place) (from to : ℕ) (moved : Bool) → IsSpanFrom old from to → OnTrue moved (IsSpanFrom new from to) → OnFalse moved (new ≡ old) → IsSpanFrom new from to

@@ -168,6 +168,7 @@ impl<'a> RopeSlice<'a> {
 
 impl<'a> Chunks<'a> {
     // One chunk to the right, or to the left.
+    #[inline(always)]
     fn step(&mut self, is_left: bool) -> Option<&'a str>
         ensures { MatchBool is_left (GoesLeft (λ x. chars x.now) self.old result self.new)
             (GoesRight (λ x. chars x.now) self.old result self.new) }
@@ -175,7 +176,7 @@ impl<'a> Chunks<'a> {
         if self.is_empty {
             return None;
         }
-        if self.is_past != is_left && !self.span.step(is_left, Heads::Left) {
+        if self.is_past != is_left && !self.span.step_inlined(is_left, Heads::Left) {
             return None;
         }
         self.is_past = !is_left;
@@ -183,6 +184,7 @@ impl<'a> Chunks<'a> {
     }
 
     /// The chunk behind, to which it steps back; or none at that end, where it stays.
+    #[inline(always)]
     pub fn prev(&mut self) -> Option<&'a str>
         ensures { StepsBack (λ x. chars x.now) self.old result self.new }
     {
@@ -213,6 +215,7 @@ impl<'a> Iterator for Chunks<'a> {
     ghost remaining = { item_count ahead };
 
     /// The next chunk, or none at the end, where it stays.
+    #[inline(always)]
     fn next(&mut self) -> Option<&'a str>
         ensures steps { YieldsFirstBy (λ x. chars x.now) ahead self.old result self.new }
         ensures goes { GoesAhead (λ x. chars x.now) self.old result self.new }

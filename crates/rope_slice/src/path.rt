@@ -75,8 +75,8 @@ pub(crate) enum Heads {
     /// Bytes, characters and hashes: they read one leaf after the other, each of which is a miss
     /// where edits have scattered them.
     Touched,
-    /// Chunks, lines and comparisons, which are faster so: a chunk's length is known without it,
-    /// and blocks of leaves in a row come by themselves.
+    /// Chunks, lines and comparisons, which are faster so: a chunk's length is known without its
+    /// head, and where leaves lie in a row the processor reads ahead by itself.
     Left,
 }
 
@@ -148,23 +148,26 @@ impl<'a> Path<'a> {
         self.start
     }
 
-    // The leaf that holds a byte of the tree's text. Never inlined: most steps stay in the list of
-    // the leaf.
+    // The leaf of a tree that holds a byte of its text. Never inlined: most steps stay in the list
+    // of the leaf. It takes the root alone: a cursor whose address is passed nowhere can be kept in
+    // registers.
     #[inline(never)]
-    fn look_up(&self, byte_idx: usize, heads: Heads) -> Path<'a>
-        requires { byte_idx < byte_len (concat (leaves self.now)) }
-        ensures leaves { leaves result ≡ leaves self.now }
+    fn look_up(root: &'a Node, byte_idx: usize, heads: Heads) -> Path<'a>
+        requires within { byte_idx < byte_len (text root.now) }
+        requires tree { IsTree root.now }
+        ensures leaves { leaves result ≡ root.now.leaves }
         ensures starts { byte_len (concat result.before) ≤ byte_idx }
         ensures ends { byte_idx < byte_len (concat result.before) + byte_len result.here }
     {
-        let (path, _) = Path::at(self.root, Unit::Byte, byte_idx);
+        let (path, _) = Path::at(root, Unit::Byte, byte_idx);
         if matches!(heads, Heads::Left) || touch_heads(path.nodes) {
             return path;
         }
-        Path::at(self.root, Unit::Byte, byte_idx).0
+        Path::at(root, Unit::Byte, byte_idx).0
     }
 
     /// Goes to the next leaf, if there is one; else it stays.
+    #[inline(always)]
     pub(crate) fn step_on(&mut self, heads: Heads) -> bool
         ensures moved { OnTrue result (IsNext self.old self.new) }
         ensures stays { OnFalse result (self.new ≡ self.old) }
@@ -182,11 +185,12 @@ impl<'a> Path<'a> {
         if start == self.root.info().bytes {
             return false;
         }
-        *self = self.look_up(start, heads);
+        *self = Path::look_up(self.root, start, heads);
         true
     }
 
     // Goes to the leaf before, if there is one.
+    #[inline(always)]
     fn step_back(&mut self) -> bool
         ensures moved { OnTrue result (IsNext self.new self.old) }
         ensures stays { OnFalse result (self.new ≡ self.old) }
@@ -205,12 +209,13 @@ impl<'a> Path<'a> {
             return true;
         }
         let last_before = self.start - 1;
-        *self = self.look_up(last_before, Heads::Left);
+        *self = Path::look_up(self.root, last_before, Heads::Left);
         true
     }
 
     /// Goes to the next leaf, or backward to the one before. Answers whether there is one; else it
     /// stays.
+    #[inline(always)]
     pub(crate) fn step(&mut self, is_backward: bool, heads: Heads) -> bool
         ensures moved { OnTrue result (IsBeside is_backward self.old self.new) }
         ensures stays { OnFalse result (self.new ≡ self.old) }
@@ -285,6 +290,7 @@ impl<'a> TreeSpan<'a> {
 
     /// Goes to the next chunk, or backward to the one before. Answers whether there is one; else it
     /// stays.
+    #[inline(always)]
     pub(crate) fn step(&mut self, is_backward: bool, heads: Heads) -> bool
         ensures moved { OnTrue result (IsBeside is_backward self.old self.new) }
         ensures stays { OnFalse result (self.new ≡ self.old) }

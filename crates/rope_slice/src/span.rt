@@ -148,9 +148,19 @@ impl<'a> Span<'a> {
         self.way.is_some() && self.step_in_tree(is_backward, heads)
     }
 
-    // The same, for a text that may be plain.
+    // The same in a call of its own.
     #[inline(never)]
     fn step_in_tree(&mut self, is_backward: bool, heads: Heads) -> bool
+        ensures moved { OnTrue result (IsBeside is_backward self.old self.new) }
+        ensures stays { OnFalse result (self.new ≡ self.old) }
+        ensures ended { OnFalse result (IsLast is_backward self.old) }
+    {
+        self.step_inlined(is_backward, heads)
+    }
+
+    /// The same without a call, for a cursor over chunks: nearly each of its steps is one.
+    #[inline(always)]
+    pub(crate) fn step_inlined(&mut self, is_backward: bool, heads: Heads) -> bool
         ensures moved { OnTrue result (IsBeside is_backward self.old self.new) }
         ensures stays { OnFalse result (self.new ≡ self.old) }
         ensures ended { OnFalse result (IsLast is_backward self.old) }

@@ -1,5 +1,5 @@
 -- The breaks that begin in a part of the bytes, place by place.
-use Rattle.std.proofs.Common.{◌≡◌, ℕ, zero, suc, ◌+◌, ◌<◌, ◌≤◌, Bool, true, false, cond, List, [], ◌∷◌, length, take, drop, get_or, count_by, refl, sym, ap, ◌∙◌, arith, take-append-drop, not, eqb, leb, bit_and, ◌&&◌, ◌||◌}
+use Rattle.std.proofs.Common.{◌≡◌, ℕ, zero, suc, ◌+◌, ◌-◌, ◌<◌, ◌≤◌, Bool, true, false, cond, List, [], ◌∷◌, length, take, drop, get_or, count_by, refl, sym, ap, ◌∙◌, arith, take-append-drop, not, eqb, leb, bit_and, ◌&&◌, ◌||◌}
 use Rattle.std.specs.List.{range_with_len}
 use Rattle.std.proofs.lemmas.Bool.{both_ways}
 use Rattle.std.proofs.lemmas.List.{at_drop_more, get_or-drop}
@@ -50,6 +50,12 @@ pairs_le xs = count_by-le-length begins_pair xs
 
 pub count_by-block : (p : ℕ → Bool) (xs : List ℕ) (i n : ℕ) → count_by p (drop i xs) ≡ count_by p (take n (drop i xs)) + count_by p (drop (i + n) xs)
 count_by-block p xs i n = ap (count_by p) (chunk-drop i n xs) ∙ sum_by-append (λ x. cond (p x) 1 0) (take n (drop i xs)) (drop (i + n) xs)
+
+pub count_by-later : (p : ℕ → Bool) (xs : List ℕ) (i j : ℕ) → i ≤ j → count_by p (drop j xs) ≤ count_by p (drop i xs)
+count_by-later p xs i j l =
+    let same : i + (j - i) ≡ j = omega arith in
+    let parts = rw same at (count_by-block p xs i (j - i)) in
+    omega arith
 
 pub count_by-front : (p : ℕ → Bool) (xs : List ℕ) (n : ℕ) → count_by p xs ≡ count_by p (take n xs) + count_by p (drop n xs)
 count_by-front p xs n = ap (count_by p) (sym (take-append-drop n xs)) ∙ sum_by-append (λ x. cond (p x) 1 0) (take n xs) (drop n xs)

@@ -2,7 +2,7 @@
 use Rattle.std.proofs.Common.{◌≡◌, ℕ, ◌+◌, ◌<◌, true, false, List, [], ◌∷◌, ◌++◌, length, take, drop, refl, ap, sym, ◌∙◌, arith, take-append-drop, inl, inr}
 use Rattle.std.proofs.lemmas.Bool.{cases_lt}
 use Rattle.std.specs.Str.{chars, IsUtf8, IsCharBoundary}
-use Rattle.std.proofs.lemmas.Str.{chars-append, IsUtf8-take, IsUtf8-drop, length-le-encodes}
+use Rattle.std.proofs.lemmas.Str.{chars-append, IsUtf8-take, IsUtf8-drop, IsCharBoundary-start, length-le-encodes}
 use Rattle.rope_text.specs.Breaks.{ends_in_cr}
 use Rattle.rope_text.specs.Text.{byte_len}
 use Rattle.rope_text.proofs.LineSeams.{never}
@@ -32,6 +32,11 @@ cut_off bs r u some inside cut =
       whole = sym (chars-append (take r bs) (drop r bs) v) ∙ ap chars (take-append-drop r bs);
       apart = apart_at_cut bs r v w some inside cut;
     }
+
+-- nothing is cut off
+pub none_off : (bs : List ℕ) → IsUtf8 bs → IsCutOff bs 0
+unfolding chars
+none_off bs u = record { front = IsUtf8-take bs 0 u (IsCharBoundary-start bs u); back = u; whole = refl; apart = refl }
 
 empty_front : (s t : List ℕ) → byte_len s ≡ 0 → parts_crlf s t ≡ false
 empty_front [] t none = refl

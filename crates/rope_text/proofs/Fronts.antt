@@ -17,7 +17,7 @@ use Rattle.rope_text.specs.ByteBreaks.{break_at, byte_break_count, unit_count, c
 use Rattle.rope_text.specs.Breaks.{begins_with_lf, ends_break, break_ends, break_count}
 use Rattle.rope_text.specs.Lines.{line_start}
 use Rattle.rope_text.specs.Conversions.{byte_to_char, utf16_to_char, char_to_line}
-use Rattle.rope_text.proofs.Blocks.{count_by-block, count_by-drop}
+use Rattle.rope_text.proofs.Blocks.{count_by-drop, count_by-later}
 use Rattle.rope_text.proofs.ByteLaws.{length-chars, utf16_len-chars, length-from_bytes, pairs-from_bytes}
 use Rattle.rope_text.proofs.ByteBreakLaws.{byte_break_count-encodes, break_count-chars, byte_break_count-past, break_first, width_first}
 use Rattle.rope_text.proofs.ConversionLaws.{byte_to_char_is, byte_to_char-fits, byte_to_char-over, byte_to_char-past, utf16_to_char_is, byte_len_more, char_to_line_more, char_to_line_past}
@@ -106,12 +106,6 @@ byte_place bs b p u at fits last =
 begins_at : (bs : List ℕ) (p : ℕ) → IsCharBoundary bs p → p < length bs → begins_char (get_or bs p 0) ≡ true
 begins_at bs p at l = let big = at.1 l in grind (arith, nat_tests)
 
-begins_later : (bs : List ℕ) (i j : ℕ) → i ≤ j → count_by begins_char (drop j bs) ≤ count_by begins_char (drop i bs)
-begins_later bs i j l =
-    let same : i + (j - i) ≡ j = omega arith in
-    let chars = rw same at (count_by-block begins_char bs i (j - i)) in
-    omega arith
-
 -- the character that holds the byte b is the last that begins at or before it
 held_inside : (bs : List ℕ) (b : ℕ) → IsUtf8 bs → b < length bs
     → count_by begins_char bs ≡ (byte_to_char (chars bs) b + 1) + count_by begins_char (drop (b + 1) bs)
@@ -138,8 +132,8 @@ held_inside bs b u inside =
       begins_from bs (suc i) u,
       length-drop i cs,
       length-drop (suc i) cs,
-      begins_later bs (p + 1) (b + 1) (omega arith),
-      begins_later bs (b + 1) q (omega arith),
+      count_by-later begins_char bs (p + 1) (b + 1) (omega arith),
+      count_by-later begins_char bs (b + 1) q (omega arith),
       length-chars bs u,
     )
 
@@ -154,10 +148,7 @@ held_past bs text b u same past = byte_to_char-past (chars text) b (omega (arith
 
 units_later : (bs : List ℕ) (i j : ℕ) → i ≤ j → unit_count (drop j bs) ≤ unit_count (drop i bs)
 units_later bs i j l =
-    let same : i + (j - i) ≡ j = omega arith in
-    let chars = rw same at (count_by-block begins_char bs i (j - i)) in
-    let pairs = rw same at (count_by-block begins_pair bs i (j - i)) in
-    omega arith
+    omega (arith, count_by-later begins_char bs i j l, count_by-later begins_pair bs i j l)
 
 -- a mark that was searched for behind blocks that were passed on the way to it
 pub passed_mark : (mark : Mark) (bs : List ℕ) (n at left p : ℕ) → IsPassed mark bs n at left → IsPlaceOf mark bs at left p → IsPlaceOf mark bs 0 n p

@@ -65,15 +65,22 @@ apart_behind s [] u some apart = absurd (omega (arith, some))
 apart_behind s (c ∷ t) u some apart = parts_crlf-append s c t u ∙ apart
 
 -- a leaf of what stands before a text and the front of that
-module _ (bs : List ℕ) (r : ℕ) (rest leaf front : List ℕ) (some : 0 < r) (off : IsCutOff bs r) (is_leaf : leaf ≡ rest ++ chars front) (is_front : front ≡ take (r - 0) bs) where
+module _ (bs : List ℕ) (r : ℕ) (rest leaf front : List ℕ) (off : IsCutOff bs r) (is_leaf : leaf ≡ rest ++ chars front) (is_front : front ≡ take (r - 0) bs) where
   leaf_chars : leaf ≡ rest ++ chars (take r bs)
   leaf_chars = is_leaf ∙ ap (λ x. rest ++ chars x) (is_front ∙ ap (λ k. take k bs) (omega arith))
 
   pub longer_whole : leaf ++ chars (drop r bs) ≡ rest ++ chars bs
   longer_whole = ap (λ x. x ++ chars (drop r bs)) leaf_chars ∙ append_assoc rest (chars (take r bs)) (chars (drop r bs)) ∙ ap (λ x. rest ++ x) off.whole
 
-  pub longer_apart : r ≤ length bs → parts_crlf leaf (chars (drop r bs)) ≡ false
-  longer_apart within =
+  -- nothing of the text is in the leaf
+  pub same_apart : r ≡ 0 → parts_crlf rest (chars bs) ≡ false → parts_crlf leaf (chars (drop r bs)) ≡ false
+  unfolding chars
+  same_apart none apart =
+      let same : leaf ≡ rest = leaf_chars ∙ ap (λ k. rest ++ chars (take k bs)) none ∙ append-nil rest in
+      ap₂ (λ x k. parts_crlf x (chars (drop k bs))) same none ∙ apart
+
+  pub longer_apart : 0 < r → r ≤ length bs → parts_crlf leaf (chars (drop r bs)) ≡ false
+  longer_apart some within =
       let bytes : byte_len (chars (take r bs)) ≡ r = byte_len-chars (take r bs) off.front ∙ length-take-le r bs within in
       let taken : 1 ≤ length (chars (take r bs)) = some_chars (chars (take r bs)) (omega (arith, bytes, some)) in
       ap (λ x. parts_crlf x (chars (drop r bs))) leaf_chars ∙ apart_behind rest (chars (take r bs)) (chars (drop r bs)) taken off.apart

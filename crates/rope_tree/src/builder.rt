@@ -1,5 +1,5 @@
 //! Trees of texts that are passed in one after the other.
-ghost use Rattle.std.specs.Prelude.{◌≡◌, ◌+◌, ◌-◌, ◌*◌, ◌/◌, ◌<◌, ◌≤◌, ◌^◌, ◌++◌, [], false, length, drop, IsOk, IfOk, OnOk, OnErr};
+ghost use Rattle.std.specs.Prelude.{◌≡◌, ◌+◌, ◌-◌, ◌*◌, ◌/◌, ◌<◌, ◌≤◌, ◌^◌, ◌++◌, [], false, length, drop, IsOk, IfOk, IfSome, IfNone, OnOk, OnErr};
 ghost use Rattle.std.specs.Str.{chars, IsCharBoundary};
 ghost use Rattle.rope_text.specs.declared.TheConstants.{MAX_BYTES, MIN_CUT_BYTES};
 ghost use Rattle.rope_text.specs.Text.{byte_len};
@@ -10,7 +10,7 @@ ghost use Rattle.rope_tree.specs.Fronts.{AreFrontNodes};
 use crate::build::root_over;
 use crate::node_text::{first_leaf_len, text_of_parts};
 use crate::{Made, Maker, Node, NodeText, leaf_of};
-use rope_text::crlf::prev_break;
+use rope_text::crlf::{prev_break, seam_is_break};
 use rope_text::{LineBreaks, MAX_BYTES, MIN_CUT_BYTES};
 use std::alloc::{AllocError, Global};
 use std::marker::Model;
@@ -70,31 +70,36 @@ fn cut_at_seam(rest: &NodeText, text: &str) -> SeamCut
     }
 }
 
-// Moves the front of a text behind `rest`, so that the two are a whole leaf, and answers how many
-// bytes. None, if that leaf would be too short, as it may be where it ends near the start of the
-// text.
-fn fill_up(rest: &mut NodeText, text: &str) -> usize
+// Moves the front of a text, perhaps nothing, behind `rest`, so that the two are a whole leaf, and
+// answers how many bytes. None, and nothing is moved, where that leaf would be too short, as it may
+// be where it ends near the start of the text.
+fn fill_up(rest: &mut NodeText, text: &str) -> Option<usize>
     requires { MAX_BYTES < byte_len rest.old + length text.now }
-    ensures boundary { IsCharBoundary text.now result }
-    ensures kept { result ≡ 0 → rest.new ≡ rest.old }
-    ensures whole { 0 < result
-        → rest.new ++ chars (drop result text.now) ≡ rest.old ++ chars text.now }
-    ensures apart { 0 < result → parts_crlf rest.new (chars (drop result text.now)) ≡ false }
-    ensures long { 0 < result → MIN_CUT_BYTES ≤ byte_len rest.new }
+    ensures kept { IfNone result (rest.new ≡ rest.old) }
+    ensures boundary { IfSome result (λ taken. IsCharBoundary text.now taken) }
+    ensures whole { IfSome result
+        (λ taken. rest.new ++ chars (drop taken text.now) ≡ rest.old ++ chars text.now) }
+    ensures apart { IfSome result
+        (λ taken. parts_crlf rest.new (chars (drop taken text.now)) ≡ false) }
+    ensures long { IfSome result (λ _. MIN_CUT_BYTES ≤ byte_len rest.new) }
     ensures short { byte_len rest.new ≤ MAX_BYTES }
-    ensures left { byte_len rest.new + (length text.now - result)
-        ≡ byte_len rest.old + length text.now }
+    ensures left { IfSome result (λ taken. byte_len rest.new + (length text.now - taken)
+        ≡ byte_len rest.old + length text.now) }
 {
     let room = MAX_BYTES - rest.len();
     let taken = prev_break(room + 1, text.as_bytes());
-    if taken < MIN_CUT_BYTES.saturating_sub(rest.len()).max(1) {
-        return 0;
+    if rest.len() + taken < MIN_CUT_BYTES {
+        return None;
+    }
+    if taken == 0 && !seam_is_break(rest.as_str().as_bytes(), text.as_bytes()) {
+        return None;
     }
     rest.push_str(&text[..taken]);
-    taken
+    Some(taken)
 }
 
-// Cuts leaves off the front of `rest` and the text behind it, until what is left fits in one.
+// Cuts leaves off the front of `rest` and the text behind it, until what is left fits in one. Where
+// nothing is left of what came before, a leaf is cut straight from the text.
 #[inline(never)]
 fn cut_leaves(
     alloc: Global,
@@ -118,8 +123,11 @@ fn cut_leaves(
     let mut maker = Maker::new(alloc);
     let mut left = text;
     while rest.len() + left.len() > MAX_BYTES {
-        let taken = fill_up(rest, left);
-        if taken > 0 {
+        if rest.len() == 0 {
+            let len = first_leaf_len(left);
+            leaves.push(leaf_of(&mut maker, breaks, &left[..len])?)?;
+            left = &left[len..];
+        } else if let Some(taken) = fill_up(rest, left) {
             leaves.push(leaf_of(&mut maker, breaks, rest.as_str())?)?;
             rest.set("");
             left = &left[taken..];

@@ -16,24 +16,25 @@ returns-then-self-eq0-clause-ended c =
     let none = first_of s.root.now.leaves (solid_leaves s.root.now s.nodes.now s.at (chars s.leaf.now) s.start w) _ same (start_way s.root.now s.nodes.now s.at (chars s.leaf.now) s.start w ∙ c.if-self-eq0.true) in
     ap (λ p. p.before) (sym c.self.view_is) ∙ none
 
-pub look_up-requires : goal.look_up-requires
-look_up-requires c =
+pub look_up-requires-clause-within : goal.look_up-requires-clause-within
+look_up-requires-clause-within c =
     let s = c.self.inside in
     let w = c.self.invariant.way in
     let same = leaves_way s.root.now s.nodes.now s.at (chars s.leaf.now) s.start w in
     let parts = sizes s.root.now.leaves (solid_leaves s.root.now s.nodes.now s.at (chars s.leaf.now) s.start w) _ same in
-    let mine = ap leaves (sym c.self.view_is) ∙ same in
-    omega (arith, parts, start_way s.root.now s.nodes.now s.at (chars s.leaf.now) s.start w, c.if-self-eq0.false, ap (λ xs. byte_len (concat xs)) mine)
+    omega (arith, parts, start_way s.root.now s.nodes.now s.at (chars s.leaf.now) s.start w, c.if-self-eq0.false)
+
+pub look_up-requires-clause-tree : goal.look_up-requires-clause-tree
+look_up-requires-clause-tree c = c.self.invariant.way.tree
 
 pub returns-clause-moved : goal.returns-clause-moved
 returns-clause-moved c =
     let s = c.self.inside in
     let w = c.self.invariant.way in
     let same = leaves_way s.root.now s.nodes.now s.at (chars s.leaf.now) s.start w in
-    let mine = ap leaves (sym c.self.view_is) ∙ same in
     let l = c.look_up.ensures in
     rw (← c.self.view_is, c.self-2.view_is)
-    (holds_prev s.root.now.leaves (solid_leaves s.root.now s.nodes.now s.at (chars s.leaf.now) s.start w) _ same c.look_up.result (l.leaves ∙ mine) (s.start - 1) l.starts l.ends
+    (holds_prev s.root.now.leaves (solid_leaves s.root.now s.nodes.now s.at (chars s.leaf.now) s.start w) _ same c.look_up.result l.leaves (s.start - 1) l.starts l.ends
     (omega (arith, start_way s.root.now s.nodes.now s.at (chars s.leaf.now) s.start w, c.if-self-eq0.false)))
 
 inside : (c : After-text_in_list-leaf) → c.self.inside.at < length c.self.inside.nodes.now
