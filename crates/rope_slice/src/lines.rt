@@ -372,31 +372,9 @@ impl<'a> Caret<'a> {
     // Goes on past the next line break, or to the end, and adds what it passed to the counts of the
     // text before. Answers what the chunk in which that starts has from there on. The counts are
     // kept by the callee: were they answered, the caller would load as vectors what was just stored
-    // in words, and stall. Nearly all lines end in whole blocks: their path has no call, and so no
-    // frame.
+    // in words, and stall.
     #[inline(never)]
     fn pass_line(&mut self, before: &mut TextInfo, breaks: LineBreaks) -> &'a str
-        requires { HasSum before.old (info_of breaks (first_line breaks self.old.back)) }
-        ensures front { self.new.front ≡ self.old.front ++ first_line breaks self.old.back }
-        ensures back { self.old.back ≡ first_line breaks self.old.back ++ self.new.back }
-        ensures chunks { self.new.chunks ≡ self.old.chunks }
-        ensures counts { before.new
-            ≡ info_sum before.old (info_of breaks (first_line breaks self.old.back)) }
-        ensures held { HoldsAhead self.old (chars result.now) }
-    {
-        let held = &self.span.chunk()[self.inside..];
-        let Some(line) = TextInfo::of_line_in_blocks(held, breaks) else {
-            return self.pass_last_line(before, breaks);
-        };
-        self.inside += line.bytes;
-        *before = before.plus(line);
-        held
-    }
-
-    // The same, for a line that may be the last of its chunk.
-    #[cold]
-    #[inline(never)]
-    fn pass_last_line(&mut self, before: &mut TextInfo, breaks: LineBreaks) -> &'a str
         requires { HasSum before.old (info_of breaks (first_line breaks self.old.back)) }
         ensures front { self.new.front ≡ self.old.front ++ first_line breaks self.old.back }
         ensures back { self.old.back ≡ first_line breaks self.old.back ++ self.new.back }

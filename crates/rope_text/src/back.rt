@@ -18,8 +18,34 @@ pub(crate) struct Back {
     pub left: usize,
 }
 
+/// Goes back over one byte. Answers whether the break that is looked for begins there.
+#[inline(always)]
+fn back_by_byte(bytes: &[u8], from: Back, breaks: LineBreaks) -> (Back, bool)
+    requires room { HasRoom from }
+    requires within { from.at ≤ length bytes.now }
+    requires some { 0 < from.at }
+    ensures goes { GoesBack breaks bytes.now from result.0 result.1 }
+    ensures by_one { result.0.at + 1 ≡ from.at }
+{
+    let at = from.at - 1;
+    let mut back = Back {
+        at,
+        chars: from.chars + is_mark(bytes, at, Mark::Char) as usize,
+        pairs: from.pairs + is_mark(bytes, at, Mark::Pair) as usize,
+        left: from.left,
+    };
+    if !is_mark(bytes, at, Mark::Break(breaks)) {
+        return (back, false);
+    }
+    if back.left == 0 {
+        return (back, true);
+    }
+    back.left -= 1;
+    (back, false)
+}
+
 /// Goes back over single bytes to the byte `to`, or to the break that is looked for. Answers
-/// whether it came to that break. Cold: a line has one or two such bytes at its end.
+/// whether it came to that break. Cold: it is needed at the end of a text, and in short ones.
 #[inline(never)]
 fn back_by_bytes(bytes: &[u8], from: Back, to: usize, breaks: LineBreaks) -> (Back, bool)
     requires room { HasRoom from }
@@ -28,20 +54,11 @@ fn back_by_bytes(bytes: &[u8], from: Back, to: usize, breaks: LineBreaks) -> (Ba
     ensures goes { GoesBack breaks bytes.now from result.0 result.1 }
     ensures end { result.1 ≡ false → result.0.at ≡ to }
 {
-    let mut back = from;
-    while back.at > to {
-        let at = back.at - 1;
-        back.at = at;
-        back.chars += is_mark(bytes, at, Mark::Char) as usize;
-        back.pairs += is_mark(bytes, at, Mark::Pair) as usize;
-        if is_mark(bytes, at, Mark::Break(breaks)) {
-            if back.left == 0 {
-                return (back, true);
-            }
-            back.left -= 1;
-        }
+    let (mut back, mut is_found) = (from, false);
+    while !is_found && back.at > to {
+        (back, is_found) = back_by_byte(bytes, back, breaks);
     }
-    (back, false)
+    (back, is_found)
 }
 
 /// The same by one block, of which a short text has none.
@@ -93,16 +110,19 @@ pub(crate) fn back_to_break(
     ensures goes { GoesBack breaks bytes.now (back_from end skip) result.0 result.1 }
     ensures start { result.1 ≡ false → result.0.at ≡ 0 }
 {
-    // The break at the line's end is one byte nearly always; and a block is read two bytes past its
-    // end.
-    let near = end.saturating_sub(1).min(bytes.len().saturating_sub(2));
     let start = Back {
         at: end,
         chars: 0,
         pairs: 0,
         left: skip,
     };
-    let (mut back, mut is_found) = back_by_bytes(bytes, start, near, breaks);
+    // The break at the line's end is one byte nearly always; and a block is read two bytes past its
+    // end.
+    let (mut back, mut is_found) = if end > 0 && end < bytes.len() {
+        back_by_byte(bytes, start, breaks)
+    } else {
+        back_by_bytes(bytes, start, end.saturating_sub(2), breaks)
+    };
     while !is_found && back.at > 0 {
         (back, is_found) = back_by_block(bytes, back, breaks);
     }

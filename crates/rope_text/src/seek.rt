@@ -5,7 +5,7 @@
 //! The first line break of a text is found with what the text before it counts, in one pass.
 #![tactic(auto, using(crate::proofs::Blocks::begins_le, crate::proofs::Blocks::pairs_le, crate::proofs::Blocks::byte_break_count_le))]
 
-ghost use Rattle.std.specs.Prelude.{◌≡◌, ◌+◌, ◌<◌, ◌≤◌, List, ℕ, true, false, length, count_by, drop, take, IsTrue};
+ghost use Rattle.std.specs.Prelude.{◌≡◌, ◌+◌, ◌<◌, ◌≤◌, List, ℕ, length, count_by, drop, take, IsTrue};
 ghost use Rattle.rope_text.specs.Bytes.{begins_char, begins_pair};
 ghost use Rattle.rope_text.specs.ByteBreaks.{byte_break_count, char_width, IsUnitPlaceOf, breaks_at};
 ghost use Rattle.rope_text.specs.Marks.{IsPlaceOf, IsPassed};
@@ -337,16 +337,13 @@ fn go_to_end(bytes: &[u8], from: Front, breaks: LineBreaks) -> Front
     Front { chars, at, pairs }
 }
 
-/// The bytes before the one at which the last character of the first line break begins, and what
-/// they count, a block at a time; and whether that break was found. If not, the bytes are those
-/// before the last block that can be read. A set that is known where this is called leaves no test
-/// for it in the loop.
+/// The bytes before the one at which the last character of the first line break begins, or all, and
+/// what they count: a block at a time. A set that is known where this is called leaves no test for
+/// it in the loop.
 #[inline(always)]
-pub(crate) fn to_break_in_blocks(bytes: &[u8], breaks: LineBreaks) -> (Front, bool)
-    ensures front { IsFront breaks bytes.now result.0.chars result.0.at result.0.pairs }
-    ensures inside { result.1 ≡ true → result.0.at < length bytes.now }
-    ensures found { result.1 ≡ true → IsTrue (breaks_at breaks bytes.now result.0.at) }
-    ensures near { result.1 ≡ false → length bytes.now ≤ result.0.at + 34 }
+pub(crate) fn to_first_break(bytes: &[u8], breaks: LineBreaks) -> Front
+    ensures front { IsFront breaks bytes.now result.chars result.at result.pairs }
+    ensures inside { result.at < length bytes.now → IsTrue (breaks_at breaks bytes.now result.at) }
 {
     let (mut chars, mut at, mut pairs) = (0, 0, 0);
     while bytes.len() - at >= 34 {
@@ -356,24 +353,11 @@ pub(crate) fn to_break_in_blocks(bytes: &[u8], breaks: LineBreaks) -> (Front, bo
             chars += ones_before(masks.chars, skip);
             pairs += ones_before(masks.pairs, skip);
             at += skip;
-            return (Front { chars, at, pairs }, true);
+            return Front { chars, at, pairs };
         }
         at += 32;
         chars += ones_before(masks.chars, 32);
         pairs += ones_before(masks.pairs, 32);
     }
-    (Front { chars, at, pairs }, false)
-}
-
-/// The same, or all bytes where none of them begins the last character of a break.
-#[inline(always)]
-pub(crate) fn to_first_break(bytes: &[u8], breaks: LineBreaks) -> Front
-    ensures front { IsFront breaks bytes.now result.chars result.at result.pairs }
-    ensures inside { result.at < length bytes.now → IsTrue (breaks_at breaks bytes.now result.at) }
-{
-    let (front, is_found) = to_break_in_blocks(bytes, breaks);
-    if is_found {
-        return front;
-    }
-    go_to_end(bytes, front, breaks)
+    go_to_end(bytes, Front { chars, at, pairs }, breaks)
 }

@@ -2,21 +2,19 @@
 //!
 //! Of `"é\r\n"`, with a set that has CR, they are 4 bytes, 3 characters, no surrogate pair and 1
 //! line break.
-ghost use Rattle.std.specs.Prelude.{◌≡◌, ◌+◌, ◌<◌, ◌≤◌, ◌^◌, [], ◌++◌, false, length, take, List, ℕ, IfSome, IsTrue};
-ghost use Rattle.std.specs.Str.{chars, IsUtf8};
+ghost use Rattle.std.specs.Prelude.{◌≡◌, ◌+◌, ◌<◌, ◌≤◌, ◌^◌, [], ◌++◌, false, length, take, List, ℕ};
+ghost use Rattle.std.specs.Str.{chars};
 ghost use Rattle.rope_text.specs.Breaks.{break_count};
 ghost use Rattle.rope_text.specs.Conversions.{char_to_byte};
 ghost use Rattle.rope_text.specs.LineParts.{before_byte, after_byte, first_line, last_line_byte, last_line_info, IsBetween};
 ghost use Rattle.rope_text.specs.Cutting.{parts_crlf};
 ghost use Rattle.rope_text.specs.Lines.{line_start};
-ghost use Rattle.rope_text.specs.ByteBreaks.{breaks_at};
-ghost use Rattle.rope_text.specs.Scan.{IsFront};
 ghost use Rattle.rope_text.specs.TextInfo.{info_of, info_sum, HasSum, HasPart};
 
 use crate::back::back_to_break;
 use crate::crlf::is_break;
 use crate::lanes::count_all;
-use crate::seek::{Front, to_break_in_blocks, to_first_break, width_of};
+use crate::seek::{to_first_break, width_of};
 use crate::str_utils::{
     byte_to_char_idx_of, byte_to_line_of, byte_to_surrogates_of, line_to_byte_of,
 };
@@ -62,18 +60,17 @@ impl TextInfo {
         count_all(text.as_bytes(), breaks)
     }
 
-    // The counts of a text's bytes up to the end of the first line break, by those before its last
-    // character; where there is none, those of all of it.
+    /// The counts of a text up to the end of its first line break of the set, or of all of it.
+    /// Reads the text once, up to there; takes no memory.
+    // Inlined: a call would store the counts and load them again.
     #[inline(always)]
-    fn up_to_break(bytes: &[u8], front: Front) -> TextInfo
-        requires bytes { front.at ≤ length bytes.now }
-        requires chars { front.chars ≤ length bytes.now }
-        ensures line { (breaks : LineBreaks) → IsUtf8 bytes.now
-            → IsFront breaks bytes.now front.chars front.at front.pairs
-            → (front.at < length bytes.now → IsTrue (breaks_at breaks bytes.now front.at))
-            → result ≡ info_of breaks (first_line breaks (chars bytes.now)) }
-        ensures some { front.at < length bytes.now → result.break_count ≡ 1 }
+    pub fn of_first_line(text: &str, breaks: LineBreaks) -> TextInfo
+        ensures { result ≡ info_of breaks (first_line breaks (chars text.now)) }
     {
+        let bytes = text.as_bytes();
+        // Each set has a loop of its own, since marks that come from one of three places are slow
+        // to put together.
+        let front = known_set!(breaks => to_first_break(bytes, breaks));
         let mut line = TextInfo {
             bytes: front.at,
             chars: front.chars,
@@ -86,37 +83,6 @@ impl TextInfo {
             line.break_count = 1;
         }
         line
-    }
-
-    /// The counts of a text up to the end of its first line break of the set, or of all of it.
-    /// Reads the text once, up to there; takes no memory.
-    // Inlined: a call would store the counts and load them again.
-    #[inline(always)]
-    pub fn of_first_line(text: &str, breaks: LineBreaks) -> TextInfo
-        ensures { result ≡ info_of breaks (first_line breaks (chars text.now)) }
-    {
-        let bytes = text.as_bytes();
-        // Each set has a loop of its own, since marks that come from one of three places are slow
-        // to put together.
-        let front = known_set!(breaks => to_first_break(bytes, breaks));
-        TextInfo::up_to_break(bytes, front)
-    }
-
-    /// The same, if the text has a line break that is found in whole blocks of 32 bytes. None near
-    /// the end of the text, where `of_first_line` says what there is: a caller that asks this first
-    /// has no call in its loop.
-    #[inline(always)]
-    pub fn of_line_in_blocks(text: &str, breaks: LineBreaks) -> Option<TextInfo>
-        ensures line { IfSome result
-            (λ line. line ≡ info_of breaks (first_line breaks (chars text.now))) }
-        ensures some { IfSome result (λ line. 0 < line.break_count) }
-    {
-        let bytes = text.as_bytes();
-        let (front, is_found) = known_set!(breaks => to_break_in_blocks(bytes, breaks));
-        if !is_found {
-            return None;
-        }
-        Some(TextInfo::up_to_break(bytes, front))
     }
 
     /// Of the text before the byte `end`, where its last line starts, or the line `skip` line

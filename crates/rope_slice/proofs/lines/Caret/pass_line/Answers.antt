@@ -1,47 +1,101 @@
 use Rattle.std.proofs.Common.{◌≡◌, ◌∙◌, ap, sym, subst, arith}
 use Rattle.rope_text.specs.TextInfo.{info_of, info_sum, HasSum}
-use Rattle.rope_text.specs.LineParts.{after_byte, first_line}
+use Rattle.rope_text.specs.LineParts.{first_line}
 use Rattle.std.specs.Str.{chars}
+use Rattle.rope_text.specs.LineParts.{after_byte}
+use Rattle.rope_slice.specs.Caret.{halves_at, HoldsAhead}
 use Rattle.rope_slice.proofs.Carets.{between_boundary, between_after}
-use Rattle.rope_slice.proofs.CaretSteps.{holds_ahead, place_fits, pass_inside}
-use Rattle.rope_slice.proofs.lines.Caret.pass_line.Goals.{In-Some}
+use Rattle.rope_slice.proofs.CaretSteps.{holds_ahead, info_small, place_fits, pass_inside, more_small, pass_over}
+use Rattle.rope_slice.proofs.lines.Caret.pass_line.Goals.{After-of_first_line-first}
+use Rattle.rope_tree.proofs.Infos.{sum_of_small}
 use Rattle.rope_slice.proofs.lines.Caret.pass_line.Goals as goal
 
 pub range_from-held-requires : goal.range_from-held-requires
 range_from-held-requires c = λ _. between_boundary c.chunk.result.now c.self.inside.inside c.chunk.utf8 (rw c.chunk.ensures c.self.invariant.between)
 
-line_is : (c : In-Some) → c.in-Some.line ≡ info_of c.args.breaks (first_line c.args.breaks (after_byte c.self.inside.span.here c.self.inside.inside))
-line_is c =
+first_is : (c : After-of_first_line-first) → c.of_first_line-first.result ≡ info_of c.args.breaks (first_line c.args.breaks (after_byte c.self.inside.span.here c.self.inside.inside))
+first_is c =
     let b = c.self.inside.inside in
     let cut = between_after c.chunk.result.now c.range_from-held.result.now b c.chunk.utf8 (rw c.chunk.ensures c.self.invariant.between) c.range_from-held.ensures.value in
-    c.in-Some.ensures.line ∙ ap (λ t. info_of c.args.breaks (first_line c.args.breaks t)) (cut ∙ ap (λ t. after_byte t b) c.chunk.ensures)
+    c.of_first_line-first.ensures ∙ ap (λ t. info_of c.args.breaks (first_line c.args.breaks t)) (cut ∙ ap (λ t. after_byte t b) c.chunk.ensures)
 
 pub overflow_add-self : goal.overflow_add-self
 overflow_add-self c =
-    omega (arith, place_fits c.args.breaks c.self.inside.span c.self.inside.inside c.self.invariant c.in-Some.line (line_is (goal.at.overflow_add-self c).In-Some))
+    let small = place_fits c.args.breaks c.self.inside.span c.self.inside.inside c.self.invariant c.of_first_line-first.result
+    (first_is (goal.at.overflow_add-self c).After-of_first_line-first) in
+    omega (arith, small)
 
 pub invariant_of-self : goal.invariant_of-self
 invariant_of-self c =
-    (pass_inside c.args.breaks c.self.inside.span c.self.inside.inside c.self.invariant c.in-Some.line (line_is (goal.at.invariant_of-self c).In-Some) c.in-Some.ensures.some).caret
+    (pass_inside c.args.breaks c.self.inside.span c.self.inside.inside c.self.invariant c.of_first_line-first.result
+    (first_is (goal.at.invariant_of-self c).After-of_first_line-first)
+    c.if-first-gt0.true).caret
 
-pub returns-clause-front : goal.returns-clause-front
-returns-clause-front c =
-    rw (← c.self.view_is) (pass_inside c.args.breaks c.self.inside.span c.self.inside.inside c.self.invariant c.in-Some.line (line_is (goal.at.returns-clause-front c).In-Some) c.in-Some.ensures.some).front_is
+pub returns-then-first-gt0-clause-front : goal.returns-then-first-gt0-clause-front
+returns-then-first-gt0-clause-front c =
+    rw (← c.self.view_is) (pass_inside c.args.breaks c.self.inside.span c.self.inside.inside c.self.invariant c.of_first_line-first.result
+    (first_is (goal.at.returns-then-first-gt0-clause-front c).After-of_first_line-first)
+    c.if-first-gt0.true).front_is
 
-pub returns-clause-back : goal.returns-clause-back
-returns-clause-back c =
-    rw (← c.self.view_is) (pass_inside c.args.breaks c.self.inside.span c.self.inside.inside c.self.invariant c.in-Some.line (line_is (goal.at.returns-clause-back c).In-Some) c.in-Some.ensures.some).back_is
+pub returns-then-first-gt0-clause-back : goal.returns-then-first-gt0-clause-back
+returns-then-first-gt0-clause-back c =
+    rw (← c.self.view_is) (pass_inside c.args.breaks c.self.inside.span c.self.inside.inside c.self.invariant c.of_first_line-first.result
+    (first_is (goal.at.returns-then-first-gt0-clause-back c).After-of_first_line-first)
+    c.if-first-gt0.true).back_is
 
 pub plus-requires : goal.plus-requires
 plus-requires c =
-    subst (HasSum c.args.before.now) (sym (pass_inside c.args.breaks c.self.inside.span c.self.inside.inside c.self.invariant c.in-Some.line (line_is (goal.at.plus-requires c).In-Some) c.in-Some.ensures.some).counts) (rw (← c.self.view_is) at c.requires)
+    subst (HasSum c.args.before.now) (sym (pass_inside c.args.breaks c.self.inside.span c.self.inside.inside c.self.invariant c.of_first_line-first.result
+    (first_is (goal.at.plus-requires c).After-of_first_line-first)
+    c.if-first-gt0.true).counts) (rw (← c.self.view_is) at c.requires)
+
+pub returns-then-first-gt0-clause-counts : goal.returns-then-first-gt0-clause-counts
+returns-then-first-gt0-clause-counts c =
+    rw (← c.self.view_is) (c.plus.ensures.sum ∙ ap (info_sum c.args.before.now) (pass_inside c.args.breaks c.self.inside.span c.self.inside.inside c.self.invariant c.of_first_line-first.result
+    (first_is (goal.at.returns-then-first-gt0-clause-counts c).After-of_first_line-first)
+    c.if-first-gt0.true).counts)
+
+pub plus-requires-2 : goal.plus-requires-2
+plus-requires-2 c =
+    let one = info_small c.args.breaks c.self.inside.span c.self.inside.inside c.self.invariant c.of_first_line-first.result
+    (first_is (goal.at.plus-requires-2 c).After-of_first_line-first) in
+    let two = more_small c.args.breaks c.self.inside.span c.self.inside.inside c.self.invariant c.of_first_line-first.result
+    (first_is (goal.at.plus-requires-2 c).After-of_first_line-first)
+    c.pass_chunks-inside.new.span c.pass_chunks-inside.result.0 c.pass_chunks-inside.result.1 c.if-first-gt0.false c.pass_chunks-inside.ensures.passes in
+    sum_of_small _ _ one two
+
+pub returns-clause-front : goal.returns-clause-front
+returns-clause-front c =
+    rw (← c.self.view_is) (pass_over c.args.breaks c.self.inside.span c.self.inside.inside c.self.invariant c.of_first_line-first.result
+    (first_is (goal.at.returns-clause-front c).After-of_first_line-first)
+    c.pass_chunks-inside.new.span c.pass_chunks-inside.result.0 c.pass_chunks-inside.result.1 c.if-first-gt0.false c.pass_chunks-inside.ensures.passes c.plus-2.result c.plus-2.ensures.sum).front_is
+
+pub returns-clause-back : goal.returns-clause-back
+returns-clause-back c =
+    rw (← c.self.view_is) (pass_over c.args.breaks c.self.inside.span c.self.inside.inside c.self.invariant c.of_first_line-first.result
+    (first_is (goal.at.returns-clause-back c).After-of_first_line-first)
+    c.pass_chunks-inside.new.span c.pass_chunks-inside.result.0 c.pass_chunks-inside.result.1 c.if-first-gt0.false c.pass_chunks-inside.ensures.passes c.plus-2.result c.plus-2.ensures.sum).back_is
+
+pub plus-requires-3 : goal.plus-requires-3
+plus-requires-3 c =
+    subst (HasSum c.args.before.now) (sym (pass_over c.args.breaks c.self.inside.span c.self.inside.inside c.self.invariant c.of_first_line-first.result
+    (first_is (goal.at.plus-requires-3 c).After-of_first_line-first)
+    c.pass_chunks-inside.new.span c.pass_chunks-inside.result.0 c.pass_chunks-inside.result.1 c.if-first-gt0.false c.pass_chunks-inside.ensures.passes c.plus-2.result c.plus-2.ensures.sum).counts) (rw (← c.self.view_is) at c.requires)
 
 pub returns-clause-counts : goal.returns-clause-counts
 returns-clause-counts c =
-    rw (← c.self.view_is) (c.plus.ensures.sum ∙ ap (info_sum c.args.before.now) (pass_inside c.args.breaks c.self.inside.span c.self.inside.inside c.self.invariant c.in-Some.line (line_is (goal.at.returns-clause-counts c).In-Some) c.in-Some.ensures.some).counts)
+    rw (← c.self.view_is) (c.plus-3.ensures.sum ∙ ap (info_sum c.args.before.now) (pass_over c.args.breaks c.self.inside.span c.self.inside.inside c.self.invariant c.of_first_line-first.result
+    (first_is (goal.at.returns-clause-counts c).After-of_first_line-first)
+    c.pass_chunks-inside.new.span c.pass_chunks-inside.result.0 c.pass_chunks-inside.result.1 c.if-first-gt0.false c.pass_chunks-inside.ensures.passes c.plus-2.result c.plus-2.ensures.sum).counts)
+
+ahead : (c : After-of_first_line-first) → HoldsAhead (halves_at c.self.inside.span c.self.inside.inside) (chars c.range_from-held.result.now)
+ahead c =
+    let b = c.self.inside.inside in
+    holds_ahead c.self.inside.span b (chars c.range_from-held.result.now)
+    (between_after c.chunk.result.now c.range_from-held.result.now b c.chunk.utf8 (rw c.chunk.ensures c.self.invariant.between) c.range_from-held.ensures.value ∙ ap (λ t. after_byte t b) c.chunk.ensures)
+
+pub returns-then-first-gt0-clause-held : goal.returns-then-first-gt0-clause-held
+returns-then-first-gt0-clause-held c = rw (← c.self.view_is) (ahead (goal.at.returns-then-first-gt0-clause-held c).After-of_first_line-first)
 
 pub returns-clause-held : goal.returns-clause-held
-returns-clause-held c =
-    let b = c.self.inside.inside in
-    rw (← c.self.view_is) (holds_ahead c.self.inside.span b (chars c.range_from-held.result.now)
-    (between_after c.chunk.result.now c.range_from-held.result.now b c.chunk.utf8 (rw c.chunk.ensures c.self.invariant.between) c.range_from-held.ensures.value ∙ ap (λ t. after_byte t b) c.chunk.ensures))
+returns-clause-held c = rw (← c.self.view_is) (ahead (goal.at.returns-clause-held c).After-of_first_line-first)

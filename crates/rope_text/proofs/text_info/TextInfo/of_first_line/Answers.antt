@@ -17,8 +17,19 @@ scanned c =
       | in-Unicode w ↦ rw w.front-is (w.to_first_break-front-in-Unicode.ensures.front, w.to_first_break-front-in-Unicode.ensures.inside)
     ]
 
-pub returns : goal.returns
-returns c =
+pub returns-then-line-bytes : goal.returns-then-line-bytes
+returns-then-line-bytes c =
     let bytes = c.as_bytes-bytes in
-    let scan = scanned (goal.at.returns c).Joined-breaks in
-    c.up_to_break.ensures.line c.args.breaks bytes.ensures.utf8 scan.0 scan.1 ∙ ap (λ bs. info_of c.args.breaks (first_line c.args.breaks (chars bs))) bytes.ensures.value
+    let front = c.match-breaks.front in
+    let scan = scanned (goal.at.returns-then-line-bytes c).Joined-breaks in
+    scanned_line c.args.breaks bytes.result.now front.chars front.at front.pairs _ bytes.ensures.utf8 scan.0 c.if-line-bytes.true (scan.1 c.if-line-bytes.true) (ap (λ n. front.at + n) c.width_of.ensures) refl refl refl
+    ∙ ap (λ bs. info_of c.args.breaks (first_line c.args.breaks (chars bs))) bytes.ensures.value
+
+pub returns-else-line-bytes : goal.returns-else-line-bytes
+returns-else-line-bytes c =
+    let bytes = c.as_bytes-bytes in
+    let front = c.match-breaks.front in
+    let scan = scanned (goal.at.returns-else-line-bytes c).Joined-breaks in
+    let end : front.at ≡ length bytes.result.now = omega (arith, scan.0.within, c.if-line-bytes.false) in
+    scanned_all c.args.breaks bytes.result.now front.chars front.at front.pairs _ bytes.ensures.utf8 scan.0 end refl refl refl refl
+    ∙ ap (λ bs. info_of c.args.breaks (first_line c.args.breaks (chars bs))) bytes.ensures.value

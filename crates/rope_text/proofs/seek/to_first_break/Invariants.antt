@@ -1,6 +1,6 @@
 use Rattle.std.proofs.Common.{◌-◌, length}
 use Rattle.rope_text.specs.Scan.{IsFront}
-use Rattle.rope_text.proofs.seek.to_break_in_blocks.Given as goal
+use Rattle.rope_text.proofs.seek.to_first_break.Given as goal
 
 abbrev pub invariant-loop-at : goal.invariant-loop-at
 invariant-loop-at l = IsFront l.breaks l.bytes l.chars l.at l.pairs
