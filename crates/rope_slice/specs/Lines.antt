@@ -1,5 +1,6 @@
 -- A cursor over lines, by the number of the line that it stands before.
 use Rattle.std.specs.Prelude.{◌≡◌, ℕ, ◌^◌, ◌<◌, ◌≤◌, Bool, length, take, drop}
+use Rattle.rope_text.specs.declared.line_breaks.LineBreaks.{LineBreaks}
 use Rattle.rope_text.specs.declared.text_info.TextInfo.{TextInfo}
 use Rattle.rope_text.specs.Text.{byte_len}
 use Rattle.rope_text.specs.TextInfo.{info_of}
@@ -22,3 +23,8 @@ pub record IsLineStart (c : Content) (h : Halves) (before : TextInfo) (l total :
   pub chunks_are : 0 < length c.text → h.chunks ≡ c.chunks
   pub before_is : before ≡ info_of c.breaks (take (line_start c.breaks c.text l) c.text)
   pub fits : byte_len c.text < 2 ^ 63
+
+-- the same, with the set of line breaks at hand
+pub record IsLineCursor (c : Content) (breaks : LineBreaks) (h : Halves) (before : TextInfo) (l total : ℕ) : Type 0 where
+  pub start : IsLineStart c h before l total
+  pub breaks_is : breaks ≡ c.breaks

@@ -42,6 +42,9 @@ use std::marker::Model;
 pub struct Lines<'a> {
     #[derive_where(skip)]
     slice: RopeSlice<'a>,
+    // the slice's, which stands in the tree's root
+    #[derive_where(skip)]
+    breaks: LineBreaks,
     #[derive_where(skip)]
     caret: Caret<'a>,
     // the counts of the text before the line
@@ -56,13 +59,14 @@ impl<'a> Model for Lines<'a> {
     ghost use Rattle.rope_text.specs.Content.{Content};
     ghost use Rattle.rope_text.specs.Sides.{Sides};
     ghost use Rattle.rope_slice.specs.Slice.{content_of};
-    ghost use Rattle.rope_slice.specs.Lines.{at_line, IsLineStart};
+    ghost use Rattle.rope_slice.specs.Lines.{at_line, IsLineCursor};
 
     ghost Value = { Sides Content };
 
     ghost view = { λ a. at_line (content_of a.slice) a.line a.is_backward };
 
-    ghost invariant = { λ a. IsLineStart (content_of a.slice) a.caret a.before a.line a.total };
+    ghost invariant = { λ a.
+        IsLineCursor (content_of a.slice) a.breaks a.caret a.before a.line a.total };
 }
 
 impl<'a> RopeSlice<'a> {
@@ -98,11 +102,18 @@ impl<'a> RopeSlice<'a> {
         }
     }
 
-    // The slice between two places, by the counts of the text up to them. The first lies in no CR
-    // LF. `held` is what a chunk has from there on: a slice that ends in it is its text, of which
-    // nothing is looked up again.
+    // The slice between two places, by the counts of the text up to them, and by the set of line
+    // breaks, which the caller knows. The first place lies in no CR LF. `held` is what a chunk has
+    // from there on: a slice that ends in it is its text, of which nothing is looked up again.
     #[inline(always)]
-    fn between(&self, from: TextInfo, to: TextInfo, held: &'a str) -> RopeSlice<'a>
+    fn between(
+        &self,
+        breaks: LineBreaks,
+        from: TextInfo,
+        to: TextInfo,
+        held: &'a str,
+    ) -> RopeSlice<'a>
+        requires breaks_is { breaks ≡ breaks_of self.now }
         requires from_is { from
             ≡ info_of (breaks_of self.now) (take from.chars (text_of self.now)) }
         requires to_is { to ≡ info_of (breaks_of self.now) (take to.chars (text_of self.now)) }
@@ -117,7 +128,6 @@ impl<'a> RopeSlice<'a> {
         let info = to.minus(from);
         if info.bytes <= held.len() {
             let text = &held[..info.bytes];
-            let breaks = self.line_breaks();
             return RopeSlice::Alone(Plain { text, info, breaks });
         }
         match self {
@@ -144,7 +154,7 @@ impl<'a> RopeSlice<'a> {
         ensures { content_of result ≡ line_of (content_of self.now) line_idx }
     {
         let line = self.around_line(line_idx);
-        self.between(line.start, line.end, line.held)
+        self.between(self.line_breaks(), line.start, line.end, line.held)
     }
 
     /// The line `line_idx`, counted from 0, with its line break, or `None` exactly where the index
@@ -191,6 +201,7 @@ impl<'a> RopeSlice<'a> {
         let (span, inside) = Span::behind(self, before);
         let lines = Lines {
             slice: *self,
+            breaks: self.line_breaks(),
             caret: Caret { span, inside },
             before,
             line: line_idx,
@@ -221,18 +232,18 @@ impl<'a> Lines<'a> {
         if self.line == end_of(self.total, is_left) {
             return None;
         }
-        let breaks = self.slice.line_breaks();
+        let breaks = self.breaks;
         let here = self.before;
         if is_left {
             let line = self.line - 1;
             let skip = here.break_count - line;
             let held = self.caret.pass_line_back(&mut self.before, skip, breaks);
             self.line = line;
-            return Some(self.slice.between(self.before, here, held));
+            return Some(self.slice.between(breaks, self.before, here, held));
         }
         let held = self.caret.pass_line(&mut self.before, breaks);
         self.line += 1;
-        Some(self.slice.between(here, self.before, held))
+        Some(self.slice.between(breaks, here, self.before, held))
     }
 
     /// The line behind, to which it steps back; or none at that end, where it stays. Takes no

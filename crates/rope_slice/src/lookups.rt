@@ -158,16 +158,28 @@ impl<'a> RopeSlice<'a> {
 
     /// The whole text, exactly where the slice has at most one chunk, and else `None`. Costs at
     /// most two look-ups; takes no memory.
+    #[inline(always)]
     pub fn as_str(&self) -> Option<&'a str>
         ensures one { OnSome result (length (chunks_of self.now) ≤ 1) }
         ensures more { IfNone result (1 < length (chunks_of self.now)) }
         ensures value { IfSome result (λ s. chars s.now ≡ text_of self.now) }
     {
-        if let RopeSlice::Alone(plain) = self {
-            return Some(plain.text);
+        match self {
+            RopeSlice::InTree(_) => self.only_chunk(),
+            RopeSlice::Alone(plain) => Some(plain.text),
         }
+    }
+
+    // The same. It takes a copy of the slice: were it told where the slice lies, a caller would
+    // have to keep each line in memory for it, a plain text too.
+    #[inline(never)]
+    fn only_chunk(self) -> Option<&'a str>
+        ensures one { OnSome result (length (chunks_of self.entry) ≤ 1) }
+        ensures more { IfNone result (1 < length (chunks_of self.entry)) }
+        ensures value { IfSome result (λ s. chars s.now ≡ text_of self.entry) }
+    {
         let len = self.info().bytes;
-        let (chunk, ..) = self.chunk_apart(Unit::Char, 0);
+        let (chunk, ..) = self.chunk_at(Unit::Char, 0);
         (byte_len_of(chunk) == len).then_some(chunk)
     }
 

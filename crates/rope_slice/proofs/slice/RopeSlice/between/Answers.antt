@@ -72,7 +72,7 @@ pub invariant_of-result : goal.invariant_of-result
 invariant_of-result c =
     let here = (goal.at.invariant_of-result c).After-range-text in
     let counts = counts_are (content_of c.args.self.now) c.args.from c.args.to c.minus-info.result c.requires.from_is c.requires.to_is c.requires.ordered c.requires.apart c.minus-info.ensures.rest in
-    record { counted = counts ∙ ap (info_of (breaks_of c.args.self.now)) (sym (part_is here (bytes_are (goal.at.invariant_of-result c).Then-info-held) (ends (goal.at.invariant_of-result c).Then-info-held))) ∙ ap (λ b. info_of b (chars c.range-text.result.now)) (sym c.line_breaks-breaks.ensures) }
+    record { counted = counts ∙ ap (info_of (breaks_of c.args.self.now)) (sym (part_is here (bytes_are (goal.at.invariant_of-result c).Then-info-held) (ends (goal.at.invariant_of-result c).Then-info-held))) ∙ ap (λ b. info_of b (chars c.range-text.result.now)) (sym c.requires.breaks_is) }
 
 pub returns-then-info-held : goal.returns-then-info-held
 returns-then-info-held c =
@@ -80,7 +80,7 @@ returns-then-info-held c =
     let e = ends (goal.at.returns-then-info-held c).Then-info-held in
     let text = part_is here (bytes_are (goal.at.returns-then-info-held c).Then-info-held) e in
     let chunks = ap single_chunk (text ∙ e.text_is) ∙ sym e.chunks_are in
-    same_content _ (part_between (content_of c.args.self.now) c.args.from.chars c.args.to.chars) text chunks c.line_breaks-breaks.ensures
+    same_content _ (part_between (content_of c.args.self.now) c.args.from.chars c.args.to.chars) text chunks c.requires.breaks_is
 
 -- a part that goes on behind the chunk has a character
 some : (c : In-InTree) → c.args.from.chars < c.args.to.chars

@@ -46,11 +46,14 @@ invariant_of-lines-2 c =
     let t = text_of c.args.self.now in
     let same = (counts_at breaks t (line_start breaks t c.args.line_idx) c.before_line-before.result (line_start-le-length breaks t c.args.line_idx) c.before_line-before.ensures).0 in
     record {
-      within = omega (arith, c.requires, ap (λ x. x.break_count) c.info-total.ensures.value);
-      total_is = ap (λ x. x.break_count + 1) c.info-total.ensures.value;
-      front_is = front_at (content_of c.args.self.now) p within place c.behind-span.result.1 c.info-total.ensures.kept e.text e.chunks (omega (arith, e.starts)) (omega (arith, e.within)) e.byte ∙ ap (λ n. take n t) same;
-      back_is = back_at (content_of c.args.self.now) p within place c.behind-span.result.1 c.info-total.ensures.kept e.text e.chunks (omega (arith, e.starts)) (omega (arith, e.within)) e.byte ∙ ap (λ n. drop n t) same;
-      chunks_are = e.chunks;
-      before_is = c.before_line-before.ensures;
-      fits = c.info-total.ensures.kept.fits;
+      start = record {
+        within = omega (arith, c.requires, ap (λ x. x.break_count) c.info-total.ensures.value);
+        total_is = ap (λ x. x.break_count + 1) c.info-total.ensures.value;
+        front_is = front_at (content_of c.args.self.now) p within place c.behind-span.result.1 c.info-total.ensures.kept e.text e.chunks (omega (arith, e.starts)) (omega (arith, e.within)) e.byte ∙ ap (λ n. take n t) same;
+        back_is = back_at (content_of c.args.self.now) p within place c.behind-span.result.1 c.info-total.ensures.kept e.text e.chunks (omega (arith, e.starts)) (omega (arith, e.within)) e.byte ∙ ap (λ n. drop n t) same;
+        chunks_are = e.chunks;
+        before_is = c.before_line-before.ensures;
+        fits = c.info-total.ensures.kept.fits;
+      };
+      breaks_is = c.line_breaks.ensures;
     }
