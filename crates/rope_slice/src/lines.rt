@@ -336,32 +336,41 @@ impl<'a> Model for Caret<'a> {
     ghost invariant = { λ a. IsCaret a.span a.inside };
 }
 
-// From the end of a chunk to the end of a line: the place in the last chunk, and the counts of what
-// was passed. Never inlined, so that a step within one chunk is kept short.
+// From the end of a chunk to the end of a line: the place in the last chunk, and in `more` the
+// counts of what was passed: for counts that it answered, a caller would clear stack at each line.
+// Never inlined, so that a step within one chunk is kept short.
 #[inline(never)]
-fn pass_chunks(span: &mut Span<'_>, breaks: LineBreaks) -> (usize, TextInfo)
+fn pass_chunks(span: &mut Span<'_>, more: &mut TextInfo, breaks: LineBreaks) -> usize
     requires { AreChunks span.old }
     ensures passes { PassesLine breaks (concat span.old.before ++ span.old.here)
-        (concat span.old.after) span.new result.0 result.1 }
+        (concat span.old.after) span.new result more.new }
     ensures same { leaves span.new ≡ leaves span.old }
 {
     let mut passed = TextInfo::new();
     while span.step(false, Heads::Left) {
-        let more = TextInfo::of_first_line(span.chunk(), breaks);
-        passed = passed.plus(more);
-        if more.break_count > 0 {
-            return (more.bytes, passed);
+        let line = TextInfo::of_first_line(span.chunk(), breaks);
+        passed = passed.plus(line);
+        if line.break_count > 0 {
+            *more = passed;
+            return line.bytes;
         }
     }
-    (byte_len_of(span.chunk()), passed)
+    *more = passed;
+    byte_len_of(span.chunk())
 }
 
-// From the start of a chunk back to the start of a line: the place in the last chunk, and the
-// counts of what was passed.
-fn pass_chunks_back(span: &mut Span<'_>, skip: usize, breaks: LineBreaks) -> (usize, TextInfo)
+// From the start of a chunk back to the start of a line: the place in the last chunk, and in `more`
+// the counts of what was passed.
+#[inline(never)]
+fn pass_chunks_back(
+    span: &mut Span<'_>,
+    skip: usize,
+    more: &mut TextInfo,
+    breaks: LineBreaks,
+) -> usize
     requires { AreChunks span.old }
     ensures passes { PassesBack breaks skip (concat span.old.before)
-        (span.old.here ++ concat span.old.after) span.new result.0 result.1 }
+        (span.old.here ++ concat span.old.after) span.new result more.new }
     ensures same { leaves span.new ≡ leaves span.old }
 {
     let mut passed = TextInfo::new();
@@ -369,14 +378,16 @@ fn pass_chunks_back(span: &mut Span<'_>, skip: usize, breaks: LineBreaks) -> (us
     while span.step(true, Heads::Left) {
         let chunk = span.chunk();
         let end = byte_len_of(chunk);
-        let (start, more) = TextInfo::of_last_line(chunk, end, left, breaks);
-        passed = more.plus(passed);
+        let (start, line) = TextInfo::of_last_line(chunk, end, left, breaks);
+        passed = line.plus(passed);
         if start > 0 {
-            return (start, passed);
+            *more = passed;
+            return start;
         }
-        left -= more.break_count;
+        left -= line.break_count;
     }
-    (0, passed)
+    *more = passed;
+    0
 }
 
 impl<'a> Caret<'a> {
@@ -401,8 +412,8 @@ impl<'a> Caret<'a> {
             *before = before.plus(first);
             return held;
         }
-        let (inside, more) = pass_chunks(&mut self.span, breaks);
-        self.inside = inside;
+        let mut more = TextInfo::new();
+        self.inside = pass_chunks(&mut self.span, &mut more, breaks);
         *before = before.plus(first.plus(more));
         held
     }
@@ -432,7 +443,9 @@ impl<'a> Caret<'a> {
             *before = before.minus(last);
             return &chunk[start..];
         }
-        let (inside, more) = pass_chunks_back(&mut self.span, skip - last.break_count, breaks);
+        let mut more = TextInfo::new();
+        let left = skip - last.break_count;
+        let inside = pass_chunks_back(&mut self.span, left, &mut more, breaks);
         self.inside = inside;
         *before = before.minus(more.plus(last));
         &self.span.chunk()[inside..]

@@ -45,20 +45,22 @@ fn back_by_byte(bytes: &[u8], from: Back, breaks: LineBreaks) -> (Back, bool)
 }
 
 /// Goes back over single bytes to the byte `to`, or to the break that is looked for. Answers
-/// whether it came to that break. Cold: it is needed at the end of a text, and in short ones.
+/// whether it came to that break. Cold: it is needed at the end of a text, and in short ones. It
+/// moves a place that it is given: for one that it answered, a caller would clear stack at each
+/// line.
 #[inline(never)]
-fn back_by_bytes(bytes: &[u8], from: Back, to: usize, breaks: LineBreaks) -> (Back, bool)
-    requires room { HasRoom from }
-    requires within { from.at ≤ length bytes.now }
-    requires to { to ≤ from.at }
-    ensures goes { GoesBack breaks bytes.now from result.0 result.1 }
-    ensures end { result.1 ≡ false → result.0.at ≡ to }
+fn back_by_bytes(bytes: &[u8], back: &mut Back, to: usize, breaks: LineBreaks) -> bool
+    requires room { HasRoom back.old }
+    requires within { back.old.at ≤ length bytes.now }
+    requires to { to ≤ back.old.at }
+    ensures goes { GoesBack breaks bytes.now back.old back.new result }
+    ensures end { result ≡ false → back.new.at ≡ to }
 {
-    let (mut back, mut is_found) = (from, false);
+    let mut is_found = false;
     while !is_found && back.at > to {
-        (back, is_found) = back_by_byte(bytes, back, breaks);
+        (*back, is_found) = back_by_byte(bytes, *back, breaks);
     }
-    (back, is_found)
+    is_found
 }
 
 /// The same by one block, of which a short text has none.
@@ -72,7 +74,9 @@ fn back_by_block(bytes: &[u8], back: Back, breaks: LineBreaks) -> (Back, bool)
 {
     let from = back.at.saturating_sub(32);
     if bytes.len() - from < 34 {
-        return back_by_bytes(bytes, back, 0, breaks);
+        let mut moved = back;
+        let is_found = back_by_bytes(bytes, &mut moved, 0, breaks);
+        return (moved, is_found);
     }
     let len = back.at - from;
     let masks = masks_of(bytes, from, breaks);
@@ -121,7 +125,9 @@ pub(crate) fn back_to_break(
     let (mut back, mut is_found) = if end > 0 && end < bytes.len() {
         back_by_byte(bytes, start, breaks)
     } else {
-        back_by_bytes(bytes, start, end.saturating_sub(2), breaks)
+        let mut moved = start;
+        let is_found = back_by_bytes(bytes, &mut moved, end.saturating_sub(2), breaks);
+        (moved, is_found)
     };
     while !is_found && back.at > 0 {
         (back, is_found) = back_by_block(bytes, back, breaks);

@@ -319,22 +319,24 @@ fn go_in_last_block(bytes: &[u8], from: Front, breaks: LineBreaks) -> Front
 }
 
 // The same to the next break or to the end of the bytes. Never inlined: it is needed once a chunk,
-// and would only make its callers longer.
+// and would only make its callers longer. It moves a place that it is given: for one that it
+// answered, a caller would clear stack at each line.
 #[inline(never)]
-fn go_to_end(bytes: &[u8], from: Front, breaks: LineBreaks) -> Front
-    requires near { length bytes.now ≤ from.at + 34 }
-    requires front { IsFront breaks bytes.now from.chars from.at from.pairs }
-    ensures front { IsFront breaks bytes.now result.chars result.at result.pairs }
-    ensures inside { result.at < length bytes.now → IsTrue (breaks_at breaks bytes.now result.at) }
+fn go_to_end(bytes: &[u8], front: &mut Front, breaks: LineBreaks)
+    requires near { length bytes.now ≤ front.old.at + 34 }
+    requires front { IsFront breaks bytes.now front.old.chars front.old.at front.old.pairs }
+    ensures front { IsFront breaks bytes.now front.new.chars front.new.at front.new.pairs }
+    ensures inside { front.new.at < length bytes.now
+        → IsTrue (breaks_at breaks bytes.now front.new.at) }
 {
-    let front = go_in_last_block(bytes, from, breaks);
-    let (mut chars, mut at, mut pairs) = (front.chars, front.at, front.pairs);
+    let from = go_in_last_block(bytes, *front, breaks);
+    let (mut chars, mut at, mut pairs) = (from.chars, from.at, from.pairs);
     while at < bytes.len() && !is_mark(bytes, at, Mark::Break(breaks)) {
         chars += is_mark(bytes, at, Mark::Char) as usize;
         pairs += is_mark(bytes, at, Mark::Pair) as usize;
         at += 1;
     }
-    Front { chars, at, pairs }
+    *front = Front { chars, at, pairs };
 }
 
 /// The bytes before the one at which the last character of the first line break begins, or all, and
@@ -359,5 +361,7 @@ pub(crate) fn to_first_break(bytes: &[u8], breaks: LineBreaks) -> Front
         chars += ones_before(masks.chars, 32);
         pairs += ones_before(masks.pairs, 32);
     }
-    go_to_end(bytes, Front { chars, at, pairs }, breaks)
+    let mut front = Front { chars, at, pairs };
+    go_to_end(bytes, &mut front, breaks);
+    front
 }

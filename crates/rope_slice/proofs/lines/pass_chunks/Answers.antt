@@ -13,14 +13,14 @@ loop-breaks-init c = record { passed = passed_none c.args.breaks c.args.span.now
 
 pub plus-passed-requires : goal.plus-passed-requires
 plus-passed-requires c =
-    let small = more_fits c.args.breaks c.args.span.now c.loop-breaks.span c.step.new.self c.loop-breaks.passed c.loop-breaks.invariant.passed.0 c.loop-breaks.invariant.passed.1 c.loop-breaks-test.ensures.moved c.of_first_line-more.result
-    (c.of_first_line-more.ensures ∙ ap (λ t. info_of c.args.breaks (first_line c.args.breaks t)) c.chunk.ensures) in
+    let small = more_fits c.args.breaks c.args.span.now c.loop-breaks.span c.step.new.self c.loop-breaks.passed c.loop-breaks.invariant.passed.0 c.loop-breaks.invariant.passed.1 c.loop-breaks-test.ensures.moved c.of_first_line-line.result
+    (c.of_first_line-line.ensures ∙ ap (λ t. info_of c.args.breaks (first_line c.args.breaks t)) c.chunk.ensures) in
     sum_of_small _ _ small.0 small.1
 
-pub returns-then-more-gt0-clause-passes : goal.returns-then-more-gt0-clause-passes
-returns-then-more-gt0-clause-passes c =
+pub returns-then-line-gt0-clause-passes : goal.returns-then-line-gt0-clause-passes
+returns-then-line-gt0-clause-passes c =
     passes_line c.args.breaks c.args.span.now c.loop-breaks.span c.step.new.self c.loop-breaks.passed c.loop-breaks.invariant.passed.0 c.loop-breaks.invariant.passed.1 c.loop-breaks-test.ensures.moved
-    c.of_first_line-more.result c.plus-passed.result (c.of_first_line-more.ensures ∙ ap (λ t. info_of c.args.breaks (first_line c.args.breaks t)) c.chunk.ensures) c.plus-passed.ensures.sum c.if-more-gt0.true
+    c.of_first_line-line.result c.plus-passed.result (c.of_first_line-line.ensures ∙ ap (λ t. info_of c.args.breaks (first_line c.args.breaks t)) c.chunk.ensures) c.plus-passed.ensures.sum c.if-line-gt0.true
 
 pub loop-breaks-smaller : goal.loop-breaks-smaller
 loop-breaks-smaller c = omega (arith, ap length c.loop-breaks-test.ensures.moved.after)
@@ -28,7 +28,7 @@ loop-breaks-smaller c = omega (arith, ap length c.loop-breaks-test.ensures.moved
 pub loop-breaks-preserved : goal.loop-breaks-preserved
 loop-breaks-preserved c = record {
   passed = passed_more c.args.breaks c.args.span.now c.loop-breaks.span c.step.new.self c.loop-breaks.passed c.loop-breaks.invariant.passed.0 c.loop-breaks.invariant.passed.1 c.loop-breaks-test.ensures.moved
-      c.of_first_line-more.result c.plus-passed.result (c.of_first_line-more.ensures ∙ ap (λ t. info_of c.args.breaks (first_line c.args.breaks t)) c.chunk.ensures) c.plus-passed.ensures.sum c.if-more-gt0.false;
+      c.of_first_line-line.result c.plus-passed.result (c.of_first_line-line.ensures ∙ ap (λ t. info_of c.args.breaks (first_line c.args.breaks t)) c.chunk.ensures) c.plus-passed.ensures.sum c.if-line-gt0.false;
   same = leaves_next c.loop-breaks.span c.step.new.self c.loop-breaks-test.ensures.moved ∙ c.loop-breaks.invariant.same;
 }
 
@@ -37,8 +37,8 @@ returns-clause-passes c =
     passes_end c.args.breaks c.args.span.now c.loop-breaks.span c.step.new.self c.loop-breaks.passed c.byte_len_of.result c.loop-breaks.invariant.passed c.loop-breaks-test.ensures.stays c.loop-breaks-test.ensures.ended
     (c.byte_len_of.ensures ∙ ap byte_len c.chunk-2.ensures)
 
-pub returns-then-more-gt0-clause-same : goal.returns-then-more-gt0-clause-same
-returns-then-more-gt0-clause-same c = leaves_next c.loop-breaks.span c.step.new.self c.loop-breaks-test.ensures.moved ∙ c.loop-breaks.invariant.same
+pub returns-then-line-gt0-clause-same : goal.returns-then-line-gt0-clause-same
+returns-then-line-gt0-clause-same c = leaves_next c.loop-breaks.span c.step.new.self c.loop-breaks-test.ensures.moved ∙ c.loop-breaks.invariant.same
 
 pub returns-clause-same : goal.returns-clause-same
 returns-clause-same c = ap leaves c.loop-breaks-test.ensures.stays ∙ c.loop-breaks.invariant.same

@@ -61,32 +61,32 @@ plus-requires-2 c =
     (first_is (goal.at.plus-requires-2 c).After-of_first_line-first) in
     let two = more_small c.args.breaks c.self.inside.span c.self.inside.inside c.self.invariant c.of_first_line-first.result
     (first_is (goal.at.plus-requires-2 c).After-of_first_line-first)
-    c.pass_chunks-inside.new.span c.pass_chunks-inside.result.0 c.pass_chunks-inside.result.1 c.if-first-gt0.false c.pass_chunks-inside.ensures.passes in
+    c.pass_chunks-self-inside.new.span c.pass_chunks-self-inside.result c.pass_chunks-self-inside.new.more c.if-first-gt0.false c.pass_chunks-self-inside.ensures.passes in
     sum_of_small _ _ one two
 
 pub returns-clause-front : goal.returns-clause-front
 returns-clause-front c =
     rw (← c.self.view_is) (pass_over c.args.breaks c.self.inside.span c.self.inside.inside c.self.invariant c.of_first_line-first.result
     (first_is (goal.at.returns-clause-front c).After-of_first_line-first)
-    c.pass_chunks-inside.new.span c.pass_chunks-inside.result.0 c.pass_chunks-inside.result.1 c.if-first-gt0.false c.pass_chunks-inside.ensures.passes c.plus-2.result c.plus-2.ensures.sum).front_is
+    c.pass_chunks-self-inside.new.span c.pass_chunks-self-inside.result c.pass_chunks-self-inside.new.more c.if-first-gt0.false c.pass_chunks-self-inside.ensures.passes c.plus-2.result c.plus-2.ensures.sum).front_is
 
 pub returns-clause-back : goal.returns-clause-back
 returns-clause-back c =
     rw (← c.self.view_is) (pass_over c.args.breaks c.self.inside.span c.self.inside.inside c.self.invariant c.of_first_line-first.result
     (first_is (goal.at.returns-clause-back c).After-of_first_line-first)
-    c.pass_chunks-inside.new.span c.pass_chunks-inside.result.0 c.pass_chunks-inside.result.1 c.if-first-gt0.false c.pass_chunks-inside.ensures.passes c.plus-2.result c.plus-2.ensures.sum).back_is
+    c.pass_chunks-self-inside.new.span c.pass_chunks-self-inside.result c.pass_chunks-self-inside.new.more c.if-first-gt0.false c.pass_chunks-self-inside.ensures.passes c.plus-2.result c.plus-2.ensures.sum).back_is
 
 pub plus-requires-3 : goal.plus-requires-3
 plus-requires-3 c =
     subst (HasSum c.args.before.now) (sym (pass_over c.args.breaks c.self.inside.span c.self.inside.inside c.self.invariant c.of_first_line-first.result
     (first_is (goal.at.plus-requires-3 c).After-of_first_line-first)
-    c.pass_chunks-inside.new.span c.pass_chunks-inside.result.0 c.pass_chunks-inside.result.1 c.if-first-gt0.false c.pass_chunks-inside.ensures.passes c.plus-2.result c.plus-2.ensures.sum).counts) (rw (← c.self.view_is) at c.requires)
+    c.pass_chunks-self-inside.new.span c.pass_chunks-self-inside.result c.pass_chunks-self-inside.new.more c.if-first-gt0.false c.pass_chunks-self-inside.ensures.passes c.plus-2.result c.plus-2.ensures.sum).counts) (rw (← c.self.view_is) at c.requires)
 
 pub returns-clause-counts : goal.returns-clause-counts
 returns-clause-counts c =
     rw (← c.self.view_is) (c.plus-3.ensures.sum ∙ ap (info_sum c.args.before.now) (pass_over c.args.breaks c.self.inside.span c.self.inside.inside c.self.invariant c.of_first_line-first.result
     (first_is (goal.at.returns-clause-counts c).After-of_first_line-first)
-    c.pass_chunks-inside.new.span c.pass_chunks-inside.result.0 c.pass_chunks-inside.result.1 c.if-first-gt0.false c.pass_chunks-inside.ensures.passes c.plus-2.result c.plus-2.ensures.sum).counts)
+    c.pass_chunks-self-inside.new.span c.pass_chunks-self-inside.result c.pass_chunks-self-inside.new.more c.if-first-gt0.false c.pass_chunks-self-inside.ensures.passes c.plus-2.result c.plus-2.ensures.sum).counts)
 
 ahead : (c : After-of_first_line-first) → HoldsAhead (halves_at c.self.inside.span c.self.inside.inside) (chars c.range_from-held.result.now)
 ahead c =

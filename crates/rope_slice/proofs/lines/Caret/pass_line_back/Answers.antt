@@ -64,8 +64,8 @@ returns-then-start-gt0-clause-counts c =
     (counts_are c.args.breaks c.args.skip c.self.inside.span.here (chars c.chunk-chunk.result.now) c.self.inside.inside c.of_last_line-start.result.1 c.chunk-chunk.ensures c.of_last_line-start.ensures.counts)
     c.if-start-gt0.true).counts) ∙ c.minus.ensures.sum)
 
-pub overflow_sub-skip : goal.overflow_sub-skip
-overflow_sub-skip c =
+pub overflow_sub-left : goal.overflow_sub-left
+overflow_sub-left c =
     caret_left c.args.breaks c.args.skip c.self.inside.span c.self.inside.inside c.of_last_line-start.result.0 c.of_last_line-start.result.1 c.self.invariant
     (start_is c.args.breaks c.args.skip c.self.inside.span.here (chars c.chunk-chunk.result.now) c.self.inside.inside c.of_last_line-start.result.0 c.chunk-chunk.ensures c.of_last_line-start.ensures.start)
     (counts_are c.args.breaks c.args.skip c.self.inside.span.here (chars c.chunk-chunk.result.now) c.self.inside.inside c.of_last_line-start.result.1 c.chunk-chunk.ensures c.of_last_line-start.ensures.counts)
@@ -79,7 +79,7 @@ plus-requires c =
     let two = other_small c.args.breaks c.args.skip c.self.inside.span c.self.inside.inside c.of_last_line-start.result.0 c.of_last_line-start.result.1 c.self.invariant
     (start_is c.args.breaks c.args.skip c.self.inside.span.here (chars c.chunk-chunk.result.now) c.self.inside.inside c.of_last_line-start.result.0 c.chunk-chunk.ensures c.of_last_line-start.ensures.start)
     (counts_are c.args.breaks c.args.skip c.self.inside.span.here (chars c.chunk-chunk.result.now) c.self.inside.inside c.of_last_line-start.result.1 c.chunk-chunk.ensures c.of_last_line-start.ensures.counts)
-    c.pass_chunks_back-inside.new.span c.pass_chunks_back-inside.result.0 c.pass_chunks_back-inside.result.1 c.if-start-gt0.false c.pass_chunks_back-inside.ensures.passes in
+    c.pass_chunks_back-inside.new.span c.pass_chunks_back-inside.result c.pass_chunks_back-inside.new.more c.if-start-gt0.false c.pass_chunks_back-inside.ensures.passes in
     sum_of_small _ _ two one
 
 pub returns-clause-front : goal.returns-clause-front
@@ -87,28 +87,28 @@ returns-clause-front c =
     rw (← c.self.view_is) (caret_composed c.args.breaks c.args.skip c.self.inside.span c.self.inside.inside c.of_last_line-start.result.0 c.of_last_line-start.result.1 c.self.invariant
     (start_is c.args.breaks c.args.skip c.self.inside.span.here (chars c.chunk-chunk.result.now) c.self.inside.inside c.of_last_line-start.result.0 c.chunk-chunk.ensures c.of_last_line-start.ensures.start)
     (counts_are c.args.breaks c.args.skip c.self.inside.span.here (chars c.chunk-chunk.result.now) c.self.inside.inside c.of_last_line-start.result.1 c.chunk-chunk.ensures c.of_last_line-start.ensures.counts)
-    c.pass_chunks_back-inside.new.span c.pass_chunks_back-inside.result.0 c.pass_chunks_back-inside.result.1 c.if-start-gt0.false c.pass_chunks_back-inside.ensures.passes c.plus.result c.plus.ensures.sum).front_is
+    c.pass_chunks_back-inside.new.span c.pass_chunks_back-inside.result c.pass_chunks_back-inside.new.more c.if-start-gt0.false c.pass_chunks_back-inside.ensures.passes c.plus.result c.plus.ensures.sum).front_is
 
 pub returns-clause-back : goal.returns-clause-back
 returns-clause-back c =
     rw (← c.self.view_is) (caret_composed c.args.breaks c.args.skip c.self.inside.span c.self.inside.inside c.of_last_line-start.result.0 c.of_last_line-start.result.1 c.self.invariant
     (start_is c.args.breaks c.args.skip c.self.inside.span.here (chars c.chunk-chunk.result.now) c.self.inside.inside c.of_last_line-start.result.0 c.chunk-chunk.ensures c.of_last_line-start.ensures.start)
     (counts_are c.args.breaks c.args.skip c.self.inside.span.here (chars c.chunk-chunk.result.now) c.self.inside.inside c.of_last_line-start.result.1 c.chunk-chunk.ensures c.of_last_line-start.ensures.counts)
-    c.pass_chunks_back-inside.new.span c.pass_chunks_back-inside.result.0 c.pass_chunks_back-inside.result.1 c.if-start-gt0.false c.pass_chunks_back-inside.ensures.passes c.plus.result c.plus.ensures.sum).back_is
+    c.pass_chunks_back-inside.new.span c.pass_chunks_back-inside.result c.pass_chunks_back-inside.new.more c.if-start-gt0.false c.pass_chunks_back-inside.ensures.passes c.plus.result c.plus.ensures.sum).back_is
 
 pub minus-requires-2 : goal.minus-requires-2
 minus-requires-2 c =
     rw (caret_composed c.args.breaks c.args.skip c.self.inside.span c.self.inside.inside c.of_last_line-start.result.0 c.of_last_line-start.result.1 c.self.invariant
     (start_is c.args.breaks c.args.skip c.self.inside.span.here (chars c.chunk-chunk.result.now) c.self.inside.inside c.of_last_line-start.result.0 c.chunk-chunk.ensures c.of_last_line-start.ensures.start)
     (counts_are c.args.breaks c.args.skip c.self.inside.span.here (chars c.chunk-chunk.result.now) c.self.inside.inside c.of_last_line-start.result.1 c.chunk-chunk.ensures c.of_last_line-start.ensures.counts)
-    c.pass_chunks_back-inside.new.span c.pass_chunks_back-inside.result.0 c.pass_chunks_back-inside.result.1 c.if-start-gt0.false c.pass_chunks_back-inside.ensures.passes c.plus.result c.plus.ensures.sum).counts (rw (← c.self.view_is) at c.requires.part)
+    c.pass_chunks_back-inside.new.span c.pass_chunks_back-inside.result c.pass_chunks_back-inside.new.more c.if-start-gt0.false c.pass_chunks_back-inside.ensures.passes c.plus.result c.plus.ensures.sum).counts (rw (← c.self.view_is) at c.requires.part)
 
 pub returns-clause-counts : goal.returns-clause-counts
 returns-clause-counts c =
     rw (← c.self.view_is) (ap (λ x. info_sum x c.minus-2.result) (sym (caret_composed c.args.breaks c.args.skip c.self.inside.span c.self.inside.inside c.of_last_line-start.result.0 c.of_last_line-start.result.1 c.self.invariant
     (start_is c.args.breaks c.args.skip c.self.inside.span.here (chars c.chunk-chunk.result.now) c.self.inside.inside c.of_last_line-start.result.0 c.chunk-chunk.ensures c.of_last_line-start.ensures.start)
     (counts_are c.args.breaks c.args.skip c.self.inside.span.here (chars c.chunk-chunk.result.now) c.self.inside.inside c.of_last_line-start.result.1 c.chunk-chunk.ensures c.of_last_line-start.ensures.counts)
-    c.pass_chunks_back-inside.new.span c.pass_chunks_back-inside.result.0 c.pass_chunks_back-inside.result.1 c.if-start-gt0.false c.pass_chunks_back-inside.ensures.passes c.plus.result c.plus.ensures.sum).counts) ∙ c.minus-2.ensures.sum)
+    c.pass_chunks_back-inside.new.span c.pass_chunks_back-inside.result c.pass_chunks_back-inside.new.more c.if-start-gt0.false c.pass_chunks_back-inside.ensures.passes c.plus.result c.plus.ensures.sum).counts) ∙ c.minus-2.ensures.sum)
 
 -- the new place, in the same chunk
 found_caret : (c : After-of_last_line-start) → 0 < c.of_last_line-start.result.0 → IsCaret c.self.inside.span c.of_last_line-start.result.0
@@ -132,10 +132,10 @@ returns-then-start-gt0-clause-held c =
 
 pub range_from-requires-2 : goal.range_from-requires-2
 range_from-requires-2 c = λ _.
-    between_boundary c.chunk.result.now c.pass_chunks_back-inside.result.0 c.chunk.utf8 (rw c.chunk.ensures c.pass_chunks_back-inside.ensures.passes.caret.between)
+    between_boundary c.chunk.result.now c.pass_chunks_back-inside.result c.chunk.utf8 (rw c.chunk.ensures c.pass_chunks_back-inside.ensures.passes.caret.between)
 
 pub returns-clause-held : goal.returns-clause-held
 returns-clause-held c =
-    let inside = c.pass_chunks_back-inside.result.0 in
+    let inside = c.pass_chunks_back-inside.result in
     holds_ahead c.pass_chunks_back-inside.new.span inside (chars c.range_from-2.result.now)
     (between_after c.chunk.result.now c.range_from-2.result.now inside c.chunk.utf8 (rw c.chunk.ensures c.pass_chunks_back-inside.ensures.passes.caret.between) c.range_from-2.ensures.value ∙ ap (λ t. after_byte t inside) c.chunk.ensures)
