@@ -147,6 +147,8 @@ impl TextInfo {
     /// The counts of the text before a character, by itself: of a text whose counts are known, and
     /// the byte at which that character begins. Reads the shorter of the two sides, or the front
     /// where the place lies in a CR LF; takes no memory.
+    // Inlined: a call would store the counts and load them again.
+    #[inline(always)]
     pub fn of_front(
         text: &str,
         info: TextInfo,

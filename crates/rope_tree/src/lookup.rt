@@ -83,6 +83,8 @@ pub fn leaf_count(node: &Node) -> usize
 }
 
 /// The byte at an index.
+// Inlined, so that a caller that makes no use of the steps doesn't count them.
+#[inline(always)]
 pub fn byte_at(node: &Node, byte_idx: usize, steps: &mut Steps) -> u8
     requires within { byte_idx < byte_len (text node.now) }
     requires room { HaveRoom node.now.height steps.old }
@@ -97,6 +99,8 @@ pub fn byte_at(node: &Node, byte_idx: usize, steps: &mut Steps) -> u8
 }
 
 /// The character at an index.
+// Inlined, so that a caller that makes no use of the steps doesn't count them.
+#[inline(always)]
 pub fn char_at(node: &Node, char_idx: usize, steps: &mut Steps) -> char
     requires within { char_idx < length (text node.now) }
     requires room { HaveRoom node.now.height steps.old }
