@@ -1,5 +1,5 @@
 -- The leaf ends at a cut of the second part, or between the two.
-use Rattle.std.proofs.Common.{◌≡◌, ◌∙◌, ◌<◌, ◌≤◌, true, false, ◌++◌, ap, ap₂, sym, arith, length, IsTrue, inl, inr, refl, subst}
+use Rattle.std.proofs.Common.{◌≡◌, ◌∙◌, ◌<◌, true, false, ◌++◌, ap, ap₂, sym, arith, length, IsTrue, inl, inr, subst}
 use Rattle.std.proofs.lemmas.Bool.{cases_lt}
 use Rattle.std.specs.Str.{chars}
 use Rattle.rope_text.specs.Cuts.{is_cut}

@@ -1,8 +1,6 @@
 use Rattle.std.proofs.Common.{◌-◌, ◌<◌, ◌≤◌, ◌∙◌, length, sym, ap, arith}
-use Rattle.std.specs.List.{concat}
 use Rattle.std.specs.Str.{chars}
 use Rattle.rope_text.specs.Text.{byte_len}
-use Rattle.rope_slice.specs.Path.{leaves}
 use Rattle.rope_slice.specs.Way.{IsWay}
 use Rattle.rope_slice.proofs.Ways.{solid_leaves, leaves_way, start_way, way_back, ways_next, sizes, first_of, holds_prev}
 use Rattle.rope_slice.proofs.path.Path.step_back.Goals.{After-text_in_list-leaf, After-byte_len_of}

@@ -1,9 +1,7 @@
 use Rattle.std.proofs.Common.{◌+◌, ◌∙◌, length, sym, ap, arith, inl, inr}
 use Rattle.std.proofs.lemmas.Bool.{cases_lt}
-use Rattle.std.specs.List.{concat}
 use Rattle.std.specs.Str.{chars}
 use Rattle.rope_text.specs.Text.{byte_len}
-use Rattle.rope_slice.specs.Path.{leaves}
 use Rattle.rope_slice.specs.Way.{IsWay}
 use Rattle.rope_slice.proofs.Ways.{solid_leaves, leaves_way, start_way, way_on, ways_next, sizes, last_of, holds_next}
 use Rattle.rope_slice.proofs.path.Path.step_on.Goals.{After-byte_len_of, After-text_in_list-self-inside}
