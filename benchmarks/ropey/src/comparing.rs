@@ -22,6 +22,9 @@ pub const WORKLOADS: &[Workload] = &[
 /// How many characters a slice has.
 const CHARS: usize = 1_000;
 
+/// How often lengths are hashed: once takes less than half a millisecond.
+const PASSES: usize = 20;
+
 /// A rope of the same text whose chunks end elsewhere.
 fn other_of(sample: &Sample) -> Rope {
     let mut rope = sample.fresh();
@@ -110,9 +113,11 @@ impl Hasher for LensHasher {
 }
 
 fn hash_lens(sample: &Sample) -> Outcome {
-    timed_sum(1, || {
+    timed_sum(PASSES, || {
         let mut hasher = LensHasher(0);
-        sample.rope.hash(&mut hasher);
+        for _ in 0..PASSES {
+            sample.rope.hash(&mut hasher);
+        }
         hasher.finish()
     })
 }

@@ -18,6 +18,9 @@ const CUTS: usize = 20_000;
 /// How many characters a slice has.
 const CHARS: usize = 1_000;
 
+/// How often lengths are hashed: once takes less than half a millisecond.
+const PASSES: usize = 20;
+
 /// What is compared.
 #[derive(Clone, Copy)]
 pub enum Comparing {
@@ -52,6 +55,7 @@ impl Comparing {
     fn operations(self, sample: &Sample) -> usize {
         match self {
             Comparing::Slices => sample.operations(100_000),
+            Comparing::HashLens => PASSES,
             _ => 1,
         }
     }
@@ -76,7 +80,7 @@ impl Comparing {
             Comparing::Slices => count_equal(&sample.rope, other, count),
             Comparing::Text => u64::from(sample.rope.eq_str(sample.text.as_str())),
             Comparing::HashFnv => hash_fnv(&sample.rope),
-            Comparing::HashLens => hash_lens(&sample.rope),
+            Comparing::HashLens => hash_lens(&sample.rope, count),
         }
     }
 }
@@ -173,8 +177,10 @@ impl Hasher for LensHasher {
     }
 }
 
-fn hash_lens(rope: &Rope) -> u64 {
+fn hash_lens(rope: &Rope, count: usize) -> u64 {
     let mut hasher = LensHasher { total: 0 };
-    rope.hash(&mut hasher);
+    for _ in 0..count {
+        rope.hash(&mut hasher);
+    }
     hasher.total
 }

@@ -22,7 +22,7 @@ use Rattle.rope_text.proofs.LineLaws.{line_start-le-length}
 use Rattle.rope_text.proofs.LineSeams.{never, break_count-apart, last_start-left, last_start-right, last_start_none}
 use Rattle.rope_text.proofs.InfoLaws.{same_info}
 use Rattle.rope_slice.specs.Path.{Place, IsNext}
-use Rattle.rope_text.specs.LineParts.{before_byte, after_byte}
+use Rattle.rope_text.specs.LineParts.{before_byte, after_byte, last_line_byte, last_line_info}
 use Rattle.rope_slice.specs.Caret.{halves_at, AreChunks, IsCaret, PassesBack, PassedBack, PassedBackTo}
 use Rattle.rope_slice.proofs.Spans.{leaves_next}
 use Rattle.rope_slice.proofs.Carets.{apart_joined, apart_front, here_apart, front_place, small_of, size_two, whole_text}
@@ -245,8 +245,13 @@ nothing_more breaks info = same_info info (info_sum info (info_of breaks [])) (o
 
 -- the chunk here, up to a place in it
 module _ (breaks : LineBreaks) (skip : ℕ) (p : Place) (b start : ℕ) (more : TextInfo) (g : IsCaret p b)
-    (start_is : start ≡ byte_len (take (last_start breaks (take (byte_to_char p.here b) p.here) skip) (take (byte_to_char p.here b) p.here)))
-    (counts : more ≡ info_of breaks (drop (last_start breaks (take (byte_to_char p.here b) p.here) skip) (take (byte_to_char p.here b) p.here))) where
+    (chunk : List ℕ) (same : chunk ≡ p.here) (found : start ≡ last_line_byte breaks chunk b skip) (counted : more ≡ last_line_info breaks chunk b skip) where
+  start_is : start ≡ last_line_byte breaks p.here b skip
+  start_is = found ∙ ap (λ t. last_line_byte breaks t b skip) same
+
+  counts : more ≡ last_line_info breaks p.here b skip
+  counts = counted ∙ ap (λ t. last_line_info breaks t b skip) same
+
   here_split : p.here ≡ take (byte_to_char p.here b) p.here ++ drop (byte_to_char p.here b) p.here
   here_split = sym (take-append-drop (byte_to_char p.here b) p.here)
 

@@ -42,7 +42,7 @@ use std::marker::Model;
 pub struct Lines<'a> {
     #[derive_where(skip)]
     slice: RopeSlice<'a>,
-    // the slice's, which stands in the tree's root
+    // the slice's, kept here: each step would else read it in the tree's root
     #[derive_where(skip)]
     breaks: LineBreaks,
     #[derive_where(skip)]
