@@ -2,8 +2,8 @@
 """Times two programs in turns, one workload at a time, and prints ratios.
 
 Each program is `rope_bench` of some build, or `ropey_bench` of the folder `ropey`. So both meet the
-same minutes of the machine; who begins alternates from turn to turn. Of the turns the least and the
-middle time are taken.
+same minutes of the machine, on one core; who begins alternates from turn to turn. Of the turns the
+least and the middle time are taken.
 A ratio below 1 says that the first program is faster.
 """
 import argparse
@@ -81,12 +81,20 @@ def compare(task, name):
     return [name, done[0][0], *nanos, *ratios, "same" if done[0] == done[1] else "DIFFER"]
 
 
+def stay_on_one_core():
+    """Keeps both programs on one core, where the system can do that: the cores of a virtual machine
+    differ in speed, by what its neighbours do."""
+    if hasattr(os, "sched_setaffinity"):
+        os.sched_setaffinity(0, {max(os.sched_getaffinity(0))})
+
+
 def shown(row):
     return f"{row[0]:34}" + "".join(f"{part:>15}" for part in row[1:])
 
 
 def main():
     task = arguments()
+    stay_on_one_core()
     table = [list(COLUMNS)]
     print(shown(COLUMNS))
     for name in names(task):
