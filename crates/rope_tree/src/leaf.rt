@@ -118,29 +118,58 @@ impl Leaf {
         self.text.set(text);
     }
 
-    /// A leaf with a copy of this text, whose counts by this set the caller knows. It is filled
-    /// where it stays, so that the text is moved once.
-    pub fn of_text(alloc: Global, breaks: LineBreaks, text: &str, info: TextInfo) -> Made<Rc<Leaf>>
-        requires fits { length text.now ≤ MAX_BYTES }
-        requires info { info ≡ info_of breaks (chars text.now) }
-        ensures { IfOk result (λ leaf. leaf.value ≡ leaf_tree breaks (chars text.now)) }
+    /// A leaf of no text, which is filled where it stays, so that the text is moved once. All its
+    /// bytes are 0, so that the memory is cleared at once.
+    #[inline(always)]
+    fn empty(alloc: Global) -> Made<Rc<Leaf>>
+        ensures { IfOk result (λ leaf. leaf.value ≡ leaf_tree LineBreaks.Lf []) }
     {
-        // All its bytes are 0, so that the memory is cleared at once.
         let empty = Leaf {
             summary: Summary::new(LineBreaks::Lf, TextInfo::new()),
             text: NodeText::new(),
         };
         // Matched by hand: `?` would move the leaf that a refusal gives back on the path that
         // succeeds, too.
-        let Ok(mut leaf) = Rc::new(alloc, empty) else {
+        let Ok(leaf) = Rc::new(alloc, empty) else {
             return Err(AllocError);
         };
+        Ok(leaf)
+    }
+
+    /// A new leaf, with a copy of this text in place of its own.
+    #[inline(always)]
+    fn filled(mut leaf: Rc<Leaf>, breaks: LineBreaks, text: &str, info: TextInfo) -> Made<Rc<Leaf>>
+        requires fits { length text.now ≤ MAX_BYTES }
+        requires info { info ≡ info_of breaks (chars text.now) }
+        ensures { IfOk result (λ leaf. leaf.value ≡ leaf_tree breaks (chars text.now)) }
+    {
         // It was just made and has no other owner, so this never fails.
         let Some(room) = Rc::get_mut(&mut leaf) else {
             return Err(AllocError);
         };
         room.fill(breaks, text, info);
         Ok(leaf)
+    }
+
+    /// A leaf with a copy of this text, whose counts by this set the caller knows.
+    pub fn of_text(alloc: Global, breaks: LineBreaks, text: &str, info: TextInfo) -> Made<Rc<Leaf>>
+        requires fits { length text.now ≤ MAX_BYTES }
+        requires info { info ≡ info_of breaks (chars text.now) }
+        ensures { IfOk result (λ leaf. leaf.value ≡ leaf_tree breaks (chars text.now)) }
+    {
+        Leaf::filled(Leaf::empty(alloc)?, breaks, text, info)
+    }
+
+    /// The same, of a text that wasn't counted.
+    pub fn counted(alloc: Global, breaks: LineBreaks, text: &str) -> Made<Rc<Leaf>>
+        requires { length text.now ≤ MAX_BYTES }
+        ensures { IfOk result (λ leaf. leaf.value ≡ leaf_tree breaks (chars text.now)) }
+    {
+        let leaf = Leaf::empty(alloc)?;
+        // Counted only now: the processor counts while the cache lines that were cleared are still
+        // on their way, for which the copy would wait.
+        let info = TextInfo::from_str(text, breaks);
+        Leaf::filled(leaf, breaks, text, info)
     }
 
     /// Its set of line breaks.

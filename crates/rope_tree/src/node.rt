@@ -241,6 +241,11 @@ pub fn leaf_of(maker: &mut Maker, breaks: LineBreaks, text: &str) -> Made<Node>
     ensures made { maker.new.made ≤ maker.old.made + 1 }
     ensures added { maker.old.made + 1 < 2 ^ 64 → maker.new.made ≡ maker.old.made + 1 }
 {
-    let info = TextInfo::from_str(text, breaks);
-    make_leaf(maker, breaks, text, info)
+    maker.add_made();
+    let form = if text.len() == 0 {
+        Form::Empty(breaks)
+    } else {
+        Form::Leaf(Leaf::counted(maker.alloc, breaks, text)?)
+    };
+    Ok(Node { form })
 }
