@@ -214,6 +214,30 @@ module _ (a b : Inside) (ts : List TextInfo) (i : IsTotals a) (view : all_totals
       ];
     }
 
+-- the first totals of another list
+module _ (o : Inside) (us : List TextInfo) (count : ℕ) (i : IsTotals o) (view : all_totals o ≡ us) (within : count ≤ length us) where
+  abbrev first : Inside
+  first = record { len = count; bytes = o.bytes; chars = o.chars; pairs = o.pairs; breaks = o.breaks }
+
+  pub first_totals : IsTotals first
+  first_totals = record {
+    few = omega (arith, within, i.few, many o us view);
+    bytes = i.bytes;
+    chars = i.chars;
+    pairs = i.pairs;
+    breaks = i.breaks;
+    below = λ k lt. i.below k (omega (arith, lt, within, many o us view));
+  }
+
+  pub first_many : length (all_totals first) ≡ count
+  first_many = length-map-range_with_len (counts_at first) 0 count
+
+  pub first_seen : (n from k : ℕ) (d : TextInfo) → n ≡ 0 → from ≡ 0 → k < count → get_or (all_totals first) (n + k) d ≡ get_or us (from + k) d
+  first_seen n from k d none start lt =
+      let here : n + k ≡ k = omega (arith, none) in
+      let there : from + k ≡ k = omega (arith, start) in
+      ap (λ m. get_or (all_totals first) m d) here ∙ seen_at first k d lt ∙ sym (ap (λ m. get_or us m d) there ∙ total_seen o us k d view (omega (arith, lt, within)))
+
 -- a part of a total, and what is put for it, are below the bound too
 pub was_below : (bound : ℕ) (total old : TextInfo) → IsBelow bound total → HasPart total old → IsBelow bound old
 was_below bound total old n p = record { bytes = omega (arith, n.bytes, p.bytes); chars = omega (arith, n.chars, p.chars); pairs = omega (arith, n.pairs, p.pairs); breaks = omega (arith, n.breaks, p.breaks) }

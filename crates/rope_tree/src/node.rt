@@ -1,6 +1,6 @@
 //! Nodes: an empty text, or a pointer to a leaf or to a list of children. Their fields are private
 //! to this module and those in it.
-ghost use Rattle.std.specs.Prelude.{◌≡◌, ◌+◌, ◌^◌, ◌<◌, ◌≤◌, List, length, IfOk};
+ghost use Rattle.std.specs.Prelude.{◌≡◌, ◌+◌, ◌^◌, ◌<◌, ◌≤◌, List, length, IfOk, IfSome};
 ghost use Rattle.std.specs.Str.{chars};
 ghost use Rattle.rope_text.specs.declared.TheConstants.{MAX_BYTES, MAX_CHILDREN, MAX_HEIGHT};
 ghost use Rattle.rope_text.specs.TextInfo.{info_of};
@@ -214,6 +214,34 @@ pub enum Nodes {
     Two(Node, Node),
 }
 
+/// A leaf of this text, whose counts the caller may know. An empty one takes no memory.
+#[inline(always)]
+fn leaf_node(
+    maker: &mut Maker,
+    breaks: LineBreaks,
+    text: &str,
+    known: Option<TextInfo>,
+) -> Made<Node>
+    requires fits { length text.now ≤ MAX_BYTES }
+    requires info { IfSome known (λ info. info ≡ info_of breaks (chars text.now)) }
+    ensures ok { IfOk result (λ node. node ≡ leaf_tree breaks (chars text.now)) }
+    ensures tree { IfOk result (λ node. IsTree node) }
+    ensures made { maker.new.made ≤ maker.old.made + 1 }
+    ensures added { maker.old.made + 1 < 2 ^ 64 → maker.new.made ≡ maker.old.made + 1 }
+    ensures rises { maker.old.made ≤ maker.new.made }
+{
+    maker.add_made();
+    if text.len() == 0 {
+        let form = Form::Empty(breaks);
+        return Ok(Node { form });
+    }
+    let leaf = match known {
+        Some(info) => Leaf::of_text(maker.alloc, breaks, text, info)?,
+        None => Leaf::counted(maker.alloc, breaks, text)?,
+    };
+    Ok(Node::of_leaf(leaf))
+}
+
 /// A leaf of this text, whose counts the caller knows. An empty one takes no memory.
 pub fn make_leaf(maker: &mut Maker, breaks: LineBreaks, text: &str, info: TextInfo) -> Made<Node>
     requires fits { length text.now ≤ MAX_BYTES }
@@ -224,13 +252,7 @@ pub fn make_leaf(maker: &mut Maker, breaks: LineBreaks, text: &str, info: TextIn
     ensures added { maker.old.made + 1 < 2 ^ 64 → maker.new.made ≡ maker.old.made + 1 }
     ensures rises { maker.old.made ≤ maker.new.made }
 {
-    maker.add_made();
-    let form = if info.bytes == 0 {
-        Form::Empty(breaks)
-    } else {
-        Form::Leaf(Leaf::of_text(maker.alloc, breaks, text, info)?)
-    };
-    Ok(Node { form })
+    leaf_node(maker, breaks, text, Some(info))
 }
 
 /// A leaf of this text.
@@ -241,11 +263,5 @@ pub fn leaf_of(maker: &mut Maker, breaks: LineBreaks, text: &str) -> Made<Node>
     ensures made { maker.new.made ≤ maker.old.made + 1 }
     ensures added { maker.old.made + 1 < 2 ^ 64 → maker.new.made ≡ maker.old.made + 1 }
 {
-    maker.add_made();
-    let form = if text.len() == 0 {
-        Form::Empty(breaks)
-    } else {
-        Form::Leaf(Leaf::counted(maker.alloc, breaks, text)?)
-    };
-    Ok(Node { form })
+    leaf_node(maker, breaks, text, None)
 }

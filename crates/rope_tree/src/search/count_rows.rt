@@ -201,6 +201,33 @@ impl CountRows {
         );
     }
 
+    /// Appends `count` totals of another list, from a place on. Where these are the first of both,
+    /// the rows are copied whole: a copy of known length is a few loads and stores.
+    fn put_rows(&mut self, others: &Self, from: usize, count: usize)
+        requires within { from + count ≤ length others.now }
+        requires room { length self.old + count ≤ MAX_CHILDREN }
+        ensures len { length self.new ≡ length self.old + count }
+        ensures before { SameBefore (length self.old) self.old self.new }
+        ensures behind { (j : ℕ) (d : TextInfo) → j < count
+            → slice_index_or self.new (length self.old + j) d
+            ≡ slice_index_or others.now (from + j) d }
+    {
+        let len = self.len;
+        if len == 0 && from == 0 {
+            self.bytes = others.bytes;
+            self.chars = others.chars;
+            self.pairs = others.pairs;
+            self.breaks = others.breaks;
+            self.len = count;
+            return;
+        }
+        put_row(&mut self.bytes, len, &others.bytes, from, count);
+        put_row(&mut self.chars, len, &others.chars, from, count);
+        put_row(&mut self.pairs, len, &others.pairs, from, count);
+        put_row(&mut self.breaks, len, &others.breaks, from, count);
+        self.len = len + count;
+    }
+
     /// Appends `count` totals of another list, from a place on, with the counts `new` in each for
     /// those of the part `old`.
     pub fn append(&mut self, others: &Self, from: usize, count: usize, old: TextInfo, new: TextInfo)
@@ -218,11 +245,7 @@ impl CountRows {
             ≡ info_sum (slice_index_or others.now (from + j) d) new }
     {
         let len = self.len;
-        put_row(&mut self.bytes, len, &others.bytes, from, count);
-        put_row(&mut self.chars, len, &others.chars, from, count);
-        put_row(&mut self.pairs, len, &others.pairs, from, count);
-        put_row(&mut self.breaks, len, &others.breaks, from, count);
-        self.len = len + count;
+        self.put_rows(others, from, count);
         self.retotal(len, old, new);
     }
 }
