@@ -2,7 +2,7 @@
 use Rattle.std.proofs.Common.{◌≡◌, ℕ, ◌+◌, ◌^◌, ◌<◌, ◌≤◌, List, [], ◌∷◌, ◌++◌, length, take, drop, get_or, refl, sym, ap, subst, ◌∙◌, arith, inl, inr}
 use Rattle.std.specs.List.{concat, All}
 use Rattle.std.proofs.lemmas.Bool.{cases_lt}
-use Rattle.std.proofs.lemmas.List.{append-nil, length-append, length-drop, length-take-le, take-append-drop, nil_from_length}
+use Rattle.std.proofs.lemmas.List.{append-nil, length-append, length-drop, length-take-le, take-append-drop, drop_more, nil_from_length}
 use Rattle.rope_text.specs.declared.line_breaks.LineBreaks.{LineBreaks}
 use Rattle.rope_text.specs.Text.{byte_len}
 use Rattle.rope_text.proofs.Measures.{IsMeasure-byte_len}
@@ -21,7 +21,7 @@ use Rattle.rope_tree.proofs.InsertTrees.{text_around}
 use Rattle.rope_tree.proofs.InsertLaws.{front_of, rest_of}
 use Rattle.rope_join.specs.Join.{CanJoin, IsNear, IsJoin}
 use Rattle.rope_tree.proofs.Gathered.{IsGathered}
-use Rattle.rope_join.specs.Cut.{SparesFirst, SparesLast, first_chars, last_chars, IsFront, IsBack}
+use Rattle.rope_join.specs.Cut.{SparesFirst, SparesLast, first_chars, last_chars, IsFront, IsBack, AreBeside}
 
 -- the parts of an inner node around one child
 pub record CutsAt (n : Tree) (xs : List Tree) (t : Tree) (ys : List Tree) : Type 0 where
@@ -268,3 +268,51 @@ some_front k t p some le i = some_leaf p (omega (arith, ap length i.text_is, len
 
 pub some_back : (k : ℕ) (t p : Tree) → k < length (text t) → IsBack k t p → 1 ≤ length p.leaves
 some_back k t p lt i = some_leaf p (omega (arith, ap length i.text_is, length-drop k (text t)))
+
+-- a part beside the tree that the whole is beside
+pub front_joins : (k : ℕ) (a t p : Tree) → k ≤ length (text t) → CanJoin a t → IsFront k t p → CanJoin a p
+front_joins k a t p le j i = record {
+  same_breaks = i.same_breaks ∙ j.same_breaks;
+  seam = rw i.text_is (seam-take k (text a) (text t) j.seam);
+  fits = omega (arith, j.fits, ap byte_len i.text_is, byte_len-parts k (text t));
+}
+
+pub front_is_near : (k : ℕ) (a t p : Tree) → IsDenseBehind (last_bytes 492 a.leaves) t.leaves → IsFront k t p → IsNear a p
+front_is_near k a t p dense i = record { near = λ _ high. i.near high (last_bytes 492 a.leaves) dense }
+
+pub back_joins : (k : ℕ) (t a p : Tree) → k ≤ length (text t) → CanJoin t a → IsBack k t p → CanJoin p a
+back_joins k t a p le j i = record {
+  same_breaks = j.same_breaks ∙ sym i.same_breaks;
+  seam = rw i.text_is (seam-drop k (text t) (text a) j.seam);
+  fits = omega (arith, j.fits, ap byte_len i.text_is, byte_len-parts k (text t));
+}
+
+pub back_is_near : (k : ℕ) (t a p : Tree) → IsDenseBehind (last_bytes 492 t.leaves) a.leaves → IsBack k t p → IsNear p a
+back_is_near k t a p dense i = record { near = λ high _. dense_more (last_bytes 492 t.leaves) (last_bytes 492 p.leaves) a.leaves (i.near high 492 492) dense }
+
+-- two children side by side
+pub beside_at : (br : LineBreaks) (h : ℕ) (ts : List Tree) (k : ℕ) (a b : Tree) → AreChildren br h ts → k + 1 < length ts → get_or ts k a ≡ a → get_or ts (k + 1) b ≡ b → AreBeside a b
+beside_at br h ts k a b c lt first second =
+    let one = child_at br h ts k a c (omega arith) first in
+    let other = child_at br h ts (k + 1) b c lt second in
+    let l : leaves_of ts ≡ leaves_of (take k ts) ++ (a.leaves ++ leaves_of (drop (k + 1) ts)) =
+    subst (λ u. leaves_of ts ≡ leaves_of (take k ts) ++ (u.leaves ++ leaves_of (drop (k + 1) ts))) first (leaves_at ts k a (omega arith)) in
+    let x = text_around br h ts k a c (omega arith) first in
+    let e : drop (k + 1) ts ≡ b ∷ drop (k + 2) ts =
+    drop_more ts (k + 1) b lt ∙ ap (λ u. u ∷ drop (k + 1 + 1) ts) second ∙ ap (λ n. b ∷ drop n ts) (omega arith) in
+    let both : AreLeaves (a.leaves ++ (b.leaves ++ leaves_of (drop (k + 2) ts))) =
+    subst (λ us. AreLeaves (a.leaves ++ leaves_of us)) e (leaves_right (leaves_of (take k ts)) (a.leaves ++ leaves_of (drop (k + 1) ts)) (subst AreLeaves l c.leaves)) in
+    let seam : IsSeam (text a) (text b ++ joined (drop (k + 2) ts)) = rw (concat-append b.leaves (leaves_of (drop (k + 2) ts))) at (leaves_seam a.leaves (b.leaves ++ leaves_of (drop (k + 2) ts)) both) in
+    let rest : byte_len (joined (drop (k + 1) ts)) ≡ byte_len (text b) + byte_len (joined (drop (k + 2) ts)) =
+    ap (λ us. byte_len (joined us)) e ∙ ap byte_len (concat-append b.leaves (leaves_of (drop (k + 2) ts))) ∙ IsMeasure-byte_len.joined (text b) (joined (drop (k + 2) ts)) in
+    record {
+      level = one.at_height ∙ sym other.at_height;
+      left_some = one.some;
+      right_some = other.some;
+      join = record {
+        same_breaks = other.same_breaks ∙ sym one.same_breaks;
+        seam = seam_of_left (text a) (text b) (joined (drop (k + 2) ts)) seam;
+        fits = omega (arith, c.fits, ap byte_len x, IsMeasure-byte_len.joined (joined (take k ts)) (text a ++ joined (drop (k + 1) ts)), IsMeasure-byte_len.joined (text a) (joined (drop (k + 1) ts)), rest);
+      };
+      near = dense_left (last_bytes 492 a.leaves) b.leaves (leaves_of (drop (k + 2) ts)) (leaves_near a.leaves (b.leaves ++ leaves_of (drop (k + 2) ts)) both);
+    }

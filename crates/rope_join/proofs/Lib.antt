@@ -3,6 +3,7 @@ pub mod NearLaws
 pub mod Sides
 pub mod Rows
 pub mod Whole
+pub mod Parts
 pub mod Cuts
 pub mod Empty
 pub mod Seams

@@ -11,14 +11,14 @@ use Rattle.rope_tree.proofs.Gathered.{gathered_over}
 use Rattle.rope_join.specs.Join.{CanGather, CanJoin, EndsIn, BeginsIn, IsNear}
 use Rattle.rope_join.proofs.Sides.{AreSides, sides_some, sides_can_join, sides_near}
 
-last_in : (ts : List Tree) (t : Tree) → 1 ≤ length ts → CanGather (ts ++ t ∷ []) → EndsIn (tree_over (ts ++ t ∷ [])) ts t
+pub last_in : (ts : List Tree) (t : Tree) → 1 ≤ length ts → CanGather (ts ++ t ∷ []) → EndsIn (tree_over (ts ++ t ∷ [])) ts t
 last_in ts t some g =
     let all = ts ++ t ∷ [] in
     let c : AreChildren (breaks_of all) (height_of all) all = children_of (breaks_of all) (height_of all) all g.siblings (omega (arith, some, length-append ts (t ∷ []))) g.at_most_24 in
     let own = All-head (IsChild (breaks_of all) (height_of all)) t [] (all_right (IsChild (breaks_of all) (height_of all)) ts (t ∷ []) c.each) in
     record { is = refl; children = subst (λ h. AreChildren (breaks_of all) h all) (sym own.at_height) c; above = omega (arith, own.at_height) }
 
-first_in : (ts : List Tree) (t : Tree) → 1 ≤ length ts → CanGather (t ∷ ts) → BeginsIn (tree_over (t ∷ ts)) t ts
+pub first_in : (ts : List Tree) (t : Tree) → 1 ≤ length ts → CanGather (t ∷ ts) → BeginsIn (tree_over (t ∷ ts)) t ts
 first_in ts t some g = record { is = refl; children = children_of t.breaks t.height (t ∷ ts) g.siblings (omega (arith, some)) g.at_most_24; above = refl }
 
 -- the sides of which one has a row

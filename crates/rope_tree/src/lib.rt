@@ -47,7 +47,7 @@ pub use conversions::{convert, convert_in, first_sought};
 pub use leaf_edits::shared_breaks;
 pub use lookup::{Found, byte_at, char_at, leaf_at, leaf_count};
 pub use maker::{Made, Maker};
-pub use node::row::{Row, node_over, pack, pack_over, root_of};
+pub use node::row::{Row, gather_rows, node_over, pack, pack_first, pack_last, pack_over, root_of};
 pub use node::{Node, Nodes, View, leaf_of, make_leaf};
 pub use node_text::NodeText;
 pub use search::{Totals, Unit, count, place_of, total_before};

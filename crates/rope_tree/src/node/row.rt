@@ -93,8 +93,8 @@ fn push_row(
     }
 }
 
-/// Three lists of nodes, one behind the other.
-pub(super) type Rows<'a> = (Row<'a>, &'a [Node], Row<'a>);
+/// Three rows of nodes, one behind the other.
+pub(super) type Rows<'a> = (Row<'a>, Row<'a>, Row<'a>);
 
 /// Takes all nodes out of a list. Never inlined, since a caller would clear stack for empty nodes
 /// at each call.
@@ -112,10 +112,12 @@ fn clear(totals: &mut Totals, places: &mut [Node; MAX_CHILDREN])
 #[inline(never)]
 pub(super) fn list_of(maker: &mut Maker, rows: Rows<'_>) -> Made<Rc<Children>>
     requires before { IsRow rows.0 }
+    requires middle { IsRow rows.1 }
     requires after { IsRow rows.2 }
-    requires children { AreFamily (rows.0.nodes.now ++ (rows.1.now ++ rows.2.nodes.now)) }
+    requires children { AreFamily
+        (rows.0.nodes.now ++ (rows.1.nodes.now ++ rows.2.nodes.now)) }
     ensures ok { IfOk result (λ list. list.value
-        ≡ rows.entry.0.nodes.now ++ (rows.entry.1.now ++ rows.entry.2.nodes.now)) }
+        ≡ rows.entry.0.nodes.now ++ (rows.entry.1.nodes.now ++ rows.entry.2.nodes.now)) }
     ensures made { maker.new.made ≤ maker.old.made + 1 }
     ensures added { maker.old.made + 1 < 2 ^ 64 → maker.new.made ≡ maker.old.made + 1 }
     ensures rises { maker.old.made ≤ maker.new.made }
@@ -145,7 +147,7 @@ pub(super) fn list_of(maker: &mut Maker, rows: Rows<'_>) -> Made<Rc<Children>>
     let (totals, places) = (&mut children.totals, &mut children.nodes);
     let (before, middle, after) = rows;
     if let Ok(total) = push_row(alloc, totals, places, before, TextInfo::new())
-        && let Ok(total) = push_all(alloc, totals, places, middle, total)
+        && let Ok(total) = push_row(alloc, totals, places, middle, total)
         && push_row(alloc, totals, places, after, total).is_ok()
     {
         children.height = (children.nodes[0].height() + 1) as u8;
@@ -157,13 +159,15 @@ pub(super) fn list_of(maker: &mut Maker, rows: Rows<'_>) -> Made<Rc<Children>>
     Err(AllocError)
 }
 
-/// A node over the nodes of three lists, which it shares.
+/// A node over the nodes of three rows, which it shares.
 fn make_over(maker: &mut Maker, rows: Rows<'_>) -> Made<Node>
     requires before { IsRow rows.0 }
+    requires middle { IsRow rows.1 }
     requires after { IsRow rows.2 }
-    requires children { AreFamily (rows.0.nodes.now ++ (rows.1.now ++ rows.2.nodes.now)) }
-    ensures ok { IfOk result (λ node. node
-        ≡ tree_over (rows.entry.0.nodes.now ++ (rows.entry.1.now ++ rows.entry.2.nodes.now))) }
+    requires children { AreFamily
+        (rows.0.nodes.now ++ (rows.1.nodes.now ++ rows.2.nodes.now)) }
+    ensures ok { IfOk result (λ node. node ≡ tree_over
+        (rows.entry.0.nodes.now ++ (rows.entry.1.nodes.now ++ rows.entry.2.nodes.now))) }
     ensures made { maker.new.made ≤ maker.old.made + 1 }
     ensures added { maker.old.made + 1 < 2 ^ 64 → maker.new.made ≡ maker.old.made + 1 }
     ensures rises { maker.old.made ≤ maker.new.made }
@@ -180,7 +184,19 @@ pub fn node_over(maker: &mut Maker, nodes: &[Node]) -> Made<Node>
     ensures added { maker.old.made + 1 < 2 ^ 64 → maker.new.made ≡ maker.old.made + 1 }
     ensures rises { maker.old.made ≤ maker.new.made }
 {
-    make_over(maker, (Row::none(), nodes, Row::none()))
+    make_over(maker, (Row::none(), Row::new(nodes), Row::none()))
+}
+
+impl Nodes {
+    /// One or two.
+    pub fn len(&self) -> usize
+        ensures { result ≡ length (trees_in self.now) }
+    {
+        match self {
+            Nodes::One(_) => 1,
+            Nodes::Two(_, _) => 2,
+        }
+    }
 }
 
 impl<'a> Row<'a> {
@@ -189,8 +205,16 @@ impl<'a> Row<'a> {
         ensures row { IsRow result }
         ensures nodes { result.nodes.now ≡ [] }
     {
+        Row::new(&[])
+    }
+
+    /// Nodes that need not be children of one node.
+    pub fn new(nodes: &'a [Node]) -> Row<'a>
+        ensures row { IsRow result }
+        ensures nodes { result.nodes.now ≡ nodes.now }
+    {
         Row {
-            nodes: &[],
+            nodes,
             totals: None,
             from: 0,
         }
@@ -237,32 +261,34 @@ impl<'a> Row<'a> {
     }
 }
 
-/// A node over the nodes of three lists, or two over half of them each, if one can't hold them.
-pub fn pack_over(maker: &mut Maker, before: Row<'_>, middle: &[Node], after: Row<'_>) -> Made<Nodes>
+/// A node over the nodes of three rows, or two over half of them each, if one can't hold them.
+pub fn pack_over(maker: &mut Maker, before: Row<'_>, middle: Row<'_>, after: Row<'_>) -> Made<Nodes>
     requires before { IsRow before }
+    requires middle { IsRow middle }
     requires after { IsRow after }
-    requires siblings { AreLevel (before.nodes.now ++ (middle.now ++ after.nodes.now)) }
-    requires at_least_two { 2 ≤ length (before.nodes.now ++ (middle.now ++ after.nodes.now)) }
-    requires at_most_48 { length (before.nodes.now ++ (middle.now ++ after.nodes.now))
+    requires siblings { AreLevel (before.nodes.now ++ (middle.nodes.now ++ after.nodes.now)) }
+    requires at_least_two { 2 ≤ length (before.nodes.now ++ (middle.nodes.now ++ after.nodes.now)) }
+    requires at_most_48 { length (before.nodes.now ++ (middle.nodes.now ++ after.nodes.now))
         ≤ 2 * MAX_CHILDREN }
     ensures leaves { IfOk result (λ p. leaves_of (trees_in p)
-        ≡ leaves_of (before.entry.nodes.now ++ (middle.now ++ after.entry.nodes.now))) }
+        ≡ leaves_of (before.entry.nodes.now ++ (middle.entry.nodes.now ++ after.entry.nodes.now))) }
     ensures shape { IfOk result (λ p. AreOver
-        (before.entry.nodes.now ++ (middle.now ++ after.entry.nodes.now)) (trees_in p)) }
+        (before.entry.nodes.now ++ (middle.entry.nodes.now ++ after.entry.nodes.now)) (trees_in p)) }
     ensures made { maker.new.made ≤ maker.old.made + 2 }
     ensures rises { maker.old.made ≤ maker.new.made }
 {
-    let count = before.nodes.len() + middle.len() + after.nodes.len();
+    let count = before.nodes.len() + middle.nodes.len() + after.nodes.len();
     if count <= MAX_CHILDREN {
         let node = make_over(maker, (before, middle, after))?;
         return Ok(Nodes::One(node));
     }
     let half = count / 2;
     let more = half.saturating_sub(before.nodes.len());
-    let most = more.saturating_sub(middle.len());
-    let (left, right) = middle.split_at(more.min(middle.len()));
-    let first = make_over(maker, (before.first(half), left, after.first(most)))?;
-    let second = make_over(maker, (before.rest(half), right, after.rest(most)))?;
+    let most = more.saturating_sub(middle.nodes.len());
+    let front = (before.first(half), middle.first(more), after.first(most));
+    let first = make_over(maker, front)?;
+    let back = (before.rest(half), middle.rest(more), after.rest(most));
+    let second = make_over(maker, back)?;
     Ok(Nodes::Two(first, second))
 }
 
@@ -283,8 +309,53 @@ pub fn pack(maker: &mut Maker, before: Row<'_>, middle: Nodes, after: Row<'_>) -
     ensures rises { maker.old.made ≤ maker.new.made }
 {
     match middle {
-        Nodes::One(node) => pack_over(maker, before, &[node], after),
-        Nodes::Two(first, second) => pack_over(maker, before, &[first, second], after),
+        Nodes::One(node) => pack_over(maker, before, Row::new(&[node]), after),
+        Nodes::Two(first, second) => { pack_over(maker, before, Row::new(&[first, second]), after) }
+    }
+}
+
+/// A node over the nodes of two rows and one or two nodes behind them; or two over half of them
+/// each, if one can't hold them.
+pub fn pack_last(maker: &mut Maker, before: Row<'_>, middle: Row<'_>, last: Nodes) -> Made<Nodes>
+    requires before { IsRow before }
+    requires middle { IsRow middle }
+    requires siblings { AreLevel (before.nodes.now ++ (middle.nodes.now ++ trees_in last)) }
+    requires at_least_two { 2
+        ≤ length (before.nodes.now ++ (middle.nodes.now ++ trees_in last)) }
+    requires at_most_48 { length (before.nodes.now ++ (middle.nodes.now ++ trees_in last))
+        ≤ 2 * MAX_CHILDREN }
+    ensures leaves { IfOk result (λ p. leaves_of (trees_in p)
+        ≡ leaves_of (before.entry.nodes.now ++ (middle.entry.nodes.now ++ trees_in last))) }
+    ensures shape { IfOk result (λ p. AreOver
+        (before.entry.nodes.now ++ (middle.entry.nodes.now ++ trees_in last)) (trees_in p)) }
+    ensures made { maker.new.made ≤ maker.old.made + 2 }
+    ensures rises { maker.old.made ≤ maker.new.made }
+{
+    match last {
+        Nodes::One(node) => pack_over(maker, before, middle, Row::new(&[node])),
+        Nodes::Two(first, second) => pack_over(maker, before, middle, Row::new(&[first, second])),
+    }
+}
+
+/// The same with the one or two nodes before the two rows.
+pub fn pack_first(maker: &mut Maker, first: Nodes, middle: Row<'_>, after: Row<'_>) -> Made<Nodes>
+    requires middle { IsRow middle }
+    requires after { IsRow after }
+    requires siblings { AreLevel (trees_in first ++ (middle.nodes.now ++ after.nodes.now)) }
+    requires at_least_two { 2
+        ≤ length (trees_in first ++ (middle.nodes.now ++ after.nodes.now)) }
+    requires at_most_48 { length (trees_in first ++ (middle.nodes.now ++ after.nodes.now))
+        ≤ 2 * MAX_CHILDREN }
+    ensures leaves { IfOk result (λ p. leaves_of (trees_in p)
+        ≡ leaves_of (trees_in first ++ (middle.entry.nodes.now ++ after.entry.nodes.now))) }
+    ensures shape { IfOk result (λ p. AreOver
+        (trees_in first ++ (middle.entry.nodes.now ++ after.entry.nodes.now)) (trees_in p)) }
+    ensures made { maker.new.made ≤ maker.old.made + 2 }
+    ensures rises { maker.old.made ≤ maker.new.made }
+{
+    match first {
+        Nodes::One(node) => pack_over(maker, Row::new(&[node]), middle, after),
+        Nodes::Two(one, other) => pack_over(maker, Row::new(&[one, other]), middle, after),
     }
 }
 
@@ -298,5 +369,25 @@ pub fn root_of(maker: &mut Maker, nodes: Nodes) -> Made<Node>
     match nodes {
         Nodes::One(node) => Ok(node),
         Nodes::Two(first, second) => node_over(maker, &[first, second]),
+    }
+}
+
+/// Nodes side by side as one tree: the only one, or a node over them.
+pub fn gather_rows(maker: &mut Maker, before: Row<'_>, middle: Nodes, after: Row<'_>) -> Made<Node>
+    requires before { IsRow before }
+    requires after { IsRow after }
+    requires family { 2 ≤ length (before.nodes.now ++ (trees_in middle ++ after.nodes.now))
+        → AreFamily (before.nodes.now ++ (trees_in middle ++ after.nodes.now)) }
+    ensures ok { IfOk result (λ node. node ≡ gathered
+        (before.entry.nodes.now ++ (trees_in middle ++ after.entry.nodes.now))) }
+    ensures made { maker.new.made ≤ maker.old.made + 1 }
+    ensures rises { maker.old.made ≤ maker.new.made }
+{
+    match middle {
+        Nodes::One(node) if before.nodes.is_empty() && after.nodes.is_empty() => Ok(node),
+        Nodes::One(node) => make_over(maker, (before, Row::new(&[node]), after)),
+        Nodes::Two(first, second) => {
+            make_over(maker, (before, Row::new(&[first, second]), after))
+        }
     }
 }
