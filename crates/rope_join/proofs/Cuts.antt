@@ -11,7 +11,7 @@ use Rattle.rope_tree.specs.Leaves.{AreLeaves, IsSeam}
 use Rattle.rope_tree.specs.Tree.{Tree, text, joined, leaves_of, height_of, breaks_of, tree_over, IsTree, IsChild, AreChildren}
 use Rattle.rope_tree.specs.Siblings.{AreSiblings}
 use Rattle.rope_text.specs.Dense.{IsDenseBehind, last_bytes}
-use Rattle.rope_text.proofs.DenseLaws.{last_bytes-append, last_bytes-some, dense_left, dense_right, dense_more}
+use Rattle.rope_text.proofs.DenseLaws.{last_bytes-append, last_bytes-some, dense_left, dense_more}
 use Rattle.rope_tree.proofs.LeafLaws.{all_left, all_right, leaves_left, leaves_right, leaves_seam, leaves_near, seam_of_left, seam-take, seam-drop}
 use Rattle.rope_tree.proofs.BuildLaws.{nodes_le}
 use Rattle.rope_tree.proofs.TreeLaws.{height_of_is, breaks_of_is}
@@ -97,9 +97,6 @@ module _ (br : LineBreaks) (h : ℕ) (xs : List Tree) (g : Tree) (each : All (Is
     | inr ge ↦ omega (arith, i.more ge, height_of_is br h xs some each)
   ]
 
-  pub gathered_some : 1 ≤ length g.leaves
-  gathered_some = rw i.leaves (omega (arith, some, nodes_le br h xs each))
-
   pub gathered_width : h < g.height → g.width ≡ length xs
   gathered_width low = elim (cases_lt (length xs) 2) [
     | inl l ↦ absurd (omega (arith, i.alone (omega arith), height_of_is br h xs some each))
@@ -179,12 +176,6 @@ module _ (n : Tree) (xs : List Tree) (t : Tree) (ys : List Tree) (s : CutsAt n x
             fits = omega (arith, s.fits, ap (λ ls. byte_len (concat ls)) gi.leaves, ap byte_len i.text_is, byte_len-parts k (text t));
           }
 
-      front_dense : (m : ℕ) → IsDenseBehind m (leaves_of xs ++ (t.leaves ++ leaves_of ys)) → IsDenseBehind (last_bytes m (leaves_of xs)) t.leaves
-      front_dense m dense = dense_left (last_bytes m (leaves_of xs)) t.leaves (leaves_of ys) (dense_right m (leaves_of xs) (t.leaves ++ leaves_of ys) dense)
-
-      pub front_near : IsNear g p
-      front_near = record { near = λ _ high. rw gi.leaves (i.near high (last_bytes 492 (leaves_of xs)) (front_dense 492 s.leaves.dense)) }
-
       pub front_joined : (r : Tree) → IsJoin g p r → IsFront at n r
       front_joined r j =
           let low = gathered_least t.breaks t.height xs g s.before some gi in
@@ -220,11 +211,6 @@ module _ (n : Tree) (xs : List Tree) (t : Tree) (ys : List Tree) (s : CutsAt n x
             fits = omega (arith, s.fits, ap (λ ls. byte_len (concat ls)) gi.leaves, ap byte_len i.text_is, byte_len-parts k (text t));
           }
 
-      pub back_near : IsNear p g
-      back_near = record {
-        near = λ high _. rw gi.leaves (dense_more (last_bytes 492 t.leaves) (last_bytes 492 p.leaves) (leaves_of ys) (i.near high 492 492) (leaves_near t.leaves (leaves_of ys) right_leaves));
-      }
-
       pub back_joined : (r : Tree) → IsJoin p g r → IsBack at n r
       back_joined r j =
           let low = gathered_least t.breaks t.height ys g s.after some gi in
@@ -258,16 +244,6 @@ whole_back n r at i z some e = rw (e, z) (record { text_is = refl; same_breaks =
   where
     all : (a b : ℕ) → last_bytes a n.leaves ≤ last_bytes b n.leaves
     all a b = omega (arith, last_bytes-some a b n.leaves (some_list n.leaves some))
-
--- a part that has a character has a leaf
-some_leaf : (p : Tree) → 1 ≤ length (text p) → 1 ≤ length p.leaves
-some_leaf p some = some_list p.leaves some
-
-pub some_front : (k : ℕ) (t p : Tree) → 1 ≤ k → k ≤ length (text t) → IsFront k t p → 1 ≤ length p.leaves
-some_front k t p some le i = some_leaf p (omega (arith, ap length i.text_is, length-take-le k (text t) le))
-
-pub some_back : (k : ℕ) (t p : Tree) → k < length (text t) → IsBack k t p → 1 ≤ length p.leaves
-some_back k t p lt i = some_leaf p (omega (arith, ap length i.text_is, length-drop k (text t)))
 
 -- a part beside the tree that the whole is beside
 pub front_joins : (k : ℕ) (a t p : Tree) → k ≤ length (text t) → CanJoin a t → IsFront k t p → CanJoin a p

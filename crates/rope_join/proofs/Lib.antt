@@ -1,7 +1,6 @@
 pub mod Unions
 pub mod NearLaws
 pub mod Sides
-pub mod Rows
 pub mod Whole
 pub mod Parts
 pub mod Cuts

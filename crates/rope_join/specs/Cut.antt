@@ -59,18 +59,19 @@ pub record IsSides (left : Tree) (end : ℕ) (right : Tree) (start : ℕ) (part 
   pub behind : SparesFirst end left → (n : ℕ) → IsDenseBehind n left.leaves → IsDenseBehind n part.leaves
   pub ahead : SparesLast start right → (m n : ℕ) → last_bytes m right.leaves ≤ last_bytes n part.leaves
 
--- trees side by side that may be gathered, and those that make part of a tree, where they are several at the height of its children
+-- trees side by side that may be gathered
 pub record AreGatherable (ts : List Tree) : Type 0 where
   pub some : 1 ≤ length ts
   pub at_most_24 : length ts ≤ MAX_CHILDREN
   pub family : 2 ≤ length ts → AreFamily ts
 
+-- those that make a part of a tree; several of them stand at the height of its children
 pub record ArePart (t : Tree) (ts : List Tree) : Type 0 where
   pub gather : AreGatherable ts
   pub tree : IsTree (gathered ts)
   pub below : 2 ≤ length ts → height_of ts + 1 ≡ t.height
 
--- two trees side by side under one node
+-- two neighbours under one node
 pub record AreBeside (left right : Tree) : Type 0 where
   pub level : left.height ≡ right.height
   pub left_some : 1 ≤ length left.leaves
@@ -78,12 +79,13 @@ pub record AreBeside (left right : Tree) : Type 0 where
   pub join : CanJoin left right
   pub near : IsDenseBehind (last_bytes MIN_TWO_LEAVES_BYTES left.leaves) right.leaves
 
--- a tree with the front of the one behind it, as one tree or two, and the back of a tree with the one behind it
+-- a tree and the front of its neighbour, as one tree or two
 pub record IsWithFront (left : Tree) (at : ℕ) (right : Tree) (ts : List Tree) : Type 0 where
   pub part : Tree
   pub front : IsFront at right part
   pub union : IsUnion left part ts
 
+-- the back of a tree and its neighbour
 pub record IsWithBack (left : Tree) (at : ℕ) (right : Tree) (ts : List Tree) : Type 0 where
   pub part : Tree
   pub back : IsBack at left part

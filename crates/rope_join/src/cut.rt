@@ -60,8 +60,9 @@ fn leaf_part(
     make_leaf(maker, breaks, part, info)
 }
 
-/// Nodes side by side that make a part of a tree, and are not under a node yet: some that the tree
-/// has too, and one or two that were made.
+/// A part of a tree as nodes side by side, not yet under a node: some that the tree has too, and
+/// one or two that were made. One level up, most come under nodes with the children of the sibling
+/// that they meet; a list over them alone would be given up there at once.
 #[derive(Drop)]
 struct Part<'a> {
     row: Row<'a>,
@@ -143,7 +144,7 @@ pub fn front(maker: &mut Maker, node: &Node, at: usize) -> Made<Node>
     gather_rows(maker, row, nodes, Row::none())
 }
 
-/// What follows the first `at` characters of an inner node, at least one.
+/// What follows the first `at` characters of an inner node, at least one character.
 #[cycle(back)]
 fn back_part<'a>(maker: &mut Maker, node: &'a Node, at: usize) -> Made<Part<'a>>
     requires inner { 1 ≤ node.now.height }

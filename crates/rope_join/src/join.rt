@@ -168,8 +168,8 @@ pub fn join(maker: &mut Maker, left: &Node, right: &Node) -> Made<Node>
     root_of(maker, nodes)
 }
 
-/// Whether so many nodes come to stand under other nodes than one over them alone, where a node of
-/// so many children is beside them. So none is made over them first.
+/// Whether so many nodes come under nodes with the children of their neighbour, which has so many.
+/// Else they keep a node of their own, as in `merge`.
 fn shares_children(children: usize, count: usize) -> bool
     requires children { children ≤ MAX_CHILDREN }
     requires count { count ≤ MAX_CHILDREN }
@@ -179,8 +179,8 @@ fn shares_children(children: usize, count: usize) -> bool
     count > 1 && (is_few || children + count <= MAX_CHILDREN)
 }
 
-/// A tree, and behind it the one that nodes side by side make, as one tree or two of the greater
-/// height.
+/// A tree, and behind it the tree that nodes side by side make, as one tree or two of the greater
+/// height. A list over the nodes alone is made only if it stays.
 pub(crate) fn unite_behind(
     maker: &mut Maker,
     left: &Node,
@@ -209,8 +209,7 @@ pub(crate) fn unite_behind(
     unite(maker, left, &part)
 }
 
-/// A tree, and before it the one that nodes side by side make, as one tree or two of the greater
-/// height.
+/// The same with the nodes before the tree.
 pub(crate) fn unite_before(
     maker: &mut Maker,
     nodes: Nodes,

@@ -88,7 +88,7 @@ made t c p u =
     let e = (goal.at.back_part-After-index-children-place-2 t c).After-index-children-place in
     let xs = take c.place_of-place.result c.in-Inner.children.now in
     back_made c.args.node.now xs c.index-children-place.result c.index-children-place-2.result c.rest-row.result.nodes.now
-    (subst (λ us. CutsAt c.args.node.now xs c.index-children-place.result us) (sym (row_is t c)) (parts t e)) c.args.at (c.args.at - c.total_before-before.result.chars) (place t e) (inside t e) p u
+    (subst (λ us. CutsAt c.args.node.now xs c.index-children-place.result us) (sym (row_is t c)) (parts t e)) c.args.at (c.args.at - c.total_before-before.result.chars) (place t e) (omega (arith, inside t e)) p u
 
 pub back_part-returns-clause-part : goal.back_part-returns-clause-part
 back_part-returns-clause-part t c =

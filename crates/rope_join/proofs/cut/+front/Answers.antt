@@ -91,7 +91,7 @@ made t c p u =
     let k = c.args.at - c.total_before-before.result.chars in
     front_made c.args.node.now c.first-row.result.nodes.now c.index-children-place-2.result c.index-children-place.result (drop (c.place_of-place.result + 1) c.in-Inner.children.now)
     (subst (λ us. CutsAt c.args.node.now us c.index-children-place.result (drop (c.place_of-place.result + 1) c.in-Inner.children.now)) same (parts t e)) c.args.at k
-    (subst (λ us. c.args.at ≡ length (joined us) + k) same (place t e)) (some t e) (inside t e) p u
+    (subst (λ us. c.args.at ≡ length (joined us) + k) same (place t e)) (inside t e) p u
 
 pub front_part-returns-clause-part : goal.front_part-returns-clause-part
 front_part-returns-clause-part t c =
