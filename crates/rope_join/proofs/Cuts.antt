@@ -2,7 +2,7 @@
 use Rattle.std.proofs.Common.{◌≡◌, ℕ, ◌+◌, ◌^◌, ◌<◌, ◌≤◌, List, [], ◌∷◌, ◌++◌, length, take, drop, get_or, refl, sym, ap, subst, ◌∙◌, arith, inl, inr}
 use Rattle.std.specs.List.{concat, All}
 use Rattle.std.proofs.lemmas.Bool.{cases_lt}
-use Rattle.std.proofs.lemmas.List.{append-nil, length-append, length-drop, length-take-le, take-append-drop, nil_from_length}
+use Rattle.std.proofs.lemmas.List.{append-nil, length-append, length-drop, length-take-le, take-append-drop, drop_more, nil_from_length}
 use Rattle.rope_text.specs.declared.line_breaks.LineBreaks.{LineBreaks}
 use Rattle.rope_text.specs.Text.{byte_len}
 use Rattle.rope_text.proofs.Measures.{IsMeasure-byte_len}
@@ -11,7 +11,7 @@ use Rattle.rope_tree.specs.Leaves.{AreLeaves, IsSeam}
 use Rattle.rope_tree.specs.Tree.{Tree, text, joined, leaves_of, height_of, breaks_of, tree_over, IsTree, IsChild, AreChildren}
 use Rattle.rope_tree.specs.Siblings.{AreSiblings}
 use Rattle.rope_text.specs.Dense.{IsDenseBehind, last_bytes}
-use Rattle.rope_text.proofs.DenseLaws.{last_bytes-append, last_bytes-some, dense_left, dense_right, dense_more}
+use Rattle.rope_text.proofs.DenseLaws.{last_bytes-append, last_bytes-some, dense_left, dense_more}
 use Rattle.rope_tree.proofs.LeafLaws.{all_left, all_right, leaves_left, leaves_right, leaves_seam, leaves_near, seam_of_left, seam-take, seam-drop}
 use Rattle.rope_tree.proofs.BuildLaws.{nodes_le}
 use Rattle.rope_tree.proofs.TreeLaws.{height_of_is, breaks_of_is}
@@ -21,7 +21,7 @@ use Rattle.rope_tree.proofs.InsertTrees.{text_around}
 use Rattle.rope_tree.proofs.InsertLaws.{front_of, rest_of}
 use Rattle.rope_join.specs.Join.{CanJoin, IsNear, IsJoin}
 use Rattle.rope_tree.proofs.Gathered.{IsGathered}
-use Rattle.rope_join.specs.Cut.{SparesFirst, SparesLast, first_chars, last_chars, IsFront, IsBack}
+use Rattle.rope_join.specs.Cut.{SparesFirst, SparesLast, first_chars, last_chars, IsFront, IsBack, AreBeside}
 
 -- the parts of an inner node around one child
 pub record CutsAt (n : Tree) (xs : List Tree) (t : Tree) (ys : List Tree) : Type 0 where
@@ -96,9 +96,6 @@ module _ (br : LineBreaks) (h : ℕ) (xs : List Tree) (g : Tree) (each : All (Is
     | inl l ↦ omega (arith, i.alone (omega arith), height_of_is br h xs some each)
     | inr ge ↦ omega (arith, i.more ge, height_of_is br h xs some each)
   ]
-
-  pub gathered_some : 1 ≤ length g.leaves
-  gathered_some = rw i.leaves (omega (arith, some, nodes_le br h xs each))
 
   pub gathered_width : h < g.height → g.width ≡ length xs
   gathered_width low = elim (cases_lt (length xs) 2) [
@@ -179,12 +176,6 @@ module _ (n : Tree) (xs : List Tree) (t : Tree) (ys : List Tree) (s : CutsAt n x
             fits = omega (arith, s.fits, ap (λ ls. byte_len (concat ls)) gi.leaves, ap byte_len i.text_is, byte_len-parts k (text t));
           }
 
-      front_dense : (m : ℕ) → IsDenseBehind m (leaves_of xs ++ (t.leaves ++ leaves_of ys)) → IsDenseBehind (last_bytes m (leaves_of xs)) t.leaves
-      front_dense m dense = dense_left (last_bytes m (leaves_of xs)) t.leaves (leaves_of ys) (dense_right m (leaves_of xs) (t.leaves ++ leaves_of ys) dense)
-
-      pub front_near : IsNear g p
-      front_near = record { near = λ _ high. rw gi.leaves (i.near high (last_bytes 492 (leaves_of xs)) (front_dense 492 s.leaves.dense)) }
-
       pub front_joined : (r : Tree) → IsJoin g p r → IsFront at n r
       front_joined r j =
           let low = gathered_least t.breaks t.height xs g s.before some gi in
@@ -220,11 +211,6 @@ module _ (n : Tree) (xs : List Tree) (t : Tree) (ys : List Tree) (s : CutsAt n x
             fits = omega (arith, s.fits, ap (λ ls. byte_len (concat ls)) gi.leaves, ap byte_len i.text_is, byte_len-parts k (text t));
           }
 
-      pub back_near : IsNear p g
-      back_near = record {
-        near = λ high _. rw gi.leaves (dense_more (last_bytes 492 t.leaves) (last_bytes 492 p.leaves) (leaves_of ys) (i.near high 492 492) (leaves_near t.leaves (leaves_of ys) right_leaves));
-      }
-
       pub back_joined : (r : Tree) → IsJoin p g r → IsBack at n r
       back_joined r j =
           let low = gathered_least t.breaks t.height ys g s.after some gi in
@@ -259,12 +245,50 @@ whole_back n r at i z some e = rw (e, z) (record { text_is = refl; same_breaks =
     all : (a b : ℕ) → last_bytes a n.leaves ≤ last_bytes b n.leaves
     all a b = omega (arith, last_bytes-some a b n.leaves (some_list n.leaves some))
 
--- a part that has a character has a leaf
-some_leaf : (p : Tree) → 1 ≤ length (text p) → 1 ≤ length p.leaves
-some_leaf p some = some_list p.leaves some
+-- a part beside the tree that the whole is beside
+pub front_joins : (k : ℕ) (a t p : Tree) → k ≤ length (text t) → CanJoin a t → IsFront k t p → CanJoin a p
+front_joins k a t p le j i = record {
+  same_breaks = i.same_breaks ∙ j.same_breaks;
+  seam = rw i.text_is (seam-take k (text a) (text t) j.seam);
+  fits = omega (arith, j.fits, ap byte_len i.text_is, byte_len-parts k (text t));
+}
 
-pub some_front : (k : ℕ) (t p : Tree) → 1 ≤ k → k ≤ length (text t) → IsFront k t p → 1 ≤ length p.leaves
-some_front k t p some le i = some_leaf p (omega (arith, ap length i.text_is, length-take-le k (text t) le))
+pub front_is_near : (k : ℕ) (a t p : Tree) → IsDenseBehind (last_bytes 492 a.leaves) t.leaves → IsFront k t p → IsNear a p
+front_is_near k a t p dense i = record { near = λ _ high. i.near high (last_bytes 492 a.leaves) dense }
 
-pub some_back : (k : ℕ) (t p : Tree) → k < length (text t) → IsBack k t p → 1 ≤ length p.leaves
-some_back k t p lt i = some_leaf p (omega (arith, ap length i.text_is, length-drop k (text t)))
+pub back_joins : (k : ℕ) (t a p : Tree) → k ≤ length (text t) → CanJoin t a → IsBack k t p → CanJoin p a
+back_joins k t a p le j i = record {
+  same_breaks = j.same_breaks ∙ sym i.same_breaks;
+  seam = rw i.text_is (seam-drop k (text t) (text a) j.seam);
+  fits = omega (arith, j.fits, ap byte_len i.text_is, byte_len-parts k (text t));
+}
+
+pub back_is_near : (k : ℕ) (t a p : Tree) → IsDenseBehind (last_bytes 492 t.leaves) a.leaves → IsBack k t p → IsNear p a
+back_is_near k t a p dense i = record { near = λ high _. dense_more (last_bytes 492 t.leaves) (last_bytes 492 p.leaves) a.leaves (i.near high 492 492) dense }
+
+-- two children side by side
+pub beside_at : (br : LineBreaks) (h : ℕ) (ts : List Tree) (k : ℕ) (a b : Tree) → AreChildren br h ts → k + 1 < length ts → get_or ts k a ≡ a → get_or ts (k + 1) b ≡ b → AreBeside a b
+beside_at br h ts k a b c lt first second =
+    let one = child_at br h ts k a c (omega arith) first in
+    let other = child_at br h ts (k + 1) b c lt second in
+    let l : leaves_of ts ≡ leaves_of (take k ts) ++ (a.leaves ++ leaves_of (drop (k + 1) ts)) =
+    subst (λ u. leaves_of ts ≡ leaves_of (take k ts) ++ (u.leaves ++ leaves_of (drop (k + 1) ts))) first (leaves_at ts k a (omega arith)) in
+    let x = text_around br h ts k a c (omega arith) first in
+    let e : drop (k + 1) ts ≡ b ∷ drop (k + 2) ts =
+    drop_more ts (k + 1) b lt ∙ ap (λ u. u ∷ drop (k + 1 + 1) ts) second ∙ ap (λ n. b ∷ drop n ts) (omega arith) in
+    let both : AreLeaves (a.leaves ++ (b.leaves ++ leaves_of (drop (k + 2) ts))) =
+    subst (λ us. AreLeaves (a.leaves ++ leaves_of us)) e (leaves_right (leaves_of (take k ts)) (a.leaves ++ leaves_of (drop (k + 1) ts)) (subst AreLeaves l c.leaves)) in
+    let seam : IsSeam (text a) (text b ++ joined (drop (k + 2) ts)) = rw (concat-append b.leaves (leaves_of (drop (k + 2) ts))) at (leaves_seam a.leaves (b.leaves ++ leaves_of (drop (k + 2) ts)) both) in
+    let rest : byte_len (joined (drop (k + 1) ts)) ≡ byte_len (text b) + byte_len (joined (drop (k + 2) ts)) =
+    ap (λ us. byte_len (joined us)) e ∙ ap byte_len (concat-append b.leaves (leaves_of (drop (k + 2) ts))) ∙ IsMeasure-byte_len.joined (text b) (joined (drop (k + 2) ts)) in
+    record {
+      level = one.at_height ∙ sym other.at_height;
+      left_some = one.some;
+      right_some = other.some;
+      join = record {
+        same_breaks = other.same_breaks ∙ sym one.same_breaks;
+        seam = seam_of_left (text a) (text b) (joined (drop (k + 2) ts)) seam;
+        fits = omega (arith, c.fits, ap byte_len x, IsMeasure-byte_len.joined (joined (take k ts)) (text a ++ joined (drop (k + 1) ts)), IsMeasure-byte_len.joined (text a) (joined (drop (k + 1) ts)), rest);
+      };
+      near = dense_left (last_bytes 492 a.leaves) b.leaves (leaves_of (drop (k + 2) ts)) (leaves_near a.leaves (b.leaves ++ leaves_of (drop (k + 2) ts)) both);
+    }

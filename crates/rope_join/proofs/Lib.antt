@@ -1,8 +1,8 @@
 pub mod Unions
 pub mod NearLaws
 pub mod Sides
-pub mod Rows
 pub mod Whole
+pub mod Parts
 pub mod Cuts
 pub mod Empty
 pub mod Seams

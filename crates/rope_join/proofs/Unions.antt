@@ -200,7 +200,7 @@ module _ (a b last : Tree) (init : List Tree) (br : LineBreaks) (h : ℕ) (ea : 
     end_parts : All (IsChild br h) ts × (1 ≤ length ts) × (length ts ≤ 2)
     end_parts = left_parts br h last b ts end_child (omega (arith, below, above)) u
 
-    end_each : All (IsChild br h) (init ++ ts)
+    pub end_each : All (IsChild br h) (init ++ ts)
     end_each = All-append (IsChild br h) init ts (all_left (IsChild br h) init (last ∷ []) ca.each) end_parts.0
 
     pub end_count : (1 ≤ length init) × (length (init ++ ts) ≤ 25) × (length (init ++ last ∷ []) ≤ length (init ++ ts)) × (length (init ++ ts) ≤ length (init ++ last ∷ []) + 1)
@@ -272,7 +272,7 @@ module _ (a b first : Tree) (rest : List Tree) (br : LineBreaks) (h : ℕ) (eb :
     front_parts : All (IsChild br h) ts × (1 ≤ length ts) × (length ts ≤ 2)
     front_parts = right_parts br h first a ts front_child front_set (omega (arith, below, above)) u
 
-    front_each : All (IsChild br h) (ts ++ rest)
+    pub front_each : All (IsChild br h) (ts ++ rest)
     front_each = All-append (IsChild br h) ts rest front_parts.0 (All-tail (IsChild br h) first rest cb.each)
 
     pub front_count : (1 ≤ length ts) × (length (ts ++ rest) ≤ 25) × (length (first ∷ rest) ≤ length (ts ++ rest)) × (length (ts ++ rest) ≤ length (first ∷ rest) + 1)

@@ -1,8 +1,11 @@
 -- What the front and the back of a tree are.
 use Rattle.std.specs.Prelude.{◌≡◌, ℕ, ◌+◌, ◌≤◌, max, List, [], ◌∷◌, ◌++◌, length, take, drop}
+use Rattle.rope_text.specs.declared.TheConstants.{MAX_CHILDREN, MIN_TWO_LEAVES_BYTES}
 use Rattle.rope_text.specs.Dense.{IsDenseBehind, last_bytes}
 use Rattle.rope_tree.specs.Leaves.{AreLeaves}
-use Rattle.rope_tree.specs.Tree.{Tree, text}
+use Rattle.rope_tree.specs.Tree.{Tree, text, height_of, IsTree, AreFamily}
+use Rattle.rope_tree.specs.Siblings.{gathered}
+use Rattle.rope_join.specs.Join.{CanJoin, IsUnion}
 use Rattle.rope_join.specs.declared.cut.Side.{Side}
 use Rattle.rope_join.specs.declared.cut.Side.TheVariants.{Front, Back}
 
@@ -55,3 +58,35 @@ pub record IsSides (left : Tree) (end : ℕ) (right : Tree) (start : ℕ) (part 
   pub not_higher : part.height ≤ max left.height right.height + 1
   pub behind : SparesFirst end left → (n : ℕ) → IsDenseBehind n left.leaves → IsDenseBehind n part.leaves
   pub ahead : SparesLast start right → (m n : ℕ) → last_bytes m right.leaves ≤ last_bytes n part.leaves
+
+-- trees side by side that may be gathered
+pub record AreGatherable (ts : List Tree) : Type 0 where
+  pub some : 1 ≤ length ts
+  pub at_most_24 : length ts ≤ MAX_CHILDREN
+  pub family : 2 ≤ length ts → AreFamily ts
+
+-- those that make a part of a tree; several of them stand at the height of its children
+pub record ArePart (t : Tree) (ts : List Tree) : Type 0 where
+  pub gather : AreGatherable ts
+  pub tree : IsTree (gathered ts)
+  pub below : 2 ≤ length ts → height_of ts + 1 ≡ t.height
+
+-- two neighbours under one node
+pub record AreBeside (left right : Tree) : Type 0 where
+  pub level : left.height ≡ right.height
+  pub left_some : 1 ≤ length left.leaves
+  pub right_some : 1 ≤ length right.leaves
+  pub join : CanJoin left right
+  pub near : IsDenseBehind (last_bytes MIN_TWO_LEAVES_BYTES left.leaves) right.leaves
+
+-- a tree and the front of its neighbour, as one tree or two
+pub record IsWithFront (left : Tree) (at : ℕ) (right : Tree) (ts : List Tree) : Type 0 where
+  pub part : Tree
+  pub front : IsFront at right part
+  pub union : IsUnion left part ts
+
+-- the back of a tree and its neighbour
+pub record IsWithBack (left : Tree) (at : ℕ) (right : Tree) (ts : List Tree) : Type 0 where
+  pub part : Tree
+  pub back : IsBack at left part
+  pub union : IsUnion part right ts

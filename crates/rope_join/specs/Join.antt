@@ -1,11 +1,11 @@
 -- What trees joined and gathered are.
-use Rattle.std.specs.Prelude.{◌≡◌, ◌+◌, ◌^◌, ◌≤◌, ◌<◌, max, List, [], ◌∷◌, ◌++◌, length}
+use Rattle.std.specs.Prelude.{◌≡◌, ◌+◌, ◌^◌, ◌≤◌, ◌<◌, max, List, [], ◌∷◌, ◌++◌}
 use Rattle.rope_text.specs.declared.TheConstants.{MAX_CHILDREN, MIN_TWO_LEAVES_BYTES}
 use Rattle.rope_text.specs.Text.{byte_len}
 use Rattle.rope_text.specs.Dense.{IsDenseBehind, last_bytes}
 use Rattle.rope_tree.specs.Leaves.{IsSeam, Recuts}
-use Rattle.rope_tree.specs.Tree.{Tree, text, leaves_of, height_of, breaks_of, tree_over, AreChildren}
-use Rattle.rope_tree.specs.Siblings.{AreSiblings, AreParts}
+use Rattle.rope_tree.specs.Tree.{Tree, text, leaves_of, tree_over, AreChildren}
+use Rattle.rope_tree.specs.Siblings.{AreParts}
 
 -- two trees that may stand side by side: of one set of line breaks, no CR at the end of the one before an LF of the other
 pub record CanJoin (left right : Tree) : Type 0 where
@@ -49,9 +49,3 @@ pub record IsJoin (left right t : Tree) : Type 0 where
   pub most : t.height ≤ max left.height right.height + 1
   pub below_left : right.height < left.height → left.width < MAX_CHILDREN → t.height ≡ left.height
   pub below_right : left.height < right.height → right.width < MAX_CHILDREN → t.height ≡ right.height
-
--- trees of one height, one at least, that may be gathered
-pub record CanGather (ts : List Tree) : Type 0 where
-  pub siblings : AreSiblings (breaks_of ts) (height_of ts) ts
-  pub some : 1 ≤ length ts
-  pub at_most_24 : length ts ≤ MAX_CHILDREN

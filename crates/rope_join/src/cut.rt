@@ -1,14 +1,17 @@
 //! The front and the back of a tree, as trees no higher than it, and the part between two places.
-ghost use Rattle.std.specs.Prelude.{◌≡◌, ◌+◌, ◌-◌, ◌*◌, ◌<◌, ◌≤◌, length, IfOk};
+ghost use Rattle.std.specs.Prelude.{◌≡◌, ◌+◌, ◌-◌, ◌*◌, ◌<◌, ◌≤◌, ◌++◌, length, IfOk};
 ghost use Rattle.std.specs.List.{slice_range};
 ghost use Rattle.rope_tree.specs.Tree.{text, leaf_tree, IsTree};
-ghost use Rattle.rope_join.specs.Cut.{side_of, IsFront, IsBack};
+ghost use Rattle.rope_tree.specs.View.{trees_in};
+ghost use Rattle.rope_tree.specs.Siblings.{gathered};
+ghost use Rattle.rope_tree.specs.Rows.{IsRow};
+ghost use Rattle.rope_join.specs.Cut.{side_of, IsFront, IsBack, ArePart, AreBeside, IsWithFront, IsWithBack};
 
-use crate::join::join_rows;
+use crate::join::{unite, unite_before, unite_behind};
 use rope_text::{LineBreaks, Steps, TextInfo};
 use rope_tree::{
-    Made, Maker, Node, Row, ShortText, Unit, View, leaf_of, make_leaf, place_of, shared_breaks,
-    total_before,
+    Made, Maker, Node, Nodes, Row, ShortText, Unit, View, gather_rows, leaf_of, make_leaf,
+    place_of, shared_breaks, total_before,
 };
 
 /// The two sides of a place at which a text is cut.
@@ -57,7 +60,69 @@ fn leaf_part(
     make_leaf(maker, breaks, part, info)
 }
 
+/// A part of a tree as nodes side by side, not yet under a node: some that the tree has too, and
+/// one or two that were made. One level up, most come under nodes with the children of the sibling
+/// that they meet; a list over them alone would be given up there at once.
+#[derive(Drop)]
+struct Part<'a> {
+    row: Row<'a>,
+    nodes: Nodes,
+}
+
+/// The first `at` characters of an inner node, at least one.
+#[cycle(front)]
+fn front_part<'a>(maker: &mut Maker, node: &'a Node, at: usize) -> Made<Part<'a>>
+    requires inner { 1 ≤ node.now.height }
+    requires some { 1 ≤ at }
+    requires within { at ≤ length (text node.now) }
+    ensures row { IfOk result (λ part. IsRow part.row) }
+    ensures part { IfOk result (λ part. ArePart node.now
+        (part.row.nodes.now ++ trees_in part.nodes)) }
+    ensures front { IfOk result (λ part. IsFront at node.now
+        (gathered (part.row.nodes.now ++ trees_in part.nodes))) }
+    ensures made_ok { IfOk result (λ part. maker.new.made ≤ maker.old.made
+        + 4 * node.now.height
+        + 2 * (gathered (part.row.nodes.now ++ trees_in part.nodes)).height) }
+    ensures made { maker.new.made ≤ maker.old.made + 6 * node.now.height }
+{
+    let View::Inner(children, totals) = node.view() else {
+        unreachable!()
+    };
+    let place = place_of(totals, Unit::Char, at - 1, &mut Steps::new());
+    let before = total_before(totals, place).chars;
+    let child = &children[place];
+    let within = at - before;
+    if place == 0 {
+        let only = front(maker, child, within)?;
+        return Ok(Part {
+            row: Row::none(),
+            nodes: Nodes::One(only),
+        });
+    }
+    let row = Row::of(children, totals).first(place - 1);
+    let nodes = with_front(maker, &children[place - 1], child, within)?;
+    Ok(Part { row, nodes })
+}
+
+/// A tree, and behind it the first `at` characters of its next sibling, at least one.
+#[cycle(front)]
+fn with_front(maker: &mut Maker, left: &Node, right: &Node, at: usize) -> Made<Nodes>
+    requires beside { AreBeside left.now right.now }
+    requires some { 1 ≤ at }
+    requires within { at ≤ length (text right.now) }
+    ensures union { IfOk result (λ nodes. IsWithFront left.now at right.now (trees_in nodes)) }
+    ensures made { maker.new.made ≤ maker.old.made + 6 * right.now.height + 3 }
+{
+    if right.height() == 0 || at == right.info().chars {
+        let part = front(maker, right, at)?;
+        return unite(maker, left, &part);
+    }
+    let Part { row, nodes } = front_part(maker, right, at)?;
+    unite_behind(maker, left, row, nodes)
+}
+
 /// The first `at` characters, perhaps none. Nodes that lie wholly before the cut are shared.
+#[cycle(front)]
 pub fn front(maker: &mut Maker, node: &Node, at: usize) -> Made<Node>
     requires { at ≤ length (text node.now) }
     ensures front { IfOk result (λ part. IsFront at node.now part) }
@@ -72,23 +137,67 @@ pub fn front(maker: &mut Maker, node: &Node, at: usize) -> Made<Node>
     if at == node.info().chars {
         return node.share();
     }
-    match node.view() {
-        View::Leaf(leaf) => leaf_part(maker, node, &leaf, at, Side::Front),
-        View::Inner(children, totals) => {
-            let place = place_of(totals, Unit::Char, at - 1, &mut Steps::new());
-            let before = total_before(totals, place).chars;
-            let part = front(maker, &children[place], at - before)?;
-            if place == 0 {
-                return Ok(part);
-            }
-            let before = Row::of(children, totals).first(place - 1);
-            join_rows(maker, before, &children[place - 1], &part, Row::none())
-        }
+    if let View::Leaf(leaf) = node.view() {
+        return leaf_part(maker, node, &leaf, at, Side::Front);
     }
+    let Part { row, nodes } = front_part(maker, node, at)?;
+    gather_rows(maker, row, nodes, Row::none())
+}
+
+/// What follows the first `at` characters of an inner node, at least one character.
+#[cycle(back)]
+fn back_part<'a>(maker: &mut Maker, node: &'a Node, at: usize) -> Made<Part<'a>>
+    requires inner { 1 ≤ node.now.height }
+    requires within { at < length (text node.now) }
+    ensures row { IfOk result (λ part. IsRow part.row) }
+    ensures part { IfOk result (λ part. ArePart node.now
+        (trees_in part.nodes ++ part.row.nodes.now)) }
+    ensures back { IfOk result (λ part. IsBack at node.now
+        (gathered (trees_in part.nodes ++ part.row.nodes.now))) }
+    ensures made_ok { IfOk result (λ part. maker.new.made ≤ maker.old.made
+        + 4 * node.now.height
+        + 2 * (gathered (trees_in part.nodes ++ part.row.nodes.now)).height) }
+    ensures made { maker.new.made ≤ maker.old.made + 6 * node.now.height }
+{
+    let View::Inner(children, totals) = node.view() else {
+        unreachable!()
+    };
+    let place = place_of(totals, Unit::Char, at, &mut Steps::new());
+    let before = total_before(totals, place).chars;
+    let child = &children[place];
+    let within = at - before;
+    if place + 1 == children.len() {
+        let only = back(maker, child, within)?;
+        return Ok(Part {
+            row: Row::none(),
+            nodes: Nodes::One(only),
+        });
+    }
+    let row = Row::of(children, totals).rest(place + 2);
+    let nodes = with_back(maker, child, within, &children[place + 1])?;
+    Ok(Part { row, nodes })
+}
+
+/// A tree, and before it what follows the first `at` characters of the sibling before it, at least
+/// one.
+#[cycle(back)]
+fn with_back(maker: &mut Maker, left: &Node, at: usize, right: &Node) -> Made<Nodes>
+    requires beside { AreBeside left.now right.now }
+    requires within { at < length (text left.now) }
+    ensures union { IfOk result (λ nodes. IsWithBack left.now at right.now (trees_in nodes)) }
+    ensures made { maker.new.made ≤ maker.old.made + 6 * left.now.height + 3 }
+{
+    if left.height() == 0 || at == 0 {
+        let part = back(maker, left, at)?;
+        return unite(maker, &part, right);
+    }
+    let Part { row, nodes } = back_part(maker, left, at)?;
+    unite_before(maker, nodes, row, right)
 }
 
 /// What follows the first `at` characters, perhaps nothing. Nodes that lie wholly behind the cut
 /// are shared.
+#[cycle(back)]
 pub fn back(maker: &mut Maker, node: &Node, at: usize) -> Made<Node>
     requires { at ≤ length (text node.now) }
     ensures back { IfOk result (λ part. IsBack at node.now part) }
@@ -103,19 +212,11 @@ pub fn back(maker: &mut Maker, node: &Node, at: usize) -> Made<Node>
     if at == 0 {
         return node.share();
     }
-    match node.view() {
-        View::Leaf(leaf) => leaf_part(maker, node, &leaf, at, Side::Back),
-        View::Inner(children, totals) => {
-            let place = place_of(totals, Unit::Char, at, &mut Steps::new());
-            let before = total_before(totals, place).chars;
-            let part = back(maker, &children[place], at - before)?;
-            if place + 1 == children.len() {
-                return Ok(part);
-            }
-            let after = Row::of(children, totals).rest(place + 2);
-            join_rows(maker, Row::none(), &part, &children[place + 1], after)
-        }
+    if let View::Leaf(leaf) = node.view() {
+        return leaf_part(maker, node, &leaf, at, Side::Back);
     }
+    let Part { row, nodes } = back_part(maker, node, at)?;
+    gather_rows(maker, Row::none(), nodes, row)
 }
 
 /// The characters from `start` up to `end`, at least one. Nodes that lie wholly between are shared.

@@ -3,15 +3,17 @@ ghost use Rattle.std.specs.Prelude.{◌≡◌, ℕ, ◌+◌, ◌-◌, ◌*◌, �
 ghost use Rattle.rope_text.specs.declared.TheConstants.{MAX_BYTES, MAX_CHILDREN, MIN_TWO_LEAVES_BYTES};
 ghost use Rattle.rope_text.specs.Cuts.{distance};
 ghost use Rattle.rope_text.specs.Dense.{IsDenseBehind, last_bytes};
-ghost use Rattle.rope_tree.specs.Tree.{IsTree};
+ghost use Rattle.rope_tree.specs.Tree.{height_of, IsTree};
 ghost use Rattle.rope_tree.specs.View.{trees_in};
 ghost use Rattle.rope_tree.specs.Siblings.{gathered};
 ghost use Rattle.rope_tree.specs.Rows.{IsRow};
-ghost use Rattle.rope_join.specs.Join.{CanGather, CanJoin, CanMerge, EndsIn, BeginsIn, IsNear, IsUnion, IsJoin};
+ghost use Rattle.rope_join.specs.Join.{CanJoin, CanMerge, EndsIn, BeginsIn, IsNear, IsUnion, IsJoin};
+ghost use Rattle.rope_join.specs.Cut.{AreGatherable};
 
 use rope_text::{MAX_BYTES, MAX_CHILDREN, MIN_BYTES, MIN_CHILDREN, MIN_TWO_LEAVES_BYTES};
 use rope_tree::{
-    Made, Maker, Node, NodeText, Nodes, Row, View, make_leaf, pack, pack_over, root_of,
+    Made, Maker, Node, NodeText, Nodes, Row, View, gather_rows, make_leaf, pack, pack_first,
+    pack_last, pack_over, root_of,
 };
 
 /// How many bytes a tree's last leaf has, or its first. Where two trees meet, the two leaves have
@@ -68,7 +70,7 @@ fn merge(maker: &mut Maker, left: &Node, right: &Node) -> Made<Nodes>
             }
             let before = Row::of(first, first_totals);
             let after = Row::of(second, second_totals);
-            pack_over(maker, before, &[], after)
+            pack_over(maker, before, Row::none(), after)
         }
     }
 }
@@ -166,41 +168,72 @@ pub fn join(maker: &mut Maker, left: &Node, right: &Node) -> Made<Node>
     root_of(maker, nodes)
 }
 
-/// Two trees as one, with the siblings beside one of them, if any: what `join` makes of the other
-/// tree and of a node over the siblings, which isn't made. The other is no higher than they are.
-pub fn join_rows(
-    maker: &mut Maker,
-    before: Row<'_>,
-    left: &Node,
-    right: &Node,
-    after: Row<'_>,
-) -> Made<Node>
-    requires before { IsRow before }
-    requires after { IsRow after }
-    requires left_some { 1 ≤ length (gathered (before.nodes.now ++ left.now ∷ [])).leaves }
-    requires right_some { 1 ≤ length (gathered (right.now ∷ after.nodes.now)).leaves }
-    requires left_row { 1 ≤ length before.nodes.now
-        → CanGather (before.nodes.now ++ left.now ∷ []) × (right.now.height ≤ left.now.height)
-        × (after.nodes.now ≡ []) }
-    requires right_row { 1 ≤ length after.nodes.now
-        → CanGather (right.now ∷ after.nodes.now) × (left.now.height ≤ right.now.height)
-        × (before.nodes.now ≡ []) }
-    requires join { CanJoin (gathered (before.nodes.now ++ left.now ∷ []))
-        (gathered (right.now ∷ after.nodes.now)) }
-    requires near { IsNear (gathered (before.nodes.now ++ left.now ∷ []))
-        (gathered (right.now ∷ after.nodes.now)) }
-    ensures join { IfOk result (λ node. IsJoin (gathered (before.entry.nodes.now ++ left.now ∷ []))
-        (gathered (right.now ∷ after.entry.nodes.now)) node) }
-    ensures tree { IfOk result (λ node. IsTree node) }
-    ensures made_ok { IfOk result (λ node. maker.new.made + 2 * (left.now.height + right.now.height)
-        ≤ maker.old.made + 2 * (max left.now.height right.now.height + node.height) + 3) }
-    ensures made { maker.new.made
-        ≤ maker.old.made + 2 * distance left.now.height right.now.height + 5 }
+/// Whether so many nodes come under nodes with the children of their neighbour, which has so many.
+/// Else they keep a node of their own, as in `merge`.
+fn shares_children(children: usize, count: usize) -> bool
+    requires children { children ≤ MAX_CHILDREN }
+    requires count { count ≤ MAX_CHILDREN }
+    ensures { result ≡ true → 2 ≤ count }
 {
-    let nodes = unite(maker, left, right)?;
-    if before.nodes.is_empty() && after.nodes.is_empty() {
-        return root_of(maker, nodes);
+    let is_few = children < MIN_CHILDREN || count < MIN_CHILDREN;
+    count > 1 && (is_few || children + count <= MAX_CHILDREN)
+}
+
+/// A tree, and behind it the tree that nodes side by side make, as one tree or two of the greater
+/// height. A list over the nodes alone is made only if it stays.
+pub(crate) fn unite_behind(
+    maker: &mut Maker,
+    left: &Node,
+    before: Row<'_>,
+    nodes: Nodes,
+) -> Made<Nodes>
+    requires before { IsRow before }
+    requires gather { AreGatherable (before.nodes.now ++ trees_in nodes) }
+    requires level { 2 ≤ length (before.nodes.now ++ trees_in nodes)
+        → height_of (before.nodes.now ++ trees_in nodes) + 1 ≡ left.now.height }
+    requires left_some { 1 ≤ length left.now.leaves }
+    requires right_some { 1 ≤ length (gathered (before.nodes.now ++ trees_in nodes)).leaves }
+    requires join { CanJoin left.now (gathered (before.nodes.now ++ trees_in nodes)) }
+    requires near { IsNear left.now (gathered (before.nodes.now ++ trees_in nodes)) }
+    ensures union { IfOk result (λ united. IsUnion left.now
+        (gathered (before.entry.nodes.now ++ trees_in nodes)) (trees_in united)) }
+    ensures made { maker.new.made ≤ maker.old.made + 2 * distance left.now.height
+        (gathered (before.entry.nodes.now ++ trees_in nodes)).height + 3 }
+{
+    if let View::Inner(children, totals) = left.view()
+        && shares_children(children.len(), before.nodes.len() + nodes.len())
+    {
+        return pack_last(maker, Row::of(children, totals), before, nodes);
     }
-    let parts = pack(maker, before, nodes, after)?;
-    root_of(maker, parts)
+    let part = gather_rows(maker, before, nodes, Row::none())?;
+    unite(maker, left, &part)
+}
+
+/// The same with the nodes before the tree.
+pub(crate) fn unite_before(
+    maker: &mut Maker,
+    nodes: Nodes,
+    after: Row<'_>,
+    right: &Node,
+) -> Made<Nodes>
+    requires after { IsRow after }
+    requires gather { AreGatherable (trees_in nodes ++ after.nodes.now) }
+    requires level { 2 ≤ length (trees_in nodes ++ after.nodes.now)
+        → height_of (trees_in nodes ++ after.nodes.now) + 1 ≡ right.now.height }
+    requires left_some { 1 ≤ length (gathered (trees_in nodes ++ after.nodes.now)).leaves }
+    requires right_some { 1 ≤ length right.now.leaves }
+    requires join { CanJoin (gathered (trees_in nodes ++ after.nodes.now)) right.now }
+    requires near { IsNear (gathered (trees_in nodes ++ after.nodes.now)) right.now }
+    ensures union { IfOk result (λ united. IsUnion
+        (gathered (trees_in nodes ++ after.entry.nodes.now)) right.now (trees_in united)) }
+    ensures made { maker.new.made ≤ maker.old.made + 2 * distance
+        (gathered (trees_in nodes ++ after.entry.nodes.now)).height right.now.height + 3 }
+{
+    if let View::Inner(children, totals) = right.view()
+        && shares_children(children.len(), nodes.len() + after.nodes.len())
+    {
+        return pack_first(maker, nodes, after, Row::of(children, totals));
+    }
+    let part = gather_rows(maker, Row::none(), nodes, after)?;
+    unite(maker, &part, right)
 }

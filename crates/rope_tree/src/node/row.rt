@@ -270,8 +270,8 @@ pub fn pack_over(maker: &mut Maker, before: Row<'_>, middle: Row<'_>, after: Row
     requires at_least_two { 2 ≤ length (before.nodes.now ++ (middle.nodes.now ++ after.nodes.now)) }
     requires at_most_48 { length (before.nodes.now ++ (middle.nodes.now ++ after.nodes.now))
         ≤ 2 * MAX_CHILDREN }
-    ensures leaves { IfOk result (λ p. leaves_of (trees_in p)
-        ≡ leaves_of (before.entry.nodes.now ++ (middle.entry.nodes.now ++ after.entry.nodes.now))) }
+    ensures leaves { IfOk result (λ p. leaves_of (trees_in p) ≡ leaves_of
+        (before.entry.nodes.now ++ (middle.entry.nodes.now ++ after.entry.nodes.now))) }
     ensures shape { IfOk result (λ p. AreOver
         (before.entry.nodes.now ++ (middle.entry.nodes.now ++ after.entry.nodes.now)) (trees_in p)) }
     ensures made { maker.new.made ≤ maker.old.made + 2 }
@@ -314,8 +314,7 @@ pub fn pack(maker: &mut Maker, before: Row<'_>, middle: Nodes, after: Row<'_>) -
     }
 }
 
-/// A node over the nodes of two rows and one or two nodes behind them; or two over half of them
-/// each, if one can't hold them.
+/// The same with the one or two nodes behind two rows.
 pub fn pack_last(maker: &mut Maker, before: Row<'_>, middle: Row<'_>, last: Nodes) -> Made<Nodes>
     requires before { IsRow before }
     requires middle { IsRow middle }
@@ -337,7 +336,7 @@ pub fn pack_last(maker: &mut Maker, before: Row<'_>, middle: Row<'_>, last: Node
     }
 }
 
-/// The same with the one or two nodes before the two rows.
+/// The same with the one or two nodes before two rows.
 pub fn pack_first(maker: &mut Maker, first: Nodes, middle: Row<'_>, after: Row<'_>) -> Made<Nodes>
     requires middle { IsRow middle }
     requires after { IsRow after }

@@ -26,14 +26,14 @@ siblings : (c : In-Inner-view) → AreSiblings (breaks_of (c.in-Inner.first.now 
 siblings c = inner_siblings _ _ _ _ c.in-Inner.ensures.is c.in-Inner-view.ensures.is c.in-Inner.ensures.children c.in-Inner-view.ensures.children c.requires.join c.requires.merge.level (c.requires.merge.near (omega (arith, ap (λ u. u.height) c.in-Inner.ensures.is)))
 
 pub pack_over-requires-clause-siblings : goal.pack_over-requires-clause-siblings
-pack_over-requires-clause-siblings c = rw (c.of-before.ensures.nodes, c.of-after.ensures.nodes) (siblings (goal.at.pack_over-requires-clause-siblings c).In-Inner-view)
+pack_over-requires-clause-siblings c = rw (c.of-before.ensures.nodes, c.none.ensures.nodes, c.of-after.ensures.nodes) (siblings (goal.at.pack_over-requires-clause-siblings c).In-Inner-view)
 
 pub returns-else-first-ge-MIN_CHILDREN-clause-union : goal.returns-else-first-ge-MIN_CHILDREN-clause-union
 returns-else-first-ge-MIN_CHILDREN-clause-union c =
     let near = c.requires.merge.near (omega (arith, ap (λ u. u.height) c.in-Inner.ensures.is)) in
     both_ok c.pack_over.result _ _ (λ nodes. IsUnion c.args.left.now c.args.right.now (trees_in nodes)) (λ nodes leaves shape.
     inner_union _ _ _ _ c.in-Inner.ensures.is c.in-Inner-view.ensures.is c.in-Inner.ensures.children c.in-Inner-view.ensures.children c.requires.join c.requires.merge.level near _
-    (rw (c.of-before.ensures.nodes, c.of-after.ensures.nodes) at leaves) (rw (c.of-before.ensures.nodes, c.of-after.ensures.nodes) at shape)) c.pack_over.ensures.leaves c.pack_over.ensures.shape
+    (rw (c.of-before.ensures.nodes, c.none.ensures.nodes, c.of-after.ensures.nodes) at leaves) (rw (c.of-before.ensures.nodes, c.none.ensures.nodes, c.of-after.ensures.nodes) at shape)) c.pack_over.ensures.leaves c.pack_over.ensures.shape
 
 new_text : (c : After-push_str) → c.push_str.new.self ≡ c.in-Leaf.first ++ c.in-Leaf-view.second
 new_text c = c.push_str.ensures.value ∙ ap₂ (λ s t. s ++ t) (c.from_str-text.ensures.value ∙ c.as_str.ensures.chars) c.as_str-then-is_short.ensures.chars
