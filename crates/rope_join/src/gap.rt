@@ -118,10 +118,10 @@ pub(crate) fn put(
     let row = Row::of(children, totals);
     let after = row.rest(past);
     if part.height() > children[0].height() {
-        let View::Inner(nodes, totals) = part.view() else {
+        let View::Inner(nodes, _) = part.view() else {
             unreachable!()
         };
-        let packed = pack_over(maker, row.first(first), Row::of(nodes, totals), after)?;
+        let packed = pack_over(maker, row.first(first), Row::new(nodes), after)?;
         return root_of(maker, packed);
     }
     let middle = unite(maker, &children[first - 1], part)?;

@@ -272,8 +272,9 @@ pub fn pack_over(maker: &mut Maker, before: Row<'_>, middle: Row<'_>, after: Row
         ≤ 2 * MAX_CHILDREN }
     ensures leaves { IfOk result (λ p. leaves_of (trees_in p) ≡ leaves_of
         (before.entry.nodes.now ++ (middle.entry.nodes.now ++ after.entry.nodes.now))) }
-    ensures shape { IfOk result (λ p. AreOver (before.entry.nodes.now
-        ++ (middle.entry.nodes.now ++ after.entry.nodes.now)) (trees_in p)) }
+    ensures shape { IfOk result (λ p. AreOver
+        (before.entry.nodes.now ++ (middle.entry.nodes.now ++ after.entry.nodes.now))
+        (trees_in p)) }
     ensures made { maker.new.made ≤ maker.old.made + 2 }
     ensures rises { maker.old.made ≤ maker.new.made }
 {

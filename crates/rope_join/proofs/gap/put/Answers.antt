@@ -7,57 +7,57 @@ use Rattle.rope_tree.specs.View.{trees_in}
 use Rattle.rope_tree.proofs.NodeLaws.{first_height}
 use Rattle.rope_join.specs.Put.{IsPut, leaves_before, leaves_behind}
 use Rattle.rope_join.proofs.Puts.{put_level, put_family, put_is, put_tree, level_each, level_count, level_recuts, left_join, united_each, united_count, united_recuts}
-use Rattle.rope_join.proofs.gap.put.Goals.{After-of, After-index-children-first, After-first-2}
+use Rattle.rope_join.proofs.gap.put.Goals.{After-new, After-index-children-first, After-first-2}
 use Rattle.rope_join.proofs.gap.put.Goals as goal
 
 -- nodes of the children's height
-all : (c : After-of) → List Tree
-all c = c.first.result.nodes.now ++ (c.of.result.nodes.now ++ c.rest-after.result.nodes.now)
+all : (c : After-new) → List Tree
+all c = c.first.result.nodes.now ++ (c.new.result.nodes.now ++ c.rest-after.result.nodes.now)
 
-rows : (c : After-of) → all c ≡ take c.args.first c.args.children.now ++ (c.in-Inner.nodes.now ++ drop c.args.past c.args.children.now)
+rows : (c : After-new) → all c ≡ take c.args.first c.args.children.now ++ (c.in-Inner.nodes.now ++ drop c.args.past c.args.children.now)
 unfolding all
-rows c = rw (c.first.ensures.nodes, c.of.ensures.nodes, c.rest-after.ensures.nodes, c.of-row.ensures.nodes) refl
+rows c = rw (c.first.ensures.nodes, c.new.ensures.nodes, c.rest-after.ensures.nodes, c.of-row.ensures.nodes) refl
 
-high : (c : After-of) → height_of c.args.children.now < c.args.part.now.height
+high : (c : After-new) → height_of c.args.children.now < c.args.part.now.height
 high c =
     let ts = c.args.children.now in
     let first = first_height ts c.index-children-0.result (omega (arith, c.requires.children.at_least_two)) in
     omega (arith, c.if-height.true, c.height.ensures.value, c.height-2.ensures.value, ap (λ t. t.height) c.index-children-0.is, first)
 
-each : (c : After-of) → All (IsChild (breaks_of c.args.children.now) (height_of c.args.children.now)) (all c)
+each : (c : After-new) → All (IsChild (breaks_of c.args.children.now) (height_of c.args.children.now)) (all c)
 each c = subst (All (IsChild (breaks_of c.args.children.now) (height_of c.args.children.now))) (sym (rows c))
     (level_each c.args.children.now c.args.first c.args.past c.args.part.now c.requires.children c.requires.put c.in-Inner.nodes.now c.in-Inner.ensures.is c.in-Inner.ensures.children (high c))
 
-many : (c : After-of) → 2 ≤ length (all c)
+many : (c : After-new) → 2 ≤ length (all c)
 many c = omega (arith, ap length (rows c), (level_count c.args.children.now c.args.first c.args.past c.args.part.now c.requires.children c.requires.put c.in-Inner.nodes.now c.in-Inner.ensures.is c.in-Inner.ensures.children (high c)).0)
 
-recuts : (c : After-of) → Recuts (leaves_before c.args.children.now c.args.first) (leaves_behind c.args.children.now c.args.past c.args.part.now) (leaves_of (all c))
+recuts : (c : After-new) → Recuts (leaves_before c.args.children.now c.args.first) (leaves_behind c.args.children.now c.args.past c.args.part.now) (leaves_of (all c))
 recuts c = subst (λ ts. Recuts (leaves_before c.args.children.now c.args.first) (leaves_behind c.args.children.now c.args.past c.args.part.now) (leaves_of ts)) (sym (rows c))
     (level_recuts c.args.children.now c.args.first c.args.past c.args.part.now c.requires.children c.requires.put c.in-Inner.nodes.now c.in-Inner.ensures.is c.in-Inner.ensures.children (high c))
 
 pub pack_over-requires-clause-siblings : goal.pack_over-requires-clause-siblings
 unfolding all
 pack_over-requires-clause-siblings c =
-    let e = (goal.at.pack_over-requires-clause-siblings c).After-of in
+    let e = (goal.at.pack_over-requires-clause-siblings c).After-new in
     put_level c.args.children.now c.args.first c.args.past c.args.part.now c.requires.children c.requires.put (all e) (each e) (many e) (recuts e)
 
 pub root_of-requires : goal.root_of-requires
 unfolding all
 root_of-requires c =
-    let e = (goal.at.root_of-requires c).After-of in
+    let e = (goal.at.root_of-requires c).After-new in
     put_family c.args.children.now c.args.first c.args.past c.args.part.now c.requires.children c.requires.put (all e) (each e) (many e) (recuts e) c.in_ok-packed.packed c.in_ok-packed.ensures.leaves c.in_ok-packed.ensures.shape
 
 pub returns-then-height-clause-put : goal.returns-then-height-clause-put
 unfolding all
 returns-then-height-clause-put c =
-    let e = (goal.at.returns-then-height-clause-put c).After-of in
+    let e = (goal.at.returns-then-height-clause-put c).After-new in
     IfOk-weaker c.root_of.result _ (IsPut c.args.children.now c.args.first c.args.past c.args.part.now) (λ node is.
     put_is c.args.children.now c.args.first c.args.past c.args.part.now c.requires.children c.requires.put (all e) (each e) (many e) (recuts e) c.in_ok-packed.packed c.in_ok-packed.ensures.leaves c.in_ok-packed.ensures.shape node is) c.root_of.ensures.ok
 
 pub returns-then-height-clause-tree : goal.returns-then-height-clause-tree
 unfolding all
 returns-then-height-clause-tree c =
-    let e = (goal.at.returns-then-height-clause-tree c).After-of in
+    let e = (goal.at.returns-then-height-clause-tree c).After-new in
     IfOk-weaker c.root_of.result _ IsTree (λ node is.
     put_tree c.args.children.now c.args.first c.args.past c.args.part.now c.requires.children c.requires.put (all e) (each e) (many e) (recuts e) c.in_ok-packed.packed c.in_ok-packed.ensures.leaves c.in_ok-packed.ensures.shape node is) c.root_of.ensures.ok
 
