@@ -88,7 +88,7 @@ pub use crate::slice::RopeSlice;
 /// The most bytes that a chunk has.
 const MAX_BYTES: usize = 984;
 
-/// How many bytes a rope is made of at once: what 24 lists of 20 leaves hold, so that ropes of so many join to a tree
-/// as low as one of the whole text; and so few that they stay in the processor's near cache while they are checked,
-/// counted and copied.
+/// How many bytes a builder and a reader make a rope of at once: what 24 lists of 20 leaves hold, so that ropes of so many
+/// join to a tree as low as one of the whole text; and so few that they stay in the processor's near cache while they are
+/// checked, counted and copied.
 const BLOCK: usize = 24 * 20 * 981;

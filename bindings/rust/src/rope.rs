@@ -9,8 +9,7 @@ use crate::instance::Instance;
 use crate::iter::{Bytes, Chars, Chunks, Lines};
 use crate::range::Bounds;
 use crate::slice::{ChunksAt, RopeSlice};
-use crate::str_utils::front;
-use crate::{Error, Result, BLOCK, MAX_BYTES};
+use crate::{Error, Result, MAX_BYTES};
 
 /// A long text that is edited anywhere.
 ///
@@ -71,12 +70,7 @@ impl Rope {
     /// A rope of a copy of the text.
     #[allow(clippy::should_implement_trait)]
     pub fn from_str(text: &str) -> Rope {
-        let mut rope = Rope::of(Root::of_text(front(text, BLOCK)));
-        while rope.len_bytes() < text.len() {
-            let rest = &text[rope.len_bytes()..];
-            rope.append(Rope::of(Root::of_text(front(rest, BLOCK))));
-        }
-        rope
+        Rope::of(Root::of_text(text))
     }
 
     pub(crate) fn of(root: Root) -> Rope {

@@ -22,7 +22,7 @@ pub use crate::ffi::{
 const WINDOW: usize = 128;
 
 /// The first bytes of a text, at least some, as far as whole characters go.
-pub(crate) fn front(text: &str, len: usize) -> &str {
+fn front(text: &str, len: usize) -> &str {
     let end = (len..text.len()).find(|&i| text.is_char_boundary(i));
     &text[..end.unwrap_or(text.len())]
 }
