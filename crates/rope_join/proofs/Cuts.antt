@@ -57,6 +57,24 @@ cuts_at n br h ts k t is a lt here =
       some = own.some;
     }
 
+pub byte_len-parts : (k : ℕ) (l : List ℕ) → byte_len (take k l) + byte_len (drop k l) ≡ byte_len l
+byte_len-parts k l = omega (arith, IsMeasure-byte_len.joined (take k l) (drop k l), ap byte_len (take-append-drop k l))
+
+-- a part beside the tree that the whole is beside
+pub front_joins : (k : ℕ) (a t p : Tree) → k ≤ length (text t) → CanJoin a t → IsFront k t p → CanJoin a p
+front_joins k a t p le j i = record {
+  same_breaks = i.same_breaks ∙ j.same_breaks;
+  seam = rw i.text_is (seam-take k (text a) (text t) j.seam);
+  fits = omega (arith, j.fits, ap byte_len i.text_is, byte_len-parts k (text t));
+}
+
+pub back_joins : (k : ℕ) (t a p : Tree) → k ≤ length (text t) → CanJoin t a → IsBack k t p → CanJoin p a
+back_joins k t a p le j i = record {
+  same_breaks = j.same_breaks ∙ sym i.same_breaks;
+  seam = rw i.text_is (seam-drop k (text t) (text a) j.seam);
+  fits = omega (arith, j.fits, ap byte_len i.text_is, byte_len-parts k (text t));
+}
+
 -- the first leaf of two lists, and the last
 pub first_chars-append : (xs ys : List (List ℕ)) → 1 ≤ length xs → first_chars (xs ++ ys) ≡ first_chars xs
 first_chars-append [] ys some = absurd (omega arith)
@@ -105,9 +123,6 @@ module _ (br : LineBreaks) (h : ℕ) (xs : List Tree) (g : Tree) (each : All (Is
 
 gather_siblings : (br : LineBreaks) (h : ℕ) (xs : List Tree) → All (IsChild br h) xs → 1 ≤ length xs → AreLeaves (leaves_of xs) → byte_len (joined xs) < 2 ^ 63 → AreSiblings (breaks_of xs) (height_of xs) xs
 gather_siblings br h xs each some c fits = rw (height_of_is br h xs some each, breaks_of_is br h xs some each) (record { each = each; leaves = c; fits = fits })
-
-pub byte_len-parts : (k : ℕ) (l : List ℕ) → byte_len (take k l) + byte_len (drop k l) ≡ byte_len l
-byte_len-parts k l = omega (arith, IsMeasure-byte_len.joined (take k l) (drop k l), ap byte_len (take-append-drop k l))
 
 module _ (n : Tree) (xs : List Tree) (t : Tree) (ys : List Tree) (s : CutsAt n xs t ys) where
   pub before_siblings : 1 ≤ length xs → AreSiblings (breaks_of xs) (height_of xs) xs
@@ -169,12 +184,11 @@ module _ (n : Tree) (xs : List Tree) (t : Tree) (ys : List Tree) (s : CutsAt n x
       front_can_join =
           let c = leaves_seam (leaves_of xs) (t.leaves ++ leaves_of ys) s.leaves in
           let d : IsSeam (joined xs) (text t ++ joined ys) = rw (concat-append t.leaves (leaves_of ys)) at c in
-          let f : IsSeam (joined xs) (text p) = rw i.text_is (seam-take k (joined xs) (text t) (seam_of_left (joined xs) (text t) (joined ys) d)) in
-          record {
-            same_breaks = i.same_breaks ∙ sym front_set;
-            seam = rw gi.leaves f;
-            fits = omega (arith, s.fits, ap (λ ls. byte_len (concat ls)) gi.leaves, ap byte_len i.text_is, byte_len-parts k (text t));
-          }
+          front_joins k g t p le (record {
+            same_breaks = sym front_set;
+            seam = rw gi.leaves (seam_of_left (joined xs) (text t) (joined ys) d);
+            fits = omega (arith, s.fits, ap (λ ls. byte_len (concat ls)) gi.leaves);
+          }) i
 
       pub front_joined : (r : Tree) → IsJoin g p r → IsFront at n r
       front_joined r j =
@@ -203,13 +217,11 @@ module _ (n : Tree) (xs : List Tree) (t : Tree) (ys : List Tree) (s : CutsAt n x
       back_set = gathered_set t.breaks t.height ys g s.after some gi
 
       pub back_can_join : CanJoin p g
-      back_can_join =
-          let f : IsSeam (text p) (joined ys) = rw i.text_is (seam-drop k (text t) (joined ys) (leaves_seam t.leaves (leaves_of ys) right_leaves)) in
-          record {
-            same_breaks = back_set ∙ sym i.same_breaks;
-            seam = rw gi.leaves f;
-            fits = omega (arith, s.fits, ap (λ ls. byte_len (concat ls)) gi.leaves, ap byte_len i.text_is, byte_len-parts k (text t));
-          }
+      back_can_join = back_joins k t g p le (record {
+        same_breaks = back_set;
+        seam = rw gi.leaves (leaves_seam t.leaves (leaves_of ys) right_leaves);
+        fits = omega (arith, s.fits, ap (λ ls. byte_len (concat ls)) gi.leaves);
+      }) i
 
       pub back_joined : (r : Tree) → IsJoin p g r → IsBack at n r
       back_joined r j =
@@ -245,23 +257,9 @@ whole_back n r at i z some e = rw (e, z) (record { text_is = refl; same_breaks =
     all : (a b : ℕ) → last_bytes a n.leaves ≤ last_bytes b n.leaves
     all a b = omega (arith, last_bytes-some a b n.leaves (some_list n.leaves some))
 
--- a part beside the tree that the whole is beside
-pub front_joins : (k : ℕ) (a t p : Tree) → k ≤ length (text t) → CanJoin a t → IsFront k t p → CanJoin a p
-front_joins k a t p le j i = record {
-  same_breaks = i.same_breaks ∙ j.same_breaks;
-  seam = rw i.text_is (seam-take k (text a) (text t) j.seam);
-  fits = omega (arith, j.fits, ap byte_len i.text_is, byte_len-parts k (text t));
-}
-
+-- a part is near the tree that the whole is near
 pub front_is_near : (k : ℕ) (a t p : Tree) → IsDenseBehind (last_bytes 492 a.leaves) t.leaves → IsFront k t p → IsNear a p
 front_is_near k a t p dense i = record { near = λ _ high. i.near high (last_bytes 492 a.leaves) dense }
-
-pub back_joins : (k : ℕ) (t a p : Tree) → k ≤ length (text t) → CanJoin t a → IsBack k t p → CanJoin p a
-back_joins k t a p le j i = record {
-  same_breaks = j.same_breaks ∙ sym i.same_breaks;
-  seam = rw i.text_is (seam-drop k (text t) (text a) j.seam);
-  fits = omega (arith, j.fits, ap byte_len i.text_is, byte_len-parts k (text t));
-}
 
 pub back_is_near : (k : ℕ) (t a p : Tree) → IsDenseBehind (last_bytes 492 t.leaves) a.leaves → IsBack k t p → IsNear p a
 back_is_near k t a p dense i = record { near = λ high _. dense_more (last_bytes 492 t.leaves) (last_bytes 492 p.leaves) a.leaves (i.near high 492 492) dense }

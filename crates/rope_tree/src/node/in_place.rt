@@ -49,7 +49,7 @@ fn copy_children(children: &mut Rc<Children>, maker: &mut Maker) -> Made<()>
     ensures added { maker.old.made + 1 < 2 ^ 64 → maker.new.made ≡ maker.old.made + 1 }
 {
     let (nodes, totals) = children.parts();
-    *children = list_of(maker, (Row::of(nodes, totals), Row::none(), Row::none()))?;
+    *children = list_of(maker, &(Row::of(nodes, totals), Row::none(), Row::none()))?;
     Ok(())
 }
 

@@ -61,36 +61,37 @@ fn push_row(
     alloc: Global,
     totals: &mut Totals,
     places: &mut [Node],
-    row: Row<'_>,
+    row: &Row<'_>,
     before: TextInfo,
 ) -> Made<TextInfo>
     requires list { IsNewList (new_list totals.old places.old) }
-    requires room { length (nodes_in (new_list totals.old places.old)) + length row.nodes.now
+    requires room { length (nodes_in (new_list totals.old places.old)) + length row.now.nodes.now
         ≤ MAX_CHILDREN }
-    requires row { IsRow row }
+    requires row { IsRow row.now }
     requires before { IsTotalOf (nodes_in (new_list totals.old places.old)) before }
-    requires siblings { AreLevel (nodes_in (new_list totals.old places.old) ++ row.nodes.now) }
+    requires siblings { AreLevel (nodes_in (new_list totals.old places.old) ++ row.now.nodes.now) }
     ensures list { OnOk result (IsNewList (new_list totals.new places.new)) }
     ensures nodes { OnOk result (nodes_in (new_list totals.new places.new)
-        ≡ nodes_in (new_list totals.old places.old) ++ row.entry.nodes.now) }
+        ≡ nodes_in (new_list totals.old places.old) ++ row.now.nodes.now) }
     ensures total { IfOk result (IsTotalOf (nodes_in (new_list totals.new places.new))) }
 {
-    let Row { nodes, from, .. } = row;
-    match row.totals {
-        Some(known) if !nodes.is_empty() => {
-            let base = total_before(known, from);
-            let count = totals.len();
-            if !totals.append(alloc, known, from, nodes.len(), base, before)? {
-                return push_all(alloc, totals, places, nodes, before);
-            }
-            let places = &mut places[count..count + nodes.len()];
-            for k in 0..nodes.len() {
-                places[k] = nodes[k].share()?;
-            }
-            Ok(totals.get(totals.len() - 1))
-        }
-        _ => push_all(alloc, totals, places, nodes, before),
+    let nodes = row.nodes;
+    if nodes.is_empty() {
+        return Ok(before);
     }
+    let Some(known) = row.totals else {
+        return push_all(alloc, totals, places, nodes, before);
+    };
+    let base = total_before(known, row.from);
+    let count = totals.len();
+    if !totals.append(alloc, known, row.from, nodes.len(), base, before)? {
+        return push_all(alloc, totals, places, nodes, before);
+    }
+    let places = &mut places[count..count + nodes.len()];
+    for k in 0..nodes.len() {
+        places[k] = nodes[k].share()?;
+    }
+    Ok(totals.get(totals.len() - 1))
 }
 
 /// Three rows of nodes, one behind the other.
@@ -110,14 +111,14 @@ fn clear(totals: &mut Totals, places: &mut [Node; MAX_CHILDREN])
 /// A list of the nodes of three, which it shares. It is filled where it stays, so that no node is
 /// moved.
 #[inline(never)]
-pub(super) fn list_of(maker: &mut Maker, rows: Rows<'_>) -> Made<Rc<Children>>
-    requires before { IsRow rows.0 }
-    requires middle { IsRow rows.1 }
-    requires after { IsRow rows.2 }
+pub(super) fn list_of(maker: &mut Maker, rows: &Rows<'_>) -> Made<Rc<Children>>
+    requires before { IsRow rows.now.0 }
+    requires middle { IsRow rows.now.1 }
+    requires after { IsRow rows.now.2 }
     requires children { AreFamily
-        (rows.0.nodes.now ++ (rows.1.nodes.now ++ rows.2.nodes.now)) }
+        (rows.now.0.nodes.now ++ (rows.now.1.nodes.now ++ rows.now.2.nodes.now)) }
     ensures ok { IfOk result (λ list. list.value
-        ≡ rows.entry.0.nodes.now ++ (rows.entry.1.nodes.now ++ rows.entry.2.nodes.now)) }
+        ≡ rows.now.0.nodes.now ++ (rows.now.1.nodes.now ++ rows.now.2.nodes.now)) }
     ensures made { maker.new.made ≤ maker.old.made + 1 }
     ensures added { maker.old.made + 1 < 2 ^ 64 → maker.new.made ≡ maker.old.made + 1 }
     ensures rises { maker.old.made ≤ maker.new.made }
@@ -145,7 +146,7 @@ pub(super) fn list_of(maker: &mut Maker, rows: Rows<'_>) -> Made<Rc<Children>>
     };
     let alloc = maker.alloc;
     let (totals, places) = (&mut children.totals, &mut children.nodes);
-    let (before, middle, after) = rows;
+    let (before, middle, after) = (&rows.0, &rows.1, &rows.2);
     if let Ok(total) = push_row(alloc, totals, places, before, TextInfo::new())
         && let Ok(total) = push_row(alloc, totals, places, middle, total)
         && push_row(alloc, totals, places, after, total).is_ok()
@@ -159,7 +160,9 @@ pub(super) fn list_of(maker: &mut Maker, rows: Rows<'_>) -> Made<Rc<Children>>
     Err(AllocError)
 }
 
-/// A node over the nodes of three rows, which it shares.
+/// A node over the nodes of three rows, which it shares. Inlined with its callers, since a row that
+/// is handed on through memory is stored in words, and loaded again wider.
+#[inline(always)]
 fn make_over(maker: &mut Maker, rows: Rows<'_>) -> Made<Node>
     requires before { IsRow rows.0 }
     requires middle { IsRow rows.1 }
@@ -172,7 +175,7 @@ fn make_over(maker: &mut Maker, rows: Rows<'_>) -> Made<Node>
     ensures added { maker.old.made + 1 < 2 ^ 64 → maker.new.made ≡ maker.old.made + 1 }
     ensures rises { maker.old.made ≤ maker.new.made }
 {
-    let form = Form::Inner(list_of(maker, rows)?);
+    let form = Form::Inner(list_of(maker, &rows)?);
     Ok(Node { form })
 }
 
@@ -262,6 +265,7 @@ impl<'a> Row<'a> {
 }
 
 /// A node over the nodes of three rows, or two over half of them each, if one can't hold them.
+#[inline(always)]
 pub fn pack_over(maker: &mut Maker, before: Row<'_>, middle: Row<'_>, after: Row<'_>) -> Made<Nodes>
     requires before { IsRow before }
     requires middle { IsRow middle }

@@ -29,32 +29,32 @@ none c = search rules
 
 pub push_row-requires-clause-siblings : goal.push_row-requires-clause-siblings
 push_row-requires-clause-siblings c =
-    let ts = c.args.rows.0.nodes.now ++ (c.args.rows.1.nodes.now ++ c.args.rows.2.nodes.now) in
-    part_siblings ts c.args.rows.0.nodes.now (c.args.rows.1.nodes.now ++ c.args.rows.2.nodes.now) (nodes_in (new_list c.children.inside.totals c.children.inside.nodes) ++ c.args.rows.0.nodes.now) (siblings_of _ _ ts c.requires.children) refl
-    (ap (λ l. l ++ c.args.rows.0.nodes.now) (none (goal.at.push_row-requires-clause-siblings c).After-new-3))
+    let ts = c.args.rows.now.0.nodes.now ++ (c.args.rows.now.1.nodes.now ++ c.args.rows.now.2.nodes.now) in
+    part_siblings ts c.args.rows.now.0.nodes.now (c.args.rows.now.1.nodes.now ++ c.args.rows.now.2.nodes.now) (nodes_in (new_list c.children.inside.totals c.children.inside.nodes) ++ c.args.rows.now.0.nodes.now) (siblings_of _ _ ts c.requires.children) refl
+    (ap (λ l. l ++ c.args.rows.now.0.nodes.now) (none (goal.at.push_row-requires-clause-siblings c).After-new-3))
 
 pub push_row-requires-2-clause-siblings : goal.push_row-requires-2-clause-siblings
 push_row-requires-2-clause-siblings c =
-    let ts = c.args.rows.0.nodes.now ++ (c.args.rows.1.nodes.now ++ c.args.rows.2.nodes.now) in
-    let now : nodes_in (new_list c.push_row.new.totals c.push_row.new.places) ≡ c.args.rows.0.nodes.now = c.in-Ok-push_row.ensures.nodes ∙ ap (λ l. l ++ c.args.rows.0.nodes.now) (none (goal.at.push_row-requires-2-clause-siblings c).After-new-3) in
-    part_siblings ts (c.args.rows.0.nodes.now ++ c.args.rows.1.nodes.now) c.args.rows.2.nodes.now (nodes_in (new_list c.push_row.new.totals c.push_row.new.places) ++ c.args.rows.1.nodes.now) (siblings_of _ _ ts c.requires.children)
-    (sym (append_assoc c.args.rows.0.nodes.now c.args.rows.1.nodes.now c.args.rows.2.nodes.now)) (ap (λ l. l ++ c.args.rows.1.nodes.now) now)
+    let ts = c.args.rows.now.0.nodes.now ++ (c.args.rows.now.1.nodes.now ++ c.args.rows.now.2.nodes.now) in
+    let now : nodes_in (new_list c.push_row.new.totals c.push_row.new.places) ≡ c.args.rows.now.0.nodes.now = c.in-Ok-push_row.ensures.nodes ∙ ap (λ l. l ++ c.args.rows.now.0.nodes.now) (none (goal.at.push_row-requires-2-clause-siblings c).After-new-3) in
+    part_siblings ts (c.args.rows.now.0.nodes.now ++ c.args.rows.now.1.nodes.now) c.args.rows.now.2.nodes.now (nodes_in (new_list c.push_row.new.totals c.push_row.new.places) ++ c.args.rows.now.1.nodes.now) (siblings_of _ _ ts c.requires.children)
+    (sym (append_assoc c.args.rows.now.0.nodes.now c.args.rows.now.1.nodes.now c.args.rows.now.2.nodes.now)) (ap (λ l. l ++ c.args.rows.now.1.nodes.now) now)
 
 pub push_row-requires-3-clause-siblings : goal.push_row-requires-3-clause-siblings
 push_row-requires-3-clause-siblings c =
-    let ts = c.args.rows.0.nodes.now ++ (c.args.rows.1.nodes.now ++ c.args.rows.2.nodes.now) in
-    let now : nodes_in (new_list c.push_row-2.new.totals c.push_row-2.new.places) ≡ c.args.rows.0.nodes.now ++ c.args.rows.1.nodes.now = c.in-Ok-push_row-2.ensures.nodes ∙ ap (λ l. l ++ c.args.rows.1.nodes.now) (c.in-Ok-push_row.ensures.nodes ∙ ap (λ l. l ++ c.args.rows.0.nodes.now) (none (goal.at.push_row-requires-3-clause-siblings c).After-new-3)) in
-    part_siblings ts ts [] (nodes_in (new_list c.push_row-2.new.totals c.push_row-2.new.places) ++ c.args.rows.2.nodes.now) (siblings_of _ _ ts c.requires.children) (sym (append-nil ts))
-    (ap (λ l. l ++ c.args.rows.2.nodes.now) now ∙ append_assoc c.args.rows.0.nodes.now c.args.rows.1.nodes.now c.args.rows.2.nodes.now)
+    let ts = c.args.rows.now.0.nodes.now ++ (c.args.rows.now.1.nodes.now ++ c.args.rows.now.2.nodes.now) in
+    let now : nodes_in (new_list c.push_row-2.new.totals c.push_row-2.new.places) ≡ c.args.rows.now.0.nodes.now ++ c.args.rows.now.1.nodes.now = c.in-Ok-push_row-2.ensures.nodes ∙ ap (λ l. l ++ c.args.rows.now.1.nodes.now) (c.in-Ok-push_row.ensures.nodes ∙ ap (λ l. l ++ c.args.rows.now.0.nodes.now) (none (goal.at.push_row-requires-3-clause-siblings c).After-new-3)) in
+    part_siblings ts ts [] (nodes_in (new_list c.push_row-2.new.totals c.push_row-2.new.places) ++ c.args.rows.now.2.nodes.now) (siblings_of _ _ ts c.requires.children) (sym (append-nil ts))
+    (ap (λ l. l ++ c.args.rows.now.2.nodes.now) now ∙ append_assoc c.args.rows.now.0.nodes.now c.args.rows.now.1.nodes.now c.args.rows.now.2.nodes.now)
 
 pub invariant_of-children : goal.invariant_of-children
 invariant_of-children c =
     let new = c.push_row-3.new in
     let ok : is_ok c.push_row-3.result ≡ true = sym c.is_ok.ensures.value ∙ c.if-is_ok.true in
     let list = got c.push_row-3.result ok c.push_row-3.ensures.list in
-    let all : nodes_in (new_list new.totals new.places) ≡ c.args.rows.0.nodes.now ++ (c.args.rows.1.nodes.now ++ c.args.rows.2.nodes.now) =
-    got c.push_row-3.result ok c.push_row-3.ensures.nodes ∙ ap (λ l. l ++ c.args.rows.2.nodes.now) (c.in-Ok-push_row-2.ensures.nodes ∙ ap (λ l. l ++ c.args.rows.1.nodes.now) (c.in-Ok-push_row.ensures.nodes ∙ ap (λ l. l ++ c.args.rows.0.nodes.now) (none (goal.at.invariant_of-children c).After-new-3)))
-    ∙ append_assoc c.args.rows.0.nodes.now c.args.rows.1.nodes.now c.args.rows.2.nodes.now in
+    let all : nodes_in (new_list new.totals new.places) ≡ c.args.rows.now.0.nodes.now ++ (c.args.rows.now.1.nodes.now ++ c.args.rows.now.2.nodes.now) =
+    got c.push_row-3.result ok c.push_row-3.ensures.nodes ∙ ap (λ l. l ++ c.args.rows.now.2.nodes.now) (c.in-Ok-push_row-2.ensures.nodes ∙ ap (λ l. l ++ c.args.rows.now.1.nodes.now) (c.in-Ok-push_row.ensures.nodes ∙ ap (λ l. l ++ c.args.rows.now.0.nodes.now) (none (goal.at.invariant_of-children c).After-new-3)))
+    ∙ append_assoc c.args.rows.now.0.nodes.now c.args.rows.now.1.nodes.now c.args.rows.now.2.nodes.now in
     let some : 1 ≤ length (nodes_in (new_list new.totals new.places)) = omega (arith, ap length all, c.requires.children.at_least_two) in
     record {
       room = list.room;

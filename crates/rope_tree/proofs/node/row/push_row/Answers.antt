@@ -22,67 +22,67 @@ put_over count k places nodes now len front le =
     rw (same, many, drop-drop (length nodes) count places) refl
 
 -- the row's totals are those of a node of which it is a part
-part : (c : After-total_before-base) → IsPart c.args.row.nodes.now c.in-Some.known.now c.args.row.from
-part c = subst (λ o. IfSome o (λ totals. IsPart c.args.row.nodes.now totals.now c.args.row.from)) c.in-Some.is c.requires.row
+part : (c : After-total_before-base) → IsPart c.args.row.now.nodes.now c.in-Some.known.now c.args.row.now.from
+part c = subst (λ o. IfSome o (λ totals. IsPart c.args.row.now.nodes.now totals.now c.args.row.now.from)) c.in-Some.is c.requires.row
 
-some : (c : After-total_before-base) → 1 ≤ length c.args.row.nodes.now
+some : (c : After-total_before-base) → 1 ≤ length c.args.row.now.nodes.now
 some c = grind (arith, common_steps)
 
-base : (c : After-total_before-base) → c.total_before-base.result ≡ info_of (breaks_of (part c).whole) (joined (take c.args.row.from (part c).whole))
+base : (c : After-total_before-base) → c.total_before-base.result ≡ info_of (breaks_of (part c).whole) (joined (take c.args.row.now.from (part c).whole))
 base c =
     let p = part c in
-    front_is (breaks_of p.whole) c.in-Some.known.now p.whole c.args.row.from c.total_before-base.result p.totals_right (omega (arith, p.within, p.totals_right.as_many)) c.total_before-base.ensures.first c.total_before-base.ensures.later
+    front_is (breaks_of p.whole) c.in-Some.known.now p.whole c.args.row.now.from c.total_before-base.result p.totals_right (omega (arith, p.within, p.totals_right.as_many)) c.total_before-base.ensures.first c.total_before-base.ensures.later
 
 pub append-requires-clause-small : goal.append-requires-clause-small
 append-requires-clause-small c =
     let xs = nodes_in (new_list c.args.totals.now c.args.places.now) in
-    small_totals (breaks_of xs) c.args.totals.now xs c.requires.list.totals_right (omega (arith, byte_len-append xs c.args.row.nodes.now, c.requires.siblings.fits))
+    small_totals (breaks_of xs) c.args.totals.now xs c.requires.list.totals_right (omega (arith, byte_len-append xs c.args.row.now.nodes.now, c.requires.siblings.fits))
 
 pub append-requires-clause-small_others : goal.append-requires-clause-small_others
 append-requires-clause-small_others c =
     let e = (goal.at.append-requires-clause-small_others c).After-total_before-base in
     let b = base e in
-    small_part (nodes_in (new_list c.args.totals.now c.args.places.now)) c.args.row.nodes.now c.in-Some.known.now c.args.row.from (part e) (some e) c.requires.siblings c.total_before-base.result c.args.before b c.requires.before
+    small_part (nodes_in (new_list c.args.totals.now c.args.places.now)) c.args.row.now.nodes.now c.in-Some.known.now c.args.row.now.from (part e) (some e) c.requires.siblings c.total_before-base.result c.args.before b c.requires.before
 
 pub append-requires-clause-part : goal.append-requires-clause-part
 append-requires-clause-part c =
     let e = (goal.at.append-requires-clause-part c).After-total_before-base in
     let b = base e in
-    has_base (nodes_in (new_list c.args.totals.now c.args.places.now)) c.args.row.nodes.now c.in-Some.known.now c.args.row.from (part e) (some e) c.requires.siblings c.total_before-base.result c.args.before b c.requires.before
+    has_base (nodes_in (new_list c.args.totals.now c.args.places.now)) c.args.row.now.nodes.now c.in-Some.known.now c.args.row.now.from (part e) (some e) c.requires.siblings c.total_before-base.result c.args.before b c.requires.before
 
 pub append-requires-clause-new : goal.append-requires-clause-new
 append-requires-clause-new c =
     let e = (goal.at.append-requires-clause-new c).After-total_before-base in
     let b = base e in
-    small_before (nodes_in (new_list c.args.totals.now c.args.places.now)) c.args.row.nodes.now c.in-Some.known.now c.args.row.from (part e) (some e) c.requires.siblings c.total_before-base.result c.args.before b c.requires.before
+    small_before (nodes_in (new_list c.args.totals.now c.args.places.now)) c.args.row.now.nodes.now c.in-Some.known.now c.args.row.now.from (part e) (some e) c.requires.siblings c.total_before-base.result c.args.before b c.requires.before
 
 pub append-requires-clause-fits : goal.append-requires-clause-fits
 append-requires-clause-fits c =
     let e = (goal.at.append-requires-clause-fits c).After-total_before-base in
     let b = base e in
-    part_fits (nodes_in (new_list c.args.totals.now c.args.places.now)) c.args.row.nodes.now c.in-Some.known.now c.args.row.from (part e) (some e) c.requires.siblings c.total_before-base.result c.args.before b c.requires.before
+    part_fits (nodes_in (new_list c.args.totals.now c.args.places.now)) c.args.row.now.nodes.now c.in-Some.known.now c.args.row.now.from (part e) (some e) c.requires.siblings c.total_before-base.result c.args.before b c.requires.before
 
-pub returns-after-loop-k-clause-list : goal.returns-after-loop-k-clause-list
-returns-after-loop-k-clause-list c =
-    let e = (goal.at.returns-after-loop-k-clause-list c).After-total_before-base in
+pub returns-clause-list : goal.returns-clause-list
+returns-clause-list c =
+    let e = (goal.at.returns-clause-list c).After-total_before-base in
     let b = base e in
     let did = c.if-not-branch.false in
-    is_new_list_part (nodes_in (new_list c.args.totals.now c.args.places.now)) c.args.row.nodes.now c.in-Some.known.now c.args.row.from (part e) (some e) c.requires.siblings c.total_before-base.result c.args.before b c.requires.before
-    (new_list c.args.totals.now c.args.places.now) _ c.requires.list refl c.len-count.result c.len-count.ensures (c.in_ok-append-in-Some.ensures.len did) (c.in_ok-append-in-Some.ensures.before did) (c.in_ok-append-in-Some.ensures.behind did) (put_over c.len-count.result c.loop-k.k c.args.places.now c.args.row.nodes.now c.loop-k.places c.loop-k.invariant.long c.loop-k.invariant.front (omega arith)) c.requires.room
+    is_new_list_part (nodes_in (new_list c.args.totals.now c.args.places.now)) c.args.row.now.nodes.now c.in-Some.known.now c.args.row.now.from (part e) (some e) c.requires.siblings c.total_before-base.result c.args.before b c.requires.before
+    (new_list c.args.totals.now c.args.places.now) _ c.requires.list refl c.len-count.result c.len-count.ensures (c.in_ok-append.ensures.len did) (c.in_ok-append.ensures.before did) (c.in_ok-append.ensures.behind did) (put_over c.len-count.result c.loop-k.k c.args.places.now c.args.row.now.nodes.now c.loop-k.places c.loop-k.invariant.long c.loop-k.invariant.front (omega arith)) c.requires.room
 
-pub returns-after-loop-k-clause-nodes : goal.returns-after-loop-k-clause-nodes
-returns-after-loop-k-clause-nodes c =
-    let e = (goal.at.returns-after-loop-k-clause-nodes c).After-total_before-base in
+pub returns-clause-nodes : goal.returns-clause-nodes
+returns-clause-nodes c =
+    let e = (goal.at.returns-clause-nodes c).After-total_before-base in
     let b = base e in
     let did = c.if-not-branch.false in
-    part_in (nodes_in (new_list c.args.totals.now c.args.places.now)) c.args.row.nodes.now c.in-Some.known.now c.args.row.from (part e) (some e) c.requires.siblings c.total_before-base.result c.args.before b c.requires.before
-    (new_list c.args.totals.now c.args.places.now) _ c.requires.list refl c.len-count.result c.len-count.ensures (c.in_ok-append-in-Some.ensures.len did) (c.in_ok-append-in-Some.ensures.before did) (c.in_ok-append-in-Some.ensures.behind did) (put_over c.len-count.result c.loop-k.k c.args.places.now c.args.row.nodes.now c.loop-k.places c.loop-k.invariant.long c.loop-k.invariant.front (omega arith)) c.requires.room
+    part_in (nodes_in (new_list c.args.totals.now c.args.places.now)) c.args.row.now.nodes.now c.in-Some.known.now c.args.row.now.from (part e) (some e) c.requires.siblings c.total_before-base.result c.args.before b c.requires.before
+    (new_list c.args.totals.now c.args.places.now) _ c.requires.list refl c.len-count.result c.len-count.ensures (c.in_ok-append.ensures.len did) (c.in_ok-append.ensures.before did) (c.in_ok-append.ensures.behind did) (put_over c.len-count.result c.loop-k.k c.args.places.now c.args.row.now.nodes.now c.loop-k.places c.loop-k.invariant.long c.loop-k.invariant.front (omega arith)) c.requires.room
 
-pub returns-after-loop-k-clause-total : goal.returns-after-loop-k-clause-total
-returns-after-loop-k-clause-total c =
-    let e = (goal.at.returns-after-loop-k-clause-total c).After-total_before-base in
+pub returns-clause-total : goal.returns-clause-total
+returns-clause-total c =
+    let e = (goal.at.returns-clause-total c).After-total_before-base in
     let b = base e in
     let did = c.if-not-branch.false in
-    part_counted (nodes_in (new_list c.args.totals.now c.args.places.now)) c.args.row.nodes.now c.in-Some.known.now c.args.row.from (part e) (some e) c.requires.siblings c.total_before-base.result c.args.before b c.requires.before
-    (new_list c.args.totals.now c.args.places.now) _ c.requires.list refl c.len-count.result c.len-count.ensures (c.in_ok-append-in-Some.ensures.len did) (c.in_ok-append-in-Some.ensures.before did) (c.in_ok-append-in-Some.ensures.behind did) (put_over c.len-count.result c.loop-k.k c.args.places.now c.args.row.nodes.now c.loop-k.places c.loop-k.invariant.long c.loop-k.invariant.front (omega arith)) c.requires.room
+    part_counted (nodes_in (new_list c.args.totals.now c.args.places.now)) c.args.row.now.nodes.now c.in-Some.known.now c.args.row.now.from (part e) (some e) c.requires.siblings c.total_before-base.result c.args.before b c.requires.before
+    (new_list c.args.totals.now c.args.places.now) _ c.requires.list refl c.len-count.result c.len-count.ensures (c.in_ok-append.ensures.len did) (c.in_ok-append.ensures.before did) (c.in_ok-append.ensures.behind did) (put_over c.len-count.result c.loop-k.k c.args.places.now c.args.row.now.nodes.now c.loop-k.places c.loop-k.invariant.long c.loop-k.invariant.front (omega arith)) c.requires.room
     c.get.result (λ d. rw (← c.len.ensures) (c.get.ensures d))
