@@ -3,17 +3,21 @@ ghost use Rattle.std.specs.Prelude.{◌≡◌, ℕ, ◌+◌, ◌-◌, ◌*◌, �
 ghost use Rattle.rope_text.specs.declared.TheConstants.{MAX_BYTES, MAX_CHILDREN, MIN_TWO_LEAVES_BYTES};
 ghost use Rattle.rope_text.specs.Cuts.{distance};
 ghost use Rattle.rope_text.specs.Dense.{IsDenseBehind, last_bytes};
-ghost use Rattle.rope_tree.specs.Tree.{height_of, IsTree};
+ghost use Rattle.rope_text.specs.Text.{byte_len};
+ghost use Rattle.rope_text.specs.TextInfo.{info_of};
+ghost use Rattle.rope_tree.specs.Tree.{height_of, leaf_tree, IsTree};
 ghost use Rattle.rope_tree.specs.View.{trees_in};
 ghost use Rattle.rope_tree.specs.Siblings.{gathered};
 ghost use Rattle.rope_tree.specs.Rows.{IsRow};
 ghost use Rattle.rope_join.specs.Join.{CanJoin, CanMerge, EndsIn, BeginsIn, IsNear, IsUnion, IsJoin};
 ghost use Rattle.rope_join.specs.Cut.{AreGatherable};
 
-use rope_text::{MAX_BYTES, MAX_CHILDREN, MIN_BYTES, MIN_CHILDREN, MIN_TWO_LEAVES_BYTES};
+use rope_text::{
+    LineBreaks, MAX_BYTES, MAX_CHILDREN, MIN_BYTES, MIN_CHILDREN, MIN_TWO_LEAVES_BYTES, TextInfo,
+};
 use rope_tree::{
-    Made, Maker, Node, NodeText, Nodes, Row, View, gather_rows, make_leaf, pack, pack_first,
-    pack_last, pack_over, root_of,
+    Made, Maker, Node, NodeText, Nodes, Row, ShortText, View, gather_rows, make_leaf, pack,
+    pack_first, pack_last, pack_over, root_of,
 };
 
 /// How many bytes a tree's last leaf has, or its first. Where two trees meet, the two leaves have
@@ -30,6 +34,27 @@ pub(crate) fn end_leaf_len(node: &Node, is_last: bool) -> usize
         View::Inner(children, _) if is_last => end_leaf_len(&children[children.len() - 1], true),
         View::Inner(children, _) => end_leaf_len(&children[0], false),
     }
+}
+
+/// A leaf of two texts, one behind the other. Never inlined, since its caller would clear stack for
+/// the text at each call.
+#[inline(never)]
+fn leaf_of_both(
+    maker: &mut Maker,
+    breaks: LineBreaks,
+    first: &ShortText<'_>,
+    second: &ShortText<'_>,
+    info: TextInfo,
+) -> Made<Node>
+    requires fits { byte_len first.now + byte_len second.now ≤ MAX_BYTES }
+    requires info { info ≡ info_of breaks (first.now ++ second.now) }
+    ensures ok { IfOk result (λ node. node ≡ leaf_tree breaks (first.now ++ second.now)) }
+    ensures tree { IfOk result (λ node. IsTree node) }
+    ensures made { maker.new.made ≤ maker.old.made + 1 }
+{
+    let mut text = NodeText::from_str(first.as_str());
+    text.push_str(second.as_str());
+    make_leaf(maker, breaks, text.as_str(), info)
 }
 
 /// Two trees of one height as one tree or two of that height. Two leaves become one, if they fit
@@ -51,9 +76,7 @@ fn merge(maker: &mut Maker, left: &Node, right: &Node) -> Made<Nodes>
             let is_short = first.len() < MIN_BYTES || second.len() < MIN_BYTES;
             if first.len() + second.len() <= MAX_BYTES && is_short {
                 let info = left.info().plus(right.info());
-                let mut text = NodeText::from_str(first.as_str());
-                text.push_str(second.as_str());
-                let node = make_leaf(maker, left.line_breaks(), text.as_str(), info)?;
+                let node = leaf_of_both(maker, left.line_breaks(), &first, &second, info)?;
                 return Ok(Nodes::One(node));
             }
             Ok(Nodes::Two(left.share()?, right.share()?))

@@ -189,10 +189,3 @@ module _ (xs ts : List Tree) (totals : List TextInfo) (from : ℕ) (p : IsPart t
           totals_right = rw part_in part_totals;
           places = rw behind (All-drop IsFlat (length ts) (drop (length a.totals) a.nodes) i.places);
         }
-
-    pub part_counted : (total : TextInfo) → ((d : TextInfo) → total ≡ get_or b.totals (length b.totals - 1) d) → IsTotalOf (nodes_in b) total
-    part_counted total is =
-        let us = xs ++ ts in
-        let n : length b.totals - 1 + 1 ≡ length us = omega (arith, longer, length-append xs ts, some) in
-        let counts = is total ∙ part_totals.total_at (length b.totals - 1) total (omega (arith, longer, length-append xs ts, some)) ∙ ap (λ k. info_of (breaks_of us) (joined (take k us))) n ∙ ap (λ l. info_of (breaks_of us) (joined l)) (take-length us) in
-        subst (λ l. IsTotalOf l total) (sym part_in) (record { none = λ e. absurd (omega (arith, e, length-append xs ts, some)); all = λ _. counts })

@@ -19,6 +19,7 @@ use Rattle.rope_tree.proofs.LeafLaws.{leaves_seam, all_right, no_leaves}
 use Rattle.rope_tree.proofs.Infos.{small_info}
 use Rattle.rope_tree.proofs.NodeLaws.{leaves_of-append, joined-append, joined_one, totals_more, children_of_first}
 use Rattle.rope_tree.proofs.SiblingLaws.{byte_len-append, siblings_left}
+use Rattle.rope_tree.proofs.Descents.{front_is}
 
 -- the counts with one more tree
 pub counts_more : (b : LineBreaks) (xs : List Tree) (x : Tree) → AreLeaves (leaves_of (xs ++ x ∷ [])) → info_of b (joined (xs ++ x ∷ [])) ≡ info_sum (info_of b (joined xs)) (info_of b (text x))
@@ -31,6 +32,18 @@ counts_more b xs x a =
 front_counts : (xs : List Tree) (x : Tree) (before : TextInfo) → IsTotalOf xs before → before ≡ info_of (breaks_of (xs ++ x ∷ [])) (joined xs)
 front_counts [] x before is = is.none refl x.breaks
 front_counts (t ∷ ts) x before is = is.all (omega arith)
+
+-- the last total of a list counts all its nodes
+pub last_counts_all : (a : NewList) (m : ℕ) (total : TextInfo) → IsNewList a → m ≡ length a.totals
+    → (m ≡ 0 → (s : LineBreaks) → total ≡ info_of s []) → ((d : TextInfo) → 0 < m → total ≡ get_or a.totals (m - 1) d) → IsTotalOf (nodes_in a) total
+last_counts_all a m total i e first later =
+    let ts = nodes_in a in
+    let many : m ≡ length ts = e ∙ i.totals_right.as_many in
+    record {
+      none = λ z. first (omega (arith, many, z));
+      all = λ some. front_is (breaks_of ts) a.totals ts m total i.totals_right (omega (arith, e)) first later
+          ∙ ap (λ us. info_of (breaks_of ts) (joined us)) (take_all m ts (omega (arith, many)));
+    }
 
 -- with one more tree behind them the totals stay right
 kept : (x : Tree) (xs : List Tree) (totals : List TextInfo) → HasTotals (breaks_of xs) totals xs → HasTotals (breaks_of (xs ++ x ∷ [])) totals xs

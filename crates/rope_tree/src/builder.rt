@@ -4,7 +4,7 @@ ghost use Rattle.std.specs.Str.{chars, IsCharBoundary};
 ghost use Rattle.rope_text.specs.declared.TheConstants.{MAX_BYTES, MIN_CUT_BYTES};
 ghost use Rattle.rope_text.specs.Text.{byte_len};
 ghost use Rattle.rope_text.specs.Cutting.{parts_crlf};
-ghost use Rattle.rope_tree.specs.Tree.{text, joined, leaves_of, IsTree};
+ghost use Rattle.rope_tree.specs.Tree.{text, joined, leaf_tree, leaves_of, IsTree};
 ghost use Rattle.rope_tree.specs.Fronts.{AreFrontNodes};
 
 use crate::build::root_over;
@@ -22,52 +22,55 @@ const MAX_AHEAD_BYTES: usize = MAX_BYTES + 4;
 // A rest, of at most a leaf's bytes, and what is looked at behind it.
 const MAX_SEAM_BYTES: usize = MAX_BYTES + MAX_AHEAD_BYTES;
 
-// A leaf's text that was cut off the front of a rest and the text behind it.
+// A leaf that was cut off a rest and the text behind it, and how many bytes of the text are in it.
 #[derive(Drop)]
 struct SeamCut {
-    leaf: NodeText,
-    // what of the rest is behind the leaf
-    behind: NodeText,
-    // how many bytes of the text are in it
+    leaf: Node,
     taken: usize,
 }
 
-// Cuts the first leaf off a text that begins with `rest` and goes on with `text`.
-fn cut_at_seam(rest: &NodeText, text: &str) -> SeamCut
-    requires { MAX_BYTES < byte_len rest.now + length text.now }
-    ensures boundary { IsCharBoundary text.now result.taken }
-    ensures whole { result.leaf ++ (result.behind ++ chars (drop result.taken text.now))
-        ≡ rest.now ++ chars text.now }
-    ensures apart { parts_crlf result.leaf (result.behind ++ chars (drop result.taken text.now))
-        ≡ false }
-    ensures long { MIN_CUT_BYTES ≤ byte_len result.leaf }
-    ensures short { byte_len result.leaf ≤ MAX_BYTES }
-    ensures left { byte_len result.leaf
-        + (byte_len result.behind + (length text.now - result.taken))
-        ≡ byte_len rest.now + length text.now }
+// Cuts the first leaf off a text that begins with `rest` and goes on with `added`. In `rest` stays
+// what of it is behind the leaf. Never inlined: its caller would clear stack for its texts at each
+// call.
+#[inline(never)]
+fn cut_at_seam(
+    maker: &mut Maker,
+    breaks: LineBreaks,
+    rest: &mut NodeText,
+    added: &str,
+) -> Made<SeamCut>
+    requires { MAX_BYTES < byte_len rest.old + length added.now }
+    ensures leaf { IfOk result (λ cut. cut.leaf ≡ leaf_tree breaks (text cut.leaf)) }
+    ensures tree { IfOk result (λ cut. IsTree cut.leaf) }
+    ensures boundary { IfOk result (λ cut. IsCharBoundary added.now cut.taken) }
+    ensures whole { IfOk result (λ cut.
+        text cut.leaf ++ (rest.new ++ chars (drop cut.taken added.now))
+        ≡ rest.old ++ chars added.now) }
+    ensures apart { IfOk result (λ cut.
+        parts_crlf (text cut.leaf) (rest.new ++ chars (drop cut.taken added.now)) ≡ false) }
+    ensures long { IfOk result (λ cut. MIN_CUT_BYTES ≤ byte_len (text cut.leaf)) }
+    ensures short { IfOk result (λ cut. byte_len (text cut.leaf) ≤ MAX_BYTES) }
+    ensures left { IfOk result (λ cut. byte_len (text cut.leaf)
+        + (byte_len rest.new + (length added.now - cut.taken))
+        ≡ byte_len rest.old + length added.now) }
 {
     let first = rest.as_str();
-    let ahead_len = if text.len() <= MAX_AHEAD_BYTES {
-        text.len()
+    let ahead_len = if added.len() <= MAX_AHEAD_BYTES {
+        added.len()
     } else {
-        prev_break(MAX_AHEAD_BYTES + 1, text.as_bytes())
+        prev_break(MAX_AHEAD_BYTES + 1, added.as_bytes())
     };
-    let ahead = text_of_parts::<MAX_SEAM_BYTES>(first, &text[..ahead_len], "");
+    let ahead = text_of_parts::<MAX_SEAM_BYTES>(first, &added[..ahead_len], "");
     let ahead = ahead.as_str();
     let len = first_leaf_len(ahead);
-    let leaf = NodeText::from_str(&ahead[..len]);
+    let leaf = leaf_of(maker, breaks, &ahead[..len])?;
     if len < first.len() {
-        return SeamCut {
-            leaf,
-            behind: NodeText::from_str(&first[len..]),
-            taken: 0,
-        };
+        *rest = NodeText::from_str(&first[len..]);
+        return Ok(SeamCut { leaf, taken: 0 });
     }
-    SeamCut {
-        leaf,
-        behind: NodeText::new(),
-        taken: len - first.len(),
-    }
+    let taken = len - first.len();
+    *rest = NodeText::new();
+    Ok(SeamCut { leaf, taken })
 }
 
 // Moves the front of a text, perhaps nothing, behind `rest`, so that the two are a whole leaf, and
@@ -132,13 +135,8 @@ fn cut_leaves(
             rest.set("");
             left = &left[taken..];
         } else {
-            let SeamCut {
-                leaf,
-                behind,
-                taken,
-            } = cut_at_seam(rest, left);
-            leaves.push(leaf_of(&mut maker, breaks, leaf.as_str())?)?;
-            *rest = behind;
+            let SeamCut { leaf, taken } = cut_at_seam(&mut maker, breaks, rest, left)?;
+            leaves.push(leaf)?;
             left = &left[taken..];
         }
     }

@@ -2,7 +2,7 @@
 ghost use Rattle.std.specs.Prelude.{◌≡◌, ◌+◌, ◌*◌, ◌^◌, ◌<◌, ◌≤◌, ◌++◌, [], length, take, drop, IfOk, OnOk};
 ghost use Rattle.rope_text.specs.declared.TheConstants.{MAX_CHILDREN};
 ghost use Rattle.rope_tree.specs.Tree.{breaks_of, leaves_of, tree_over, AreFamily};
-ghost use Rattle.rope_tree.specs.Totals.{HasTotals, IsTotalOf};
+ghost use Rattle.rope_tree.specs.Totals.{HasTotals};
 ghost use Rattle.rope_tree.specs.View.{trees_in};
 ghost use Rattle.rope_tree.specs.Siblings.{AreLevel, AreOver, gathered};
 ghost use Rattle.rope_tree.specs.Rows.{IsRow};
@@ -10,7 +10,7 @@ ghost use Rattle.rope_tree.specs.NewList.{new_list, nodes_in, IsNewList};
 
 use super::{Children, Form, Node, Nodes};
 use crate::{Made, Maker, Totals, total_before};
-use rope_text::{LineBreaks, MAX_CHILDREN, TextInfo};
+use rope_text::{LineBreaks, MAX_CHILDREN};
 use std::alloc::{AllocError, Global};
 use std::mem;
 use std::rc::Rc;
@@ -25,27 +25,19 @@ pub struct Row<'a> {
     pub from: usize,
 }
 
-/// Shares nodes, and appends them to a list whose counts the caller knows. Returns the counts with
-/// them, so that no total is loaded that was just stored.
+/// Shares nodes, and appends them to a list. Their counts are added up beside it, so that no total
+/// is loaded that was just stored.
 #[inline(always)]
-fn push_all(
-    alloc: Global,
-    totals: &mut Totals,
-    places: &mut [Node],
-    nodes: &[Node],
-    before: TextInfo,
-) -> Made<TextInfo>
+fn push_all(alloc: Global, totals: &mut Totals, places: &mut [Node], nodes: &[Node]) -> Made<()>
     requires list { IsNewList (new_list totals.old places.old) }
     requires room { length (nodes_in (new_list totals.old places.old)) + length nodes.now
         ≤ MAX_CHILDREN }
-    requires before { IsTotalOf (nodes_in (new_list totals.old places.old)) before }
     requires siblings { AreLevel (nodes_in (new_list totals.old places.old) ++ nodes.now) }
     ensures list { OnOk result (IsNewList (new_list totals.new places.new)) }
     ensures nodes { OnOk result (nodes_in (new_list totals.new places.new)
         ≡ nodes_in (new_list totals.old places.old) ++ nodes.now) }
-    ensures total { IfOk result (IsTotalOf (nodes_in (new_list totals.new places.new))) }
 {
-    let mut total = before;
+    let mut total = total_before(totals, totals.len());
     for node in nodes {
         let count = totals.len();
         let shared = node.share()?;
@@ -53,45 +45,38 @@ fn push_all(
         totals.push(alloc, total)?;
         places[count] = shared;
     }
-    Ok(total)
+    Ok(())
 }
 
 /// The same with a row: if its totals are known, they are copied in one piece.
-fn push_row(
-    alloc: Global,
-    totals: &mut Totals,
-    places: &mut [Node],
-    row: &Row<'_>,
-    before: TextInfo,
-) -> Made<TextInfo>
+fn push_row(alloc: Global, totals: &mut Totals, places: &mut [Node], row: &Row<'_>) -> Made<()>
     requires list { IsNewList (new_list totals.old places.old) }
     requires room { length (nodes_in (new_list totals.old places.old)) + length row.now.nodes.now
         ≤ MAX_CHILDREN }
     requires row { IsRow row.now }
-    requires before { IsTotalOf (nodes_in (new_list totals.old places.old)) before }
     requires siblings { AreLevel (nodes_in (new_list totals.old places.old) ++ row.now.nodes.now) }
     ensures list { OnOk result (IsNewList (new_list totals.new places.new)) }
     ensures nodes { OnOk result (nodes_in (new_list totals.new places.new)
         ≡ nodes_in (new_list totals.old places.old) ++ row.now.nodes.now) }
-    ensures total { IfOk result (IsTotalOf (nodes_in (new_list totals.new places.new))) }
 {
     let nodes = row.nodes;
     if nodes.is_empty() {
-        return Ok(before);
+        return Ok(());
     }
     let Some(known) = row.totals else {
-        return push_all(alloc, totals, places, nodes, before);
+        return push_all(alloc, totals, places, nodes);
     };
     let base = total_before(known, row.from);
     let count = totals.len();
+    let before = total_before(totals, count);
     if !totals.append(alloc, known, row.from, nodes.len(), base, before)? {
-        return push_all(alloc, totals, places, nodes, before);
+        return push_all(alloc, totals, places, nodes);
     }
     let places = &mut places[count..count + nodes.len()];
     for k in 0..nodes.len() {
         places[k] = nodes[k].share()?;
     }
-    Ok(totals.get(totals.len() - 1))
+    Ok(())
 }
 
 /// Three rows of nodes, one behind the other.
@@ -146,10 +131,9 @@ pub(super) fn list_of(maker: &mut Maker, rows: &Rows<'_>) -> Made<Rc<Children>>
     };
     let alloc = maker.alloc;
     let (totals, places) = (&mut children.totals, &mut children.nodes);
-    let (before, middle, after) = (&rows.0, &rows.1, &rows.2);
-    if let Ok(total) = push_row(alloc, totals, places, before, TextInfo::new())
-        && let Ok(total) = push_row(alloc, totals, places, middle, total)
-        && push_row(alloc, totals, places, after, total).is_ok()
+    if push_row(alloc, totals, places, &rows.0).is_ok()
+        && push_row(alloc, totals, places, &rows.1).is_ok()
+        && push_row(alloc, totals, places, &rows.2).is_ok()
     {
         children.height = (children.nodes[0].height() + 1) as u8;
         children.breaks = children.nodes[0].line_breaks();

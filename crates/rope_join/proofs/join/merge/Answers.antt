@@ -1,4 +1,4 @@
-use Rattle.std.proofs.Common.{ap, ap₂, ◌∙◌, ◌++◌, ◌+◌, ◌≤◌, arith, sym, ◌≡◌}
+use Rattle.std.proofs.Common.{refl, ap, ap₂, ◌∙◌, ◌++◌, ◌+◌, ◌≤◌, arith, sym}
 use Rattle.rope_text.specs.TextInfo.{info_of}
 use Rattle.rope_tree.specs.Search.{IsSmall}
 use Rattle.rope_tree.proofs.Infos.{small_info, sum_of_small}
@@ -10,7 +10,7 @@ use Rattle.rope_join.specs.Join.{IsUnion}
 use Rattle.rope_tree.proofs.LastCalls.{both_ok}
 use Rattle.rope_join.proofs.Unions.{merged_leaves, kept, leaves_near, inner_siblings, inner_union}
 use Rattle.std.proofs.lemmas.Bool.Decides.{nat_tests}
-use Rattle.rope_join.proofs.join.merge.Goals.{After-info-then-is_short, After-push_str, In-Inner-view, then-len-lt-MIN_BYTES, else-len-lt-MIN_BYTES, else-len-le-MAX_BYTES-via-then-len-le-MAX_BYTES+else-is_short, else-len-le-MAX_BYTES-via-else-len-le-MAX_BYTES}
+use Rattle.rope_join.proofs.join.merge.Goals.{After-info-then-is_short, In-Inner-view, then-len-lt-MIN_BYTES, else-len-lt-MIN_BYTES, else-len-le-MAX_BYTES-via-then-len-le-MAX_BYTES+else-is_short, else-len-le-MAX_BYTES-via-else-len-le-MAX_BYTES}
 use Rattle.rope_join.proofs.join.merge.Goals as goal
 
 both : (c : After-info-then-is_short) → IsSmall c.info.result × IsSmall c.info-then-is_short.result
@@ -35,23 +35,19 @@ returns-else-first-ge-MIN_CHILDREN-clause-union c =
     inner_union _ _ _ _ c.in-Inner.ensures.is c.in-Inner-view.ensures.is c.in-Inner.ensures.children c.in-Inner-view.ensures.children c.requires.join c.requires.merge.level near _
     (rw (c.of-before.ensures.nodes, c.none.ensures.nodes, c.of-after.ensures.nodes) at leaves) (rw (c.of-before.ensures.nodes, c.none.ensures.nodes, c.of-after.ensures.nodes) at shape)) c.pack_over.ensures.leaves c.pack_over.ensures.shape
 
-new_text : (c : After-push_str) → c.push_str.new.self ≡ c.in-Leaf.first ++ c.in-Leaf-view.second
-new_text c = c.push_str.ensures.value ∙ ap₂ (λ s t. s ++ t) (c.from_str-text.ensures.value ∙ c.as_str.ensures.chars) c.as_str-then-is_short.ensures.chars
-
-pub make_leaf-requires-clause-info : goal.make_leaf-requires-clause-info
-make_leaf-requires-clause-info c =
+pub leaf_of_both-requires-clause-info : goal.leaf_of_both-requires-clause-info
+leaf_of_both-requires-clause-info c =
     let left = c.args.left.now in
     let right = c.args.right.now in
-    let e = (goal.at.make_leaf-requires-clause-info c).After-push_str in
     let parts = ap₂ (λ s t. s ++ t) (text_of_leaf _ left c.in-Leaf.first c.in-Leaf.ensures.is) (text_of_leaf _ right c.in-Leaf-view.second c.in-Leaf-view.ensures.is) in
     c.plus-info.ensures.joined left.breaks (text left) (text right) c.info.ensures.value (c.info-then-is_short.ensures.value ∙ ap (λ b. info_of b (text right)) c.requires.join.same_breaks) c.requires.join.seam.apart
-    ∙ ap₂ info_of (sym c.line_breaks.ensures) (parts ∙ sym (new_text e) ∙ sym c.as_str-then-is_short-2.ensures.chars)
+    ∙ ap₂ info_of (sym c.line_breaks.ensures) parts
 
 pub returns-then-is_short-clause-union : goal.returns-then-is_short-clause-union
 returns-then-is_short-clause-union c =
     let right = c.in-Leaf-view.ensures.is ∙ ap (λ b. leaf_tree b c.in-Leaf-view.second) c.requires.join.same_breaks in
-    let one = c.in_ok-node-in-Leaf.ensures.ok ∙ ap₂ leaf_tree c.line_breaks.ensures c.as_str-then-is_short-2.ensures.chars in
-    merged_leaves c.args.left.now.breaks _ _ _ _ _ _ c.in-Leaf.ensures.is right (new_text (goal.at.returns-then-is_short-clause-union c).After-push_str) one c.in_ok-node-in-Leaf.ensures.tree c.requires.left_some c.requires.right_some
+    let one = c.in_ok-node-in-Leaf.ensures.ok ∙ ap (λ b. leaf_tree b (c.in-Leaf.first ++ c.in-Leaf-view.second)) c.line_breaks.ensures in
+    merged_leaves c.args.left.now.breaks _ _ _ _ _ _ c.in-Leaf.ensures.is right refl one c.in_ok-node-in-Leaf.ensures.tree c.requires.left_some c.requires.right_some
 
 pub returns-then-first-second-gt-MAX_CHILDREN-clause-union : goal.returns-then-first-second-gt-MAX_CHILDREN-clause-union
 returns-then-first-second-gt-MAX_CHILDREN-clause-union c =

@@ -3,7 +3,7 @@ use Rattle.std.proofs.Common.{◌≡◌, ◌∙◌, ◌+◌, ◌++◌, [], ◌�
 use Rattle.std.specs.Str.{chars}
 use Rattle.rope_text.specs.Text.{byte_len}
 use Rattle.rope_text.specs.Cutting.{parts_crlf}
-use Rattle.rope_tree.specs.Tree.{leaf_tree, leaves_of}
+use Rattle.rope_tree.specs.Tree.{text, leaf_tree, leaves_of}
 use Rattle.rope_tree.specs.Fronts.{AreFrontNodes}
 use Rattle.rope_tree.proofs.BuildLaws.{nodes_cut, nodes_front}
 use Rattle.rope_tree.proofs.FrontLaws.{no_bytes}
@@ -58,23 +58,24 @@ loop-left-preserved-in-Some c =
 pub loop-left-preserved : goal.loop-left-preserved
 loop-left-preserved c =
     let before = c.loop-left.invariant in
-    let front = c.cut_at_seam-leaf in
-    let f = front.result in
+    let cut = c.in_ok-leaf in
+    let leaf = cut.field-0.leaf in
+    let taken = cut.field-0.taken in
+    let behind = c.cut_at_seam.new.rest in
     let as_before : c.fill_up.new.rest ≡ c.loop-left.rest = c.in_default.ensures.kept in
-    let node = c.in_ok-leaf_of-3.field-0 in
     let rest = c.range_from-left-in_default in
     let pushed = c.in_ok-push-3.ensures.items in
-    let same = ap (λ bs. f.behind ++ chars bs) rest.ensures.value in
-    let more = nodes_front c.args.breaks _ c.loop-left.leaves.items _ f.leaf (f.behind ++ chars rest.result.now) node
-    before.nodes (ap (λ y. f.leaf ++ y) same ∙ front.ensures.whole ∙ ap (λ x. x ++ chars c.loop-left.left.now) as_before) (omega (arith, front.ensures.long)) record { apart = ap (λ y. parts_crlf f.leaf y) same ∙ front.ensures.apart } (λ _. omega (arith, front.ensures.long)) (c.in_ok-leaf_of-3.ensures.ok ∙ ap (leaf_tree c.args.breaks) c.as_str-in_default.ensures.chars) c.in_ok-leaf_of-3.ensures.tree in
-    let len : length rest.result.now + f.taken ≡ length c.loop-left.left.now = omega (arith, rest.ensures.len, front.ensures.boundary.0) in
+    let same = ap (λ bs. behind ++ chars bs) rest.ensures.value in
+    let more = nodes_front c.args.breaks _ c.loop-left.leaves.items _ (text leaf) (behind ++ chars rest.result.now) leaf
+    before.nodes (ap (λ y. text leaf ++ y) same ∙ cut.ensures.whole ∙ ap (λ x. x ++ chars c.loop-left.left.now) as_before) (omega (arith, cut.ensures.long)) record { apart = ap (λ y. parts_crlf (text leaf) y) same ∙ cut.ensures.apart } (λ _. omega (arith, cut.ensures.long)) cut.ensures.leaf cut.ensures.tree in
+    let len : length rest.result.now + taken ≡ length c.loop-left.left.now = omega (arith, rest.ensures.len, cut.ensures.boundary.0) in
     let bytes = ap byte_len as_before in
     record {
       utf8 = rest.utf8;
       within = omega (arith, len, before.within);
-      some = omega (arith, len, bytes, front.ensures.left, front.ensures.short, c.loop-left-test.true, c.len.ensures.value);
+      some = omega (arith, len, bytes, cut.ensures.left, cut.ensures.short, c.loop-left-test.true, c.len.ensures.value);
       nodes = rw pushed more.0;
-      long = omega (arith, len, bytes, front.ensures.left, front.ensures.long, ap (λ ts. length (leaves_of ts)) pushed, more.1, before.long);
+      long = omega (arith, len, bytes, cut.ensures.left, cut.ensures.long, ap (λ ts. length (leaves_of ts)) pushed, more.1, before.long);
     }
 
 pub loop-left-smaller-in-Some : goal.loop-left-smaller-in-Some

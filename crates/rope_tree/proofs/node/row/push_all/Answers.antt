@@ -1,11 +1,11 @@
 use Rattle.std.proofs.Common.{◌≡◌, ◌+◌, ◌<◌, ◌++◌, ◌∙◌, [], ◌∷◌, length, get_or, take, add-one, sym, ap, refl, arith}
-use Rattle.std.proofs.lemmas.List.{append_assoc, length-append, length-take-le}
+use Rattle.std.proofs.lemmas.List.{append-nil, append_assoc, length-append, length-take-le}
 use Rattle.std.proofs.Math.Seq.{take-suc}
 use Rattle.rope_tree.specs.Tree.{breaks_of, height_of}
 use Rattle.rope_tree.specs.Siblings.{AreSiblings}
 use Rattle.rope_tree.specs.NewList.{NewList, new_list, nodes_in}
 use Rattle.rope_tree.proofs.NodeLaws.{same_at}
-use Rattle.rope_tree.proofs.RowLaws.{AddsTree, adds_tree, total_more, more_in, is_new_list_more, next_siblings}
+use Rattle.rope_tree.proofs.RowLaws.{last_counts_all, AddsTree, adds_tree, total_more, more_in, is_new_list_more, next_siblings}
 use Rattle.rope_tree.proofs.node.row.push_all.Goals.{After-info}
 use Rattle.rope_tree.proofs.Infos.{small_sum}
 use Rattle.rope_tree.proofs.node.row.push_all.Goals as goal
@@ -29,6 +29,13 @@ room : (c : After-info) → length (nodes_in (so_far c)) < 24
 room c =
     let front = take c.loop-node.node-index c.args.nodes.now in
     omega (arith, c.requires.room, ap length c.loop-node.invariant.nodes, length-append (nodes_in (new_list c.args.totals.now c.args.places.now)) front, length-take-le c.loop-node.node-index c.args.nodes.now (omega arith), c.loop-node-test.true)
+
+pub loop-node-init : goal.loop-node-init
+loop-node-init c = record {
+  list = c.requires.list;
+  nodes = sym (append-nil (nodes_in (new_list c.args.totals.now c.args.places.now)));
+  total = last_counts_all (new_list c.args.totals.now c.args.places.now) c.len.result c.total_before-total.result c.requires.list c.len.ensures c.total_before-total.ensures.first c.total_before-total.ensures.later;
+}
 
 pub plus-total-requires : goal.plus-total-requires
 plus-total-requires c = small_sum _ _ (next c).small_sum

@@ -6,11 +6,13 @@ use Rattle.rope_text.specs.TextInfo.{info_of}
 use Rattle.rope_tree.specs.Tree.{Tree, joined, breaks_of}
 use Rattle.rope_tree.specs.NewList.{new_list, nodes_in}
 use Rattle.rope_tree.specs.Rows.{IsPart}
+use Rattle.rope_tree.specs.Totals.{IsTotalOf}
 use Rattle.rope_tree.proofs.NodeLaws.{small_totals}
 use Rattle.rope_tree.proofs.SiblingLaws.{byte_len-append}
 use Rattle.rope_tree.proofs.Descents.{front_is}
-use Rattle.rope_tree.proofs.PartLaws.{small_before, small_part, has_base, part_fits, part_in, is_new_list_part, part_counted}
-use Rattle.rope_tree.proofs.node.row.push_row.Goals.{After-total_before-base}
+use Rattle.rope_tree.proofs.PartLaws.{small_before, small_part, has_base, part_fits, part_in, is_new_list_part}
+use Rattle.rope_tree.proofs.RowLaws.{last_counts_all}
+use Rattle.rope_tree.proofs.node.row.push_row.Goals.{After-total_before-before}
 use Rattle.rope_tree.proofs.node.row.push_row.Goals as goal
 
 -- nodes put in the places of as many others
@@ -22,16 +24,21 @@ put_over count k places nodes now len front le =
     rw (same, many, drop-drop (length nodes) count places) refl
 
 -- the row's totals are those of a node of which it is a part
-part : (c : After-total_before-base) → IsPart c.args.row.now.nodes.now c.in-Some.known.now c.args.row.now.from
+part : (c : After-total_before-before) → IsPart c.args.row.now.nodes.now c.in-Some.known.now c.args.row.now.from
 part c = subst (λ o. IfSome o (λ totals. IsPart c.args.row.now.nodes.now totals.now c.args.row.now.from)) c.in-Some.is c.requires.row
 
-some : (c : After-total_before-base) → 1 ≤ length c.args.row.now.nodes.now
+some : (c : After-total_before-before) → 1 ≤ length c.args.row.now.nodes.now
 some c = grind (arith, common_steps)
 
-base : (c : After-total_before-base) → c.total_before-base.result ≡ info_of (breaks_of (part c).whole) (joined (take c.args.row.now.from (part c).whole))
+base : (c : After-total_before-before) → c.total_before-base.result ≡ info_of (breaks_of (part c).whole) (joined (take c.args.row.now.from (part c).whole))
 base c =
     let p = part c in
     front_is (breaks_of p.whole) c.in-Some.known.now p.whole c.args.row.now.from c.total_before-base.result p.totals_right (omega (arith, p.within, p.totals_right.as_many)) c.total_before-base.ensures.first c.total_before-base.ensures.later
+
+-- the counts of the list's nodes
+told : (c : After-total_before-before) → IsTotalOf (nodes_in (new_list c.args.totals.now c.args.places.now)) c.total_before-before.result
+told c =
+    last_counts_all (new_list c.args.totals.now c.args.places.now) c.len-count.result c.total_before-before.result c.requires.list c.len-count.ensures c.total_before-before.ensures.first c.total_before-before.ensures.later
 
 pub append-requires-clause-small : goal.append-requires-clause-small
 append-requires-clause-small c =
@@ -40,49 +47,40 @@ append-requires-clause-small c =
 
 pub append-requires-clause-small_others : goal.append-requires-clause-small_others
 append-requires-clause-small_others c =
-    let e = (goal.at.append-requires-clause-small_others c).After-total_before-base in
+    let e = (goal.at.append-requires-clause-small_others c).After-total_before-before in
     let b = base e in
-    small_part (nodes_in (new_list c.args.totals.now c.args.places.now)) c.args.row.now.nodes.now c.in-Some.known.now c.args.row.now.from (part e) (some e) c.requires.siblings c.total_before-base.result c.args.before b c.requires.before
+    small_part (nodes_in (new_list c.args.totals.now c.args.places.now)) c.args.row.now.nodes.now c.in-Some.known.now c.args.row.now.from (part e) (some e) c.requires.siblings c.total_before-base.result c.total_before-before.result b (told e)
 
 pub append-requires-clause-part : goal.append-requires-clause-part
 append-requires-clause-part c =
-    let e = (goal.at.append-requires-clause-part c).After-total_before-base in
+    let e = (goal.at.append-requires-clause-part c).After-total_before-before in
     let b = base e in
-    has_base (nodes_in (new_list c.args.totals.now c.args.places.now)) c.args.row.now.nodes.now c.in-Some.known.now c.args.row.now.from (part e) (some e) c.requires.siblings c.total_before-base.result c.args.before b c.requires.before
+    has_base (nodes_in (new_list c.args.totals.now c.args.places.now)) c.args.row.now.nodes.now c.in-Some.known.now c.args.row.now.from (part e) (some e) c.requires.siblings c.total_before-base.result c.total_before-before.result b (told e)
 
 pub append-requires-clause-new : goal.append-requires-clause-new
 append-requires-clause-new c =
-    let e = (goal.at.append-requires-clause-new c).After-total_before-base in
+    let e = (goal.at.append-requires-clause-new c).After-total_before-before in
     let b = base e in
-    small_before (nodes_in (new_list c.args.totals.now c.args.places.now)) c.args.row.now.nodes.now c.in-Some.known.now c.args.row.now.from (part e) (some e) c.requires.siblings c.total_before-base.result c.args.before b c.requires.before
+    small_before (nodes_in (new_list c.args.totals.now c.args.places.now)) c.args.row.now.nodes.now c.in-Some.known.now c.args.row.now.from (part e) (some e) c.requires.siblings c.total_before-base.result c.total_before-before.result b (told e)
 
 pub append-requires-clause-fits : goal.append-requires-clause-fits
 append-requires-clause-fits c =
-    let e = (goal.at.append-requires-clause-fits c).After-total_before-base in
+    let e = (goal.at.append-requires-clause-fits c).After-total_before-before in
     let b = base e in
-    part_fits (nodes_in (new_list c.args.totals.now c.args.places.now)) c.args.row.now.nodes.now c.in-Some.known.now c.args.row.now.from (part e) (some e) c.requires.siblings c.total_before-base.result c.args.before b c.requires.before
+    part_fits (nodes_in (new_list c.args.totals.now c.args.places.now)) c.args.row.now.nodes.now c.in-Some.known.now c.args.row.now.from (part e) (some e) c.requires.siblings c.total_before-base.result c.total_before-before.result b (told e)
 
 pub returns-clause-list : goal.returns-clause-list
 returns-clause-list c =
-    let e = (goal.at.returns-clause-list c).After-total_before-base in
+    let e = (goal.at.returns-clause-list c).After-total_before-before in
     let b = base e in
     let did = c.if-not-branch.false in
-    is_new_list_part (nodes_in (new_list c.args.totals.now c.args.places.now)) c.args.row.now.nodes.now c.in-Some.known.now c.args.row.now.from (part e) (some e) c.requires.siblings c.total_before-base.result c.args.before b c.requires.before
+    is_new_list_part (nodes_in (new_list c.args.totals.now c.args.places.now)) c.args.row.now.nodes.now c.in-Some.known.now c.args.row.now.from (part e) (some e) c.requires.siblings c.total_before-base.result c.total_before-before.result b (told e)
     (new_list c.args.totals.now c.args.places.now) _ c.requires.list refl c.len-count.result c.len-count.ensures (c.in_ok-append.ensures.len did) (c.in_ok-append.ensures.before did) (c.in_ok-append.ensures.behind did) (put_over c.len-count.result c.loop-k.k c.args.places.now c.args.row.now.nodes.now c.loop-k.places c.loop-k.invariant.long c.loop-k.invariant.front (omega arith)) c.requires.room
 
 pub returns-clause-nodes : goal.returns-clause-nodes
 returns-clause-nodes c =
-    let e = (goal.at.returns-clause-nodes c).After-total_before-base in
+    let e = (goal.at.returns-clause-nodes c).After-total_before-before in
     let b = base e in
     let did = c.if-not-branch.false in
-    part_in (nodes_in (new_list c.args.totals.now c.args.places.now)) c.args.row.now.nodes.now c.in-Some.known.now c.args.row.now.from (part e) (some e) c.requires.siblings c.total_before-base.result c.args.before b c.requires.before
+    part_in (nodes_in (new_list c.args.totals.now c.args.places.now)) c.args.row.now.nodes.now c.in-Some.known.now c.args.row.now.from (part e) (some e) c.requires.siblings c.total_before-base.result c.total_before-before.result b (told e)
     (new_list c.args.totals.now c.args.places.now) _ c.requires.list refl c.len-count.result c.len-count.ensures (c.in_ok-append.ensures.len did) (c.in_ok-append.ensures.before did) (c.in_ok-append.ensures.behind did) (put_over c.len-count.result c.loop-k.k c.args.places.now c.args.row.now.nodes.now c.loop-k.places c.loop-k.invariant.long c.loop-k.invariant.front (omega arith)) c.requires.room
-
-pub returns-clause-total : goal.returns-clause-total
-returns-clause-total c =
-    let e = (goal.at.returns-clause-total c).After-total_before-base in
-    let b = base e in
-    let did = c.if-not-branch.false in
-    part_counted (nodes_in (new_list c.args.totals.now c.args.places.now)) c.args.row.now.nodes.now c.in-Some.known.now c.args.row.now.from (part e) (some e) c.requires.siblings c.total_before-base.result c.args.before b c.requires.before
-    (new_list c.args.totals.now c.args.places.now) _ c.requires.list refl c.len-count.result c.len-count.ensures (c.in_ok-append.ensures.len did) (c.in_ok-append.ensures.before did) (c.in_ok-append.ensures.behind did) (put_over c.len-count.result c.loop-k.k c.args.places.now c.args.row.now.nodes.now c.loop-k.places c.loop-k.invariant.long c.loop-k.invariant.front (omega arith)) c.requires.room
-    c.get.result (λ d. rw (← c.len.ensures) (c.get.ensures d))
