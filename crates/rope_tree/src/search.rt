@@ -101,6 +101,24 @@ fn shift_wide(totals: &mut [TextInfo], from: usize, old: TextInfo, new: TextInfo
     }
 }
 
+/// Appends totals, with the counts `new` in each for those of the part `old`.
+// Cold: only totals of 4 GiB and more come to it.
+#[inline(never)]
+fn append_wide(totals: &mut WideTotals, others: &[TextInfo], old: TextInfo, new: TextInfo)
+    requires room { length totals.old.items + length others.now ≤ MAX_CHILDREN }
+    requires part { HavePart 0 others.now old }
+    requires fits { FitFrom (2 ^ 64) 0 others.now old new }
+    ensures len { length totals.new.items ≡ length totals.old.items + length others.now }
+    ensures before { SameBefore (length totals.old.items) totals.old.items totals.new.items }
+    ensures behind { (j : ℕ) (d : TextInfo) → j < length others.now
+        → info_sum (slice_index_or totals.new.items (length totals.old.items + j) d) old
+        ≡ info_sum (slice_index_or others.now j d) new }
+{
+    for other in others {
+        totals.push(other.minus(old).plus(new));
+    }
+}
+
 /// The same counts, in a place of their own. A call takes counts by their address: were those that
 /// an edit has just stored in words passed on as they are, the narrow path would load them as
 /// vectors, and stall.
@@ -229,9 +247,7 @@ impl Totals {
                 Ok(true)
             }
             (Width::Wide(totals), Width::Wide(others)) => {
-                for other in &others[from..from + count] {
-                    totals.push(other.minus(old).plus(new));
-                }
+                append_wide(totals, &others[from..from + count], old, new);
                 Ok(true)
             }
             _ => Ok(false),

@@ -4,10 +4,11 @@
 //! With the text `"held"`, `insert(3, "lo worl")` makes `"hello world"`. From there `remove(5..)`
 //! leaves `"hello"`; `split_off(6)` leaves `"hello "` and returns a rope of `"world"`, and an
 //! `append` of that puts it back.
-ghost use Rattle.std.specs.Prelude.{◌≡◌, ◌+◌, ◌*◌, ◌<◌, ◌≤◌, [], ◌∷◌, length, None, IsOk, IfErr, OnOk, max, IfOk};
+ghost use Rattle.std.specs.Prelude.{◌≡◌, ◌+◌, ◌*◌, ◌<◌, ◌≤◌, ◌^◌, [], ◌∷◌, length, None, Some, IsOk, IfErr, OnOk, max, IfOk};
 ghost use Rattle.std.specs.Str.{chars};
 ghost use Rattle.rope_text.specs.declared.TheConstants.{MAX_SHORT_BYTES};
-ghost use Rattle.rope_text.specs.Edit.{IsRefusal, char_index_error};
+ghost use Rattle.rope_text.specs.Text.{byte_len};
+ghost use Rattle.rope_text.specs.Edit.{IsRefusal, char_index_error, append_error};
 ghost use Rattle.rope_slice.specs.Sliced.{HasCharRange, IsEmptyRange};
 ghost use Rattle.ropey.specs.Counted.{IsEditCount, insert_nodes, long_insert_nodes, removal_nodes, split_nodes, append_nodes};
 ghost use Rattle.ropey.specs.Edited.{IsEdit, IsIdle, CanInsert, IsInsert, IsInsertRefusal, IsRemoval, IsRemovalRefusal, CanAppend, IsAppend, IsAppendRefusal, IsCutAt};
@@ -334,6 +335,23 @@ impl Rope {
         Ok(removed?)
     }
 
+    // Refuses a rope by its set of line breaks, or by the length that the text would have.
+    #[inline(always)]
+    fn may_append(&self, other: &Rope) -> Result<()>
+        ensures same { OnOk result (other.now.breaks ≡ self.now.breaks) }
+        ensures fits { OnOk result (byte_len self.now.text + byte_len other.now.text < 2 ^ 63) }
+        ensures refused { IfErr result (λ e. append_error self.now.breaks other.now.breaks
+            self.now.text other.now.text ≡ Some e) }
+    {
+        if self.root.line_breaks() != other.root.line_breaks() {
+            return Err(Error::LineBreaksDiffer);
+        }
+        if other.len_bytes() > MAX_TEXT_BYTES - self.len_bytes() {
+            return Err(Error::TooLong);
+        }
+        Ok(())
+    }
+
     /// Puts the text of another rope behind this one's. The rope shares what it can of the other's
     /// tree.
     ///
@@ -379,14 +397,8 @@ impl Rope {
     {
         let mut maker = self.begin_edit(steps);
         let bytes = self.len_bytes();
-        let more = other.len_bytes();
-        if self.root.line_breaks() != other.root.line_breaks() {
-            return Err(Error::LineBreaksDiffer);
-        }
-        if more > MAX_TEXT_BYTES - bytes {
-            return Err(Error::TooLong);
-        }
-        if more == 0 {
+        self.may_append(&other)?;
+        if other.len_bytes() == 0 {
             return Ok(());
         }
         if bytes == 0 {

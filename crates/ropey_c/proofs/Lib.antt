@@ -4,6 +4,7 @@ mod ByteParts
 pub mod Bytes
 pub mod Copying
 pub mod Filling
+pub mod FoundChunks
 pub mod Handles
 pub mod Lents
 pub mod Parts

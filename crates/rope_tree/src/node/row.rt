@@ -93,8 +93,8 @@ fn clear(totals: &mut Totals, places: &mut [Node; MAX_CHILDREN])
     *places = Default::default();
 }
 
-/// A list of the nodes of three, which it shares. It is filled where it stays, so that no node is
-/// moved.
+/// A list of the nodes of three rows, which it shares. It is filled where it stays, so that no node
+/// is moved.
 #[inline(never)]
 pub(super) fn list_of(maker: &mut Maker, rows: &Rows<'_>) -> Made<Rc<Children>>
     requires before { IsRow rows.now.0 }

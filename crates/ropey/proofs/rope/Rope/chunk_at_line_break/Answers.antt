@@ -1,0 +1,4 @@
+use Rattle.ropey.proofs.rope.Rope.chunk_at_line_break.Goals as goal
+
+pub returns : goal.returns
+returns c = rw c.whole.ensures.content at c.chunk_at_line_break.ensures
