@@ -1,6 +1,7 @@
 pub mod BuilderHandles
 pub mod Before
 mod ByteParts
+pub mod Bounds
 pub mod Bytes
 pub mod Copying
 pub mod Filling
