@@ -19,10 +19,8 @@ pub fn compare_whole(slice: &RopeSlice<'_>, plain: &PlainSlice<'_>) -> Result<()
 fn compare_lengths(slice: &RopeSlice<'_>, plain: &PlainSlice<'_>) -> Result<(), Failure> {
     let chars = plain.text.len();
     let end = place_of(plain.text, chars, plain.breaks);
-    same!(slice.len_bytes(), end.byte);
-    same!(slice.len_chars(), chars);
-    same!(slice.len_utf16_cu(), end.unit);
-    same!(slice.len_lines(), end.line.saturating_add(1));
+    let lines = end.line.saturating_add(1);
+    same!(lens(slice), [end.byte, chars, lines, end.unit]);
     Ok(())
 }
 
@@ -47,14 +45,17 @@ fn compare_past(slice: &RopeSlice<'_>) -> Result<(), Failure> {
     let past_char = Err(Error::CharIndexOutOfBounds(char_idx, chars));
     let past_line = Err(Error::LineIndexOutOfBounds(line, lines));
     let past_unit = Err(Error::Utf16IndexOutOfBounds(unit, units));
-    same!(slice.try_byte_to_char(byte), past_byte);
-    same!(slice.try_byte_to_line(byte), past_byte);
-    same!(slice.try_char_to_byte(char_idx), past_char);
-    same!(slice.try_char_to_line(char_idx), past_char);
-    same!(slice.try_char_to_utf16_cu(char_idx), past_char);
+    let of_bytes = [slice.try_byte_to_char(byte), slice.try_byte_to_line(byte)];
+    let of_chars = [
+        slice.try_char_to_byte(char_idx),
+        slice.try_char_to_line(char_idx),
+        slice.try_char_to_utf16_cu(char_idx),
+    ];
+    let of_lines = [slice.try_line_to_byte(line), slice.try_line_to_char(line)];
+    same!(of_bytes, [past_byte; 2]);
+    same!(of_chars, [past_char; 3]);
+    same!(of_lines, [past_line; 2]);
     same!(slice.try_utf16_cu_to_char(unit), past_unit);
-    same!(slice.try_line_to_byte(line), past_line);
-    same!(slice.try_line_to_char(line), past_line);
     Ok(())
 }
 
@@ -85,20 +86,27 @@ fn compare_all_at(
 
 /// The conversions from and to a place.
 fn compare_place(slice: &RopeSlice<'_>, char_idx: usize, place: Place) -> Result<(), Failure> {
-    same!(slice.try_char_to_byte(char_idx), Ok(place.byte));
-    same!(slice.try_char_to_line(char_idx), Ok(place.line));
-    same!(slice.try_char_to_utf16_cu(char_idx), Ok(place.unit));
-    same!(slice.try_byte_to_char(place.byte), Ok(char_idx));
-    same!(slice.try_byte_to_line(place.byte), Ok(place.line));
-    same!(slice.try_utf16_cu_to_char(place.unit), Ok(char_idx));
-    same!(
+    let conversions = [
+        slice.try_char_to_byte(char_idx),
+        slice.try_char_to_line(char_idx),
+        slice.try_char_to_utf16_cu(char_idx),
+        slice.try_byte_to_char(place.byte),
+        slice.try_byte_to_line(place.byte),
+        slice.try_utf16_cu_to_char(place.unit),
         slice.try_line_to_char(place.line),
-        Ok(place.line_start_char)
-    );
-    same!(
         slice.try_line_to_byte(place.line),
-        Ok(place.line_start_byte)
-    );
+    ];
+    let wanted = [
+        Ok(place.byte),
+        Ok(place.line),
+        Ok(place.unit),
+        Ok(char_idx),
+        Ok(place.line),
+        Ok(char_idx),
+        Ok(place.line_start_char),
+        Ok(place.line_start_byte),
+    ];
+    same!(conversions, wanted);
     Ok(())
 }
 
@@ -115,9 +123,12 @@ fn compare_char(
     same!(slice.get_byte(place.byte), first_byte);
     let last_byte = place.byte.saturating_add(c.len_utf8()).saturating_sub(1);
     let last_unit = place.unit.saturating_add(c.len_utf16()).saturating_sub(1);
-    same!(slice.try_byte_to_char(last_byte), Ok(char_idx));
-    same!(slice.try_byte_to_line(last_byte), Ok(place.line));
-    same!(slice.try_utf16_cu_to_char(last_unit), Ok(char_idx));
+    let inside = [
+        slice.try_byte_to_char(last_byte),
+        slice.try_byte_to_line(last_byte),
+        slice.try_utf16_cu_to_char(last_unit),
+    ];
+    same!(inside, [Ok(char_idx), Ok(place.line), Ok(char_idx)]);
     Ok(())
 }
 

@@ -343,11 +343,14 @@ fn refuses(rope: &Rope, past: usize, chars: usize, units: usize) -> Result<(), F
     let char_error = Err(Error::CharIndexOutOfBounds(past, chars));
     let byte_error = Err(Error::ByteIndexOutOfBounds(past, WHOLE));
     let unit_error = Err(Error::Utf16IndexOutOfBounds(past, units));
-    same!(rope.try_char_to_byte(past), char_error);
-    same!(rope.try_char_to_utf16_cu(past), char_error);
-    same!(rope.try_char_to_line(past), char_error);
-    same!(rope.try_byte_to_char(past), byte_error);
-    same!(rope.try_byte_to_line(past), byte_error);
+    let of_chars = [
+        rope.try_char_to_byte(past),
+        rope.try_char_to_utf16_cu(past),
+        rope.try_char_to_line(past),
+    ];
+    let of_bytes = [rope.try_byte_to_char(past), rope.try_byte_to_line(past)];
+    same!(of_chars, [char_error; 3]);
+    same!(of_bytes, [byte_error; 2]);
     same!(rope.try_utf16_cu_to_char(past), unit_error);
     holds!(rope.get_byte(past).is_none());
     holds!(rope.get_char(past).is_none());
