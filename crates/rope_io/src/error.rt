@@ -1,9 +1,11 @@
 //! Why no rope was read: the device failed, or its bytes are no text, or a rope refused them.
 ghost use Rattle.std.specs.Prelude.{◌≡◌, Some};
 ghost use Rattle.rope_io.specs.ReadErrorText.{read_error_text};
+ghost use Rattle.rope_text.specs.declared.error.Error.TheVariants.{OutOfMemory};
 ghost use Rattle.rope_io.specs.declared.error.ReadError.TheVariants.{Rope};
 
 use rope_text::Error;
+use std::alloc::AllocError;
 use std::{fmt, io};
 
 /// Why no rope was read.
@@ -25,6 +27,14 @@ impl From<Error> for ReadError {
 
     fn from(error: Error) -> ReadError {
         ReadError::Rope(error)
+    }
+}
+
+impl From<AllocError> for ReadError {
+    ghost from_gives = { λ _ r. r ≡ Rope OutOfMemory };
+
+    fn from(_error: AllocError) -> ReadError {
+        ReadError::Rope(Error::OutOfMemory)
     }
 }
 

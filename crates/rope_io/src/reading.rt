@@ -113,5 +113,5 @@ pub fn read_tree<S: Source>(alloc: Global, source: &mut S, breaks: LineBreaks) -
     source.clear();
     let mut builder = Builder::new(alloc, breaks);
     read_texts(source, &mut builder)?;
-    Ok(builder.finish(&mut Maker::new(alloc)).map_err(Error::from)?)
+    Ok(builder.finish(&mut Maker::new(alloc))?)
 }

@@ -45,10 +45,8 @@ pub fn compare_unicode(rope: &Rope, text: &[char]) -> Result<(), Failure> {
 fn compare_lengths(rope: &Rope, text: &[char], breaks: LineBreaks) -> Result<(), Failure> {
     let end = plain_text::place_of(text, text.len(), breaks);
     same!(rope.line_breaks(), breaks);
-    same!(rope.len_bytes(), end.byte);
-    same!(rope.len_chars(), text.len());
-    same!(rope.len_utf16_cu(), end.unit);
-    same!(rope.len_lines(), end.line.saturating_add(1));
+    let lines = end.line.saturating_add(1);
+    same!(lens(rope), [end.byte, text.len(), lines, end.unit]);
     Ok(())
 }
 

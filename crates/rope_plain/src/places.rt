@@ -23,14 +23,27 @@ fn compare_all_at(rope: &Rope, text: &[char], char_idx: usize) -> Result<(), Fai
 
 /// The conversions from and to a place.
 fn compare_place(rope: &Rope, char_idx: usize, place: Place) -> Result<(), Failure> {
-    same!(rope.try_char_to_byte(char_idx), Ok(place.byte));
-    same!(rope.try_char_to_line(char_idx), Ok(place.line));
-    same!(rope.try_char_to_utf16_cu(char_idx), Ok(place.unit));
-    same!(rope.try_byte_to_char(place.byte), Ok(char_idx));
-    same!(rope.try_byte_to_line(place.byte), Ok(place.line));
-    same!(rope.try_utf16_cu_to_char(place.unit), Ok(char_idx));
-    same!(rope.try_line_to_char(place.line), Ok(place.line_start_char));
-    same!(rope.try_line_to_byte(place.line), Ok(place.line_start_byte));
+    let conversions = [
+        rope.try_char_to_byte(char_idx),
+        rope.try_char_to_line(char_idx),
+        rope.try_char_to_utf16_cu(char_idx),
+        rope.try_byte_to_char(place.byte),
+        rope.try_byte_to_line(place.byte),
+        rope.try_utf16_cu_to_char(place.unit),
+        rope.try_line_to_char(place.line),
+        rope.try_line_to_byte(place.line),
+    ];
+    let wanted = [
+        Ok(place.byte),
+        Ok(place.line),
+        Ok(place.unit),
+        Ok(char_idx),
+        Ok(place.line),
+        Ok(char_idx),
+        Ok(place.line_start_char),
+        Ok(place.line_start_byte),
+    ];
+    same!(conversions, wanted);
     Ok(())
 }
 
@@ -42,9 +55,12 @@ fn compare_char(rope: &Rope, char_idx: usize, place: Place, c: char) -> Result<(
     same!(rope.get_byte(place.byte), first_byte);
     let last_byte = place.byte.saturating_add(c.len_utf8()).saturating_sub(1);
     let last_unit = place.unit.saturating_add(c.len_utf16()).saturating_sub(1);
-    same!(rope.try_byte_to_char(last_byte), Ok(char_idx));
-    same!(rope.try_byte_to_line(last_byte), Ok(place.line));
-    same!(rope.try_utf16_cu_to_char(last_unit), Ok(char_idx));
+    let inside = [
+        rope.try_byte_to_char(last_byte),
+        rope.try_byte_to_line(last_byte),
+        rope.try_utf16_cu_to_char(last_unit),
+    ];
+    same!(inside, [Ok(char_idx), Ok(place.line), Ok(char_idx)]);
     Ok(())
 }
 
@@ -53,8 +69,11 @@ fn compare_chunk(rope: &Rope, text: &[char], char_idx: usize, byte: usize) -> Re
     let (expected, start) = chunk_of(rope, char_idx);
     let before = place_of(text, start, rope.line_breaks());
     let chunk = Some((expected, before.byte, start, before.line));
-    same!(rope.get_chunk_at_char(char_idx), chunk);
-    same!(rope.get_chunk_at_byte(byte), chunk);
+    let found = [
+        rope.get_chunk_at_char(char_idx),
+        rope.get_chunk_at_byte(byte),
+    ];
+    same!(found, [chunk; 2]);
     Ok(())
 }
 

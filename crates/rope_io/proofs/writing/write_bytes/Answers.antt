@@ -23,3 +23,6 @@ loop-rest-preserved g c =
         same = c.in_ok-count.ensures.failures ∙ ap (λ k. count_failure k (g.S.Mark.failures c.loop-rest.sink)) good ∙ f.same;
       };
     }
+
+pub returns-then-count-eq0-clause-ok : goal.returns-then-count-eq0-clause-ok
+returns-then-count-eq0-clause-ok g c = tt
