@@ -24,24 +24,36 @@ pub fn expect_served(
     writer.expect_flushed(output)
 }
 
-/// The lines, each with its LF.
-fn joined(alloc: Global, lines: &[&str]) -> Result<String, AllocError> {
-    let mut text = String::new(alloc);
-    for line in lines {
-        text.push_str(line)?;
-        text.push('\n')?;
+/// Adds a line, with its LF.
+fn add_line(text: &mut String, line: &str) -> Result<(), AllocError> {
+    text.push_str(line)?;
+    text.push('\n')?;
+    Ok(())
+}
+
+/// Adds the lines of a talk to its input, and the replies to its output.
+fn add_talk(
+    input: &mut String,
+    output: &mut String,
+    talk: &[(&str, &str)],
+) -> Result<(), AllocError> {
+    for (line, reply) in talk {
+        add_line(input, line)?;
+        add_line(output, reply)?;
     }
-    Ok(text)
+    Ok(())
 }
 
-/// Fails unless lines that are all of the language have these replies.
-fn expect_replies(alloc: Global, lines: &[&str], replies: &[&str]) -> Result<(), Failure> {
-    let input = joined(alloc, lines)?;
-    let output = joined(alloc, replies)?;
-    expect_served(alloc, input.as_bytes(), 4096, Ended::Done, output.as_str())
-}
-
-/// Serves lines that are all of the language, and compares what was written.
-pub fn expect(alloc: Global, lines: &[&str], replies: &[&str]) -> Result<(), Failure> {
-    expect_replies(alloc, lines, replies)
+/// Fails unless the lines of a talk, which are all of the language, have these replies.
+pub fn expect(alloc: Global, talk: &[(&str, &str)]) -> Result<(), Failure> {
+    let mut input = String::new(alloc);
+    let mut output = String::new(alloc);
+    add_talk(&mut input, &mut output, talk)?;
+    expect_served(
+        alloc,
+        input.as_str().as_bytes(),
+        4096,
+        Ended::Done,
+        output.as_str(),
+    )
 }

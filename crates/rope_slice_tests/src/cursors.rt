@@ -32,12 +32,12 @@ fn lens(line: Option<RopeSlice<'_>>) -> Option<[usize; 2]> {
 
 /// Neither a chunk nor a byte nor a character is given.
 fn gives_nothing(rope: &Rope) -> Result<(), Failure> {
-    let chunk = rope.chunks().next();
-    let byte = rope.bytes().next();
-    let c = rope.chars().next();
-    holds!(chunk.is_none());
-    holds!(byte.is_none());
-    holds!(c.is_none());
+    let are_none = [
+        rope.chunks().next().is_none(),
+        rope.bytes().next().is_none(),
+        rope.chars().next().is_none(),
+    ];
+    same!(are_none, [true; 3]);
     Ok(())
 }
 
@@ -209,16 +209,19 @@ fn line_and_count<'a>(line: Option<RopeSlice<'a>>) -> Option<(Option<&'a str>, u
 fn steps_over_three_lines(slice: Option<RopeSlice<'_>>) -> Result<(), Failure> {
     let slice = some!(slice);
     let mut lines = slice.lines();
-    same!(
+    let steps = [
         line_and_count(lines.next()),
-        Some((Some("'s a fine day, isn't it?\n"), 2))
-    );
-    same!(
         line_and_count(lines.next()),
-        Some((Some("Aren't you glad we're alive?\n"), 2))
-    );
-    same!(line_and_count(lines.next()), Some((Some("こんにちは、みん"), 1)));
-    holds!(line_and_count(lines.next()).is_none());
+        line_and_count(lines.next()),
+        line_and_count(lines.next()),
+    ];
+    let wanted = [
+        Some((Some("'s a fine day, isn't it?\n"), 2)),
+        Some((Some("Aren't you glad we're alive?\n"), 2)),
+        Some((Some("こんにちは、みん"), 1)),
+        None,
+    ];
+    same!(steps, wanted);
     Ok(())
 }
 

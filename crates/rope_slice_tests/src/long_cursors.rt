@@ -66,11 +66,13 @@ fn bytes_and_chars_of_one(long: &Long) -> Result<(), Failure> {
 }
 
 fn bytes_and_chars_past_the_end_of_one(long: &Long) -> Result<(), Failure> {
-    let past = WHOLE.saturating_add(1);
-    holds!(long.rope.get_chars_at(past).is_none());
-    holds!(long.rope.get_chars_at(usize::MAX).is_none());
-    holds!(long.rope.get_bytes_at(past).is_none());
-    holds!(long.rope.get_bytes_at(usize::MAX).is_none());
+    let are_none = [
+        long.rope.get_chars_at(WHOLE + 1).is_none(),
+        long.rope.get_chars_at(usize::MAX).is_none(),
+        long.rope.get_bytes_at(WHOLE + 1).is_none(),
+        long.rope.get_bytes_at(usize::MAX).is_none(),
+    ];
+    same!(are_none, [true; 4]);
     Ok(())
 }
 
@@ -111,9 +113,12 @@ fn chunks_of_one(long: &Long) -> Result<(), Failure> {
 }
 
 fn chunks_past_the_end_of_one(long: &Long) -> Result<(), Failure> {
-    holds!(long.rope.get_chunks_at_byte(usize::MAX).is_none());
-    holds!(long.rope.get_chunks_at_char(usize::MAX).is_none());
-    holds!(long.rope.get_chunks_at_line_break(usize::MAX).is_none());
+    let are_none = [
+        long.rope.get_chunks_at_byte(usize::MAX).is_none(),
+        long.rope.get_chunks_at_char(usize::MAX).is_none(),
+        long.rope.get_chunks_at_line_break(usize::MAX).is_none(),
+    ];
+    same!(are_none, [true; 3]);
     Ok(())
 }
 
@@ -202,19 +207,22 @@ fn expect_lines_at(rope: &Rope, unit: &Unit, line_idx: usize) -> Result<(), Fail
 }
 
 fn lines_of_one(long: &Long) -> Result<(), Failure> {
-    let break_count = long.unit.break_count();
-    expect_lines_at(&long.rope, &long.unit, 0)?;
-    expect_lines_at(&long.rope, &long.unit, break_count / 2)?;
-    expect_lines_at(&long.rope, &long.unit, break_count)?;
-    expect_lines_at(&long.rope, &long.unit, break_count.saturating_add(1))
+    let last = long.unit.break_count();
+    for line_idx in [0, last / 2, last, last.saturating_add(1)] {
+        expect_lines_at(&long.rope, &long.unit, line_idx)?;
+    }
+    Ok(())
 }
 
 fn lines_past_the_end_of_one(long: &Long) -> Result<(), Failure> {
     let all = long.unit.break_count().saturating_add(1);
-    holds!(long.rope.get_lines_at(all.saturating_add(1)).is_none());
-    holds!(long.rope.get_lines_at(usize::MAX).is_none());
-    holds!(long.rope.get_line(all).is_none());
-    holds!(long.rope.get_line(usize::MAX).is_none());
+    let are_none = [
+        long.rope.get_lines_at(all.saturating_add(1)).is_none(),
+        long.rope.get_lines_at(usize::MAX).is_none(),
+        long.rope.get_line(all).is_none(),
+        long.rope.get_line(usize::MAX).is_none(),
+    ];
+    same!(are_none, [true; 4]);
     Ok(())
 }
 

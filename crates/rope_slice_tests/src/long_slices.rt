@@ -72,15 +72,25 @@ fn expect_lines(pairs: &Rope, row: (usize, usize, usize)) -> Result<(), Failure>
     Ok(())
 }
 
+/// Half of the pairs' characters, and so the number of all pairs.
+const HALF: usize = WHOLE / 2;
+
+/// Places among the pairs' characters, and how many lines are before and behind each.
+const CUT_PAIRS: [(usize, usize, usize); 7] = [
+    (0, 1, HALF + 1),
+    (1, 2, HALF + 1),
+    (HALF - 1, HALF / 2 + 1, HALF / 2 + 2),
+    (HALF, HALF / 2 + 1, HALF / 2 + 1),
+    (HALF + 1, HALF / 2 + 2, HALF / 2 + 1),
+    (WHOLE - 1, HALF + 1, 2),
+    (WHOLE, HALF + 1, 1),
+];
+
 fn expect_cut_pairs(pairs: &Rope) -> Result<(), Failure> {
-    let middle = WHOLE / 2;
-    expect_lines(pairs, (0, 1, middle + 1))?;
-    expect_lines(pairs, (1, 2, middle + 1))?;
-    expect_lines(pairs, (middle - 1, middle / 2 + 1, middle / 2 + 2))?;
-    expect_lines(pairs, (middle, middle / 2 + 1, middle / 2 + 1))?;
-    expect_lines(pairs, (middle + 1, middle / 2 + 2, middle / 2 + 1))?;
-    expect_lines(pairs, (WHOLE - 1, middle + 1, 2))?;
-    expect_lines(pairs, (WHOLE, middle + 1, 1))
+    for row in CUT_PAIRS {
+        expect_lines(pairs, row)?;
+    }
+    Ok(())
 }
 
 #[test]

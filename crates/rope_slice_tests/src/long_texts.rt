@@ -352,20 +352,24 @@ fn refuses(rope: &Rope, past: usize, chars: usize, units: usize) -> Result<(), F
     same!(of_chars, [char_error; 3]);
     same!(of_bytes, [byte_error; 2]);
     same!(rope.try_utf16_cu_to_char(past), unit_error);
-    holds!(rope.get_byte(past).is_none());
-    holds!(rope.get_char(past).is_none());
-    holds!(rope.get_chunk_at_byte(past).is_none());
-    holds!(rope.get_chunk_at_char(past).is_none());
-    holds!(rope.get_chunk_at_line_break(past).is_none());
+    let are_none = [
+        rope.get_byte(past).is_none(),
+        rope.get_char(past).is_none(),
+        rope.get_chunk_at_byte(past).is_none(),
+        rope.get_chunk_at_char(past).is_none(),
+        rope.get_chunk_at_line_break(past).is_none(),
+    ];
+    same!(are_none, [true; 5]);
     Ok(())
 }
 
 fn past_the_end_of_one(long: &Long) -> Result<(), Failure> {
     let chars = long.unit.char_count();
     let units = chars.saturating_mul(long.unit.units_a_char);
-    refuses(&long.rope, WHOLE.saturating_add(1), chars, units)?;
-    refuses(&long.rope, isize::MAX as usize, chars, units)?;
-    refuses(&long.rope, usize::MAX, chars, units)
+    for past in [WHOLE + 1, isize::MAX as usize, usize::MAX] {
+        refuses(&long.rope, past, chars, units)?;
+    }
+    Ok(())
 }
 
 #[test]
@@ -468,11 +472,11 @@ fn expect_chunk_at_break(rope: &Rope, unit: &Unit, line_break: usize) -> Result<
 }
 
 fn chunks_at_line_breaks_of_one(long: &Long) -> Result<(), Failure> {
-    let break_count = long.unit.break_count();
-    expect_chunk_at_break(&long.rope, &long.unit, 0)?;
-    expect_chunk_at_break(&long.rope, &long.unit, 1.min(break_count))?;
-    expect_chunk_at_break(&long.rope, &long.unit, break_count / 2)?;
-    expect_chunk_at_break(&long.rope, &long.unit, break_count)
+    let last = long.unit.break_count();
+    for line_break in [0, 1.min(last), last / 2, last] {
+        expect_chunk_at_break(&long.rope, &long.unit, line_break)?;
+    }
+    Ok(())
 }
 
 #[test]

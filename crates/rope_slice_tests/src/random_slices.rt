@@ -140,7 +140,10 @@ fn expect_sliced(numbers: &mut Numbers, pair: &Pair, all: &PlainSlice<'_>) -> Re
     expect_nested(numbers, slice, all.part(start, end))
 }
 
-/// Fails unless four slices of one rope are right.
+/// How many slices of each rope are compared.
+const SLICES: usize = 4;
+
+/// Fails unless slices of one rope are right.
 fn expect_all_sliced(
     numbers: &mut Numbers,
     pair: &Pair,
@@ -148,10 +151,10 @@ fn expect_all_sliced(
     breaks: LineBreaks,
 ) -> Result<(), Failure> {
     let all = PlainSlice::whole(&pair.plain, ends, breaks);
-    expect_sliced(numbers, pair, &all)?;
-    expect_sliced(numbers, pair, &all)?;
-    expect_sliced(numbers, pair, &all)?;
-    expect_sliced(numbers, pair, &all)
+    for _ in 0..SLICES {
+        expect_sliced(numbers, pair, &all)?;
+    }
+    Ok(())
 }
 
 /// Fails unless slices of a random rope are right.

@@ -130,10 +130,10 @@ fn expect_ranges(leaf: &NodeText, text: &str, len: usize) -> Result<(), Failure>
 fn expect_right_in_a_leaf(text: &str) -> Result<(), Failure> {
     holds!(text.len() <= 984);
     let leaf = NodeText::from_str(text);
-    expect_ranges(&leaf, text, 0)?;
-    expect_ranges(&leaf, text, 1)?;
-    expect_ranges(&leaf, text, 5)?;
-    expect_ranges(&leaf, text, 68)
+    for len in [0, 1, 5, 68] {
+        expect_ranges(&leaf, text, len)?;
+    }
+    Ok(())
 }
 
 /// A text with so many bytes before it and behind it.
