@@ -2,7 +2,7 @@
 use crate::answers::answers;
 use crate::commands::{Effect, Outcome, apply, expect_reply};
 use crate::draw::command;
-use crate::shown::word_of;
+use crate::shown::Shown;
 use rope_plain::failure::{Failure, within};
 use rope_plain::numbers::Numbers;
 use rope_plain::plain_rope::PlainRope;
@@ -179,7 +179,7 @@ fn expect_run(
     let [command] = commands;
     let reply = some!(replies.first());
     within(
-        word_of(command),
+        Shown(command),
         expect_right(alloc, session, ropes, command, reply),
     )
 }

@@ -1,10 +1,45 @@
-//! Commands and replies, as a failing test tells them: by a word.
+//! Commands and replies, as a failing test tells them.
 use rope_plain::failure::Failure;
 use rope_script::{Command, Query, Reply};
-use std::fmt::Debug;
+use std::fmt::{self, Debug, Display, Formatter, Write};
+
+/// A command, told by its word and its numbers.
+#[derive(Drop)]
+pub struct Shown<'a>(pub &'a Command);
+
+impl Display for Shown<'_> {
+    fn fmt<W: Write>(&self, f: &mut Formatter<W>) -> fmt::Result {
+        let word = word_of(self.0);
+        let numbers = numbers_of(self.0);
+        write!(f, "{word} {numbers:?}")
+    }
+}
+
+/// The numbers of a command: its rope, and the indices or the other rope that it names.
+fn numbers_of(command: &Command) -> [Option<usize>; 3] {
+    match command {
+        Command::New | Command::Text(_) | Command::TextWith(_, _) => [None; 3],
+        Command::Clone(rope) | Command::Shrink(rope) => [Some(*rope), None, None],
+        Command::Copy((rope, range)) => with_range(*rope, *range),
+        Command::Insert(rope, index, _)
+        | Command::InsertChar(rope, index, _)
+        | Command::Cut(rope, index)
+        | Command::Join(rope, index) => [Some(*rope), Some(*index), None],
+        Command::Remove(rope, start, end) => [Some(*rope), *start, *end],
+        Command::Ask(rope, range, _) => with_range(*rope, *range),
+    }
+}
+
+/// A rope's number, and the range of it, where there is one.
+fn with_range(rope: usize, range: Option<(usize, usize)>) -> [Option<usize>; 3] {
+    match range {
+        Some((start, end)) => [Some(rope), Some(start), Some(end)],
+        None => [Some(rope), None, None],
+    }
+}
 
 /// What a command does.
-pub fn word_of(command: &Command) -> &'static str {
+fn word_of(command: &Command) -> &'static str {
     match command {
         Command::New => "new",
         Command::Text(_) => "text",
@@ -63,8 +98,11 @@ fn word_of_reply(reply: &Reply) -> &'static str {
     }
 }
 
-/// A reply of another kind than this one, which was wanted.
+/// A reply of another kind than this one, which was wanted; of a refusal its reason.
 pub fn other_reply<D: Debug>(wanted: &D, reply: &Reply) -> Failure {
+    if let Reply::Refused(error) = reply {
+        return Failure::new(format_args!("refused by {error:?}, not {wanted:?}"));
+    }
     let word = word_of_reply(reply);
     Failure::new(format_args!("replied {word}, not {wanted:?}"))
 }
