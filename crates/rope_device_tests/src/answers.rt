@@ -9,7 +9,7 @@ use rope_plain::plain_slice::PlainSlice;
 use rope_plain::plain_text::{Place, places};
 use rope_plain::texts::expect_chars;
 use rope_plain::{holds, same, some};
-use rope_script::{At, Conv, Item, Items, Move, Query, Reply};
+use rope_script::{At, Conv, Item, Move, Query, Reply, Unit};
 use ropey::Error;
 use std::alloc::Global;
 
@@ -165,18 +165,18 @@ impl<'a> Asked<'a> {
     }
 
     /// Fails unless an item that a cursor gave is the one with that index.
-    fn expect_item(&self, walked: &Items, item: &Item, index: usize) -> Result<(), Failure> {
-        match (walked, item) {
-            (Items::Bytes, Item::Byte(byte)) => {
+    fn expect_item(&self, unit: &Unit, item: &Item, index: usize) -> Result<(), Failure> {
+        match (unit, item) {
+            (Unit::Bytes, Item::Byte(byte)) => {
                 same!(self.byte(index), Some(*byte));
                 Ok(())
             }
-            (Items::Chars, Item::Char(c)) => {
+            (Unit::Chars, Item::Char(c)) => {
                 same!(self.part.text.get(index), Some(c));
                 Ok(())
             }
-            (Items::Lines, Item::Text(text)) => expect_text_of(text.as_str(), self.line(index)),
-            (Items::Chunks(_), Item::Text(text)) => expect_text_of(
+            (Unit::Lines, Item::Text(text)) => expect_text_of(text.as_str(), self.line(index)),
+            (Unit::Chunks(_), Item::Text(text)) => expect_text_of(
                 text.as_str(),
                 self.part.chunk(index),
             ),
@@ -187,12 +187,12 @@ impl<'a> Asked<'a> {
     /// Fails unless a step of a walk gave what it has to.
     fn agrees(
         &self,
-        walked: &Items,
+        unit: &Unit,
         item: Option<&Option<Item>>,
         index: Option<usize>,
     ) -> Result<(), Failure> {
         match (item, index) {
-            (Some(Some(item)), Some(index)) => self.expect_item(walked, item, index),
+            (Some(Some(item)), Some(index)) => self.expect_item(unit, item, index),
             (Some(None), None) => Ok(()),
             (None, _) => Err(Failure::new("a step gave no item")),
             (Some(Some(_)), None) => Err(Failure::new("an item, not none")),
@@ -203,7 +203,7 @@ impl<'a> Asked<'a> {
     /// Fails unless the items are those of a walk from where the cursor stands.
     fn expect_items(
         &self,
-        walked: &Items,
+        unit: &Unit,
         start: PlainCursor,
         moves: &[Move],
         items: &[Option<Item>],
@@ -212,7 +212,7 @@ impl<'a> Asked<'a> {
         let mut count: usize = 0;
         for step in moves {
             if let Some(index) = moved(&mut cursor, step) {
-                self.agrees(walked, items.get(count), index)?;
+                self.agrees(unit, items.get(count), index)?;
                 count = count.saturating_add(1);
             }
         }
@@ -228,27 +228,27 @@ impl<'a> Asked<'a> {
     }
 
     /// Where a walk starts among its items; none out of range.
-    fn walk_start(&self, walked: &Items, index: usize) -> Option<PlainCursor> {
+    fn walk_start(&self, unit: &Unit, index: usize) -> Option<PlainCursor> {
         let lens = lengths_of(self.places);
-        let len = match walked {
-            Items::Bytes => lens.bytes,
-            Items::Chars => lens.chars,
-            Items::Lines => lens.lines,
-            Items::Chunks(at) => return self.walk_of_chunks(at, index),
+        let len = match unit {
+            Unit::Bytes => lens.bytes,
+            Unit::Chars => lens.chars,
+            Unit::Lines => lens.lines,
+            Unit::Chunks(at) => return self.walk_of_chunks(at, index),
         };
         (index <= len).then_some(PlainCursor::at(len, index))
     }
 
     fn expect_walk(
         &self,
-        walked: &Items,
+        unit: &Unit,
         index: usize,
         moves: &[Move],
         reply: &Reply,
     ) -> Result<(), Failure> {
-        match (self.walk_start(walked, index), reply) {
+        match (self.walk_start(unit, index), reply) {
             (None, Reply::Absent) => Ok(()),
-            (Some(start), Reply::Walk(items)) => self.expect_items(walked, start, moves, items),
+            (Some(start), Reply::Walk(items)) => self.expect_items(unit, start, moves, items),
             (wanted, _) => Err(other_reply(&wanted, reply)),
         }
     }
@@ -379,7 +379,7 @@ impl<'a> Asked<'a> {
             Query::Char(index) => self.expect_char(*index, reply),
             Query::Line(line) => expect_text_or_absent(self.line(*line), reply),
             Query::ChunkAt(at, index) => self.expect_chunk_reply(at, *index, reply),
-            Query::Walk(walked, index, moves) => self.expect_walk(walked, *index, moves, reply),
+            Query::Walk(unit, index, moves) => self.expect_walk(unit, *index, moves, reply),
             Query::Compare((number, range)) => self.expect_order(ropes, *number, *range, reply),
             Query::ToPosition(index) => self.expect_position(*index, reply),
             Query::FromPosition(line, column) => expect_number(

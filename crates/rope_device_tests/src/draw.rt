@@ -2,7 +2,7 @@
 use rope_plain::numbers::Numbers;
 use rope_plain::plain_rope::PlainRope;
 use rope_plain::texts::{random_edit_text, random_text};
-use rope_script::{At, Command, Conv, Items, Move, Query};
+use rope_script::{At, Command, Conv, Move, Query, Unit};
 use ropey::LineBreaks;
 use std::alloc::{AllocError, Global};
 
@@ -67,12 +67,12 @@ fn at(numbers: &mut Numbers) -> At {
     }
 }
 
-fn items(numbers: &mut Numbers) -> Items {
+fn unit(numbers: &mut Numbers) -> Unit {
     match numbers.take() % 6 {
-        0 => Items::Bytes,
-        1 => Items::Chars,
-        2 => Items::Lines,
-        _ => Items::Chunks(at(numbers)),
+        0 => Unit::Bytes,
+        1 => Unit::Chars,
+        2 => Unit::Lines,
+        _ => Unit::Chunks(at(numbers)),
     }
 }
 
@@ -103,8 +103,8 @@ fn moves(alloc: Global, numbers: &mut Numbers) -> Result<Vec<Move>, AllocError> 
 
 /// A query of a walk.
 fn walk(alloc: Global, numbers: &mut Numbers, start: usize) -> Result<Query, AllocError> {
-    let items = items(numbers);
-    Ok(Query::Walk(items, start, moves(alloc, numbers)?))
+    let unit = unit(numbers);
+    Ok(Query::Walk(unit, start, moves(alloc, numbers)?))
 }
 
 /// A query of this kind, which is none of a walk.

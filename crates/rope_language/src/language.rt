@@ -1,9 +1,7 @@
 //! Commands as lines of text.
 use crate::escapes::unescape;
-use crate::words::{
-    bound, conversion, items, line_breaks, moves, number, only_char, passage, place,
-};
-use rope_script::{At, Command, Items, Passage, Query};
+use crate::words::{bound, conversion, line_breaks, moves, number, only_char, part, place, unit};
+use rope_script::{At, Command, Part, Query, Unit};
 use std::alloc::{AllocError, Global};
 
 /// The command of a line without its end, or `None` where the line is bad.
@@ -81,7 +79,7 @@ fn clone(words: &str) -> Option<Command> {
 
 /// `PART`, of a copy.
 fn copy(words: &str) -> Option<Command> {
-    Some(Command::Copy(passage(words)?))
+    Some(Command::Copy(part(words)?))
 }
 
 /// `ROPE INDEX TEXT`, of an insert.
@@ -135,24 +133,24 @@ fn shrink(words: &str) -> Option<Command> {
 
 /// `PART UNIT INDEX MOVES`, of a walk.
 fn walk(alloc: Global, words: &str) -> Result<Option<Command>, AllocError> {
-    let Some((asked, items, index, letters)) = walk_start(words) else {
+    let Some((asked, unit, index, letters)) = walk_start(words) else {
         return Ok(None);
     };
     match moves(alloc, letters)? {
         Some(moves) => {
             let (rope, range) = asked;
-            Ok(Some(Command::Ask(rope, range, Query::Walk(items, index, moves))))
+            Ok(Some(Command::Ask(rope, range, Query::Walk(unit, index, moves))))
         }
         None => Ok(None),
     }
 }
 
 /// `PART UNIT INDEX`, and what follows one more space.
-fn walk_start(words: &str) -> Option<(Passage, Items, usize, &str)> {
+fn walk_start(words: &str) -> Option<(Part, Unit, usize, &str)> {
     let (asked, words) = words.split_once(' ')?;
     let (name, words) = words.split_once(' ')?;
     let (index, letters) = words.split_once(' ')?;
-    Some((passage(asked)?, items(name)?, number(index)?, letters))
+    Some((part(asked)?, unit(name)?, number(index)?, letters))
 }
 
 /// `PART`, and what is asked of it.
@@ -161,7 +159,7 @@ fn ask(name: &str, words: &str) -> Option<Command> {
         None => (words, query(name)?),
         Some((asked, words)) => (asked, query_with(name, words)?),
     };
-    let (rope, range) = passage(asked)?;
+    let (rope, range) = part(asked)?;
     Some(Command::Ask(rope, range, query))
 }
 
@@ -183,7 +181,7 @@ fn query_with(name: &str, words: &str) -> Option<Query> {
         "char" => Some(Query::Char(number(words)?)),
         "line" => Some(Query::Line(number(words)?)),
         "chunk" => chunk(words),
-        "cmp" => Some(Query::Compare(passage(words)?)),
+        "cmp" => Some(Query::Compare(part(words)?)),
         "c2p" => Some(Query::ToPosition(number(words)?)),
         "p2c" => from_position(words),
         _ => Some(Query::Convert(conversion(name)?, number(words)?)),

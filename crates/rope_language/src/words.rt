@@ -2,7 +2,7 @@
 ghost use Rattle.std.specs.Prelude.{◌≡◌, IfSome};
 ghost use Rattle.rope_language.specs.ReplyLine.{breaks_word};
 
-use rope_script::{At, Conv, Items, Move, Passage};
+use rope_script::{At, Conv, Move, Part, Unit};
 use ropey::LineBreaks;
 use std::alloc::{AllocError, Global};
 
@@ -15,7 +15,7 @@ pub(crate) fn number(word: &str) -> Option<usize> {
 }
 
 /// A rope, or a range of its characters.
-pub(crate) fn passage(word: &str) -> Option<Passage> {
+pub(crate) fn part(word: &str) -> Option<Part> {
     let Some((rope, range)) = word.split_once(':') else {
         return Some((number(word)?, None));
     };
@@ -66,14 +66,14 @@ pub(crate) fn conversion(word: &str) -> Option<Conv> {
 }
 
 /// What the cursor steps through, by the word that names it.
-pub(crate) fn items(word: &str) -> Option<Items> {
+pub(crate) fn unit(word: &str) -> Option<Unit> {
     match word {
-        "bytes" => Some(Items::Bytes),
-        "chars" => Some(Items::Chars),
-        "lines" => Some(Items::Lines),
-        "chunks-b" => Some(Items::Chunks(At::Byte)),
-        "chunks-c" => Some(Items::Chunks(At::Char)),
-        "chunks-l" => Some(Items::Chunks(At::LineBreak)),
+        "bytes" => Some(Unit::Bytes),
+        "chars" => Some(Unit::Chars),
+        "lines" => Some(Unit::Lines),
+        "chunks-b" => Some(Unit::Chunks(At::Byte)),
+        "chunks-c" => Some(Unit::Chunks(At::Char)),
+        "chunks-l" => Some(Unit::Chunks(At::LineBreak)),
         _ => None,
     }
 }

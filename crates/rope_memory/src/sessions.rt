@@ -1,7 +1,7 @@
 //! Sessions of commands, and lines that are served.
 use crate::TRIES;
 use rope_language::{Ended, serve};
-use rope_script::{At, Command, Items, Move, Query, Reply, Session};
+use rope_script::{At, Command, Move, Query, Reply, Session, Unit};
 use ropey::{Error, LineBreaks};
 use std::alloc::Global;
 use std::cmp::Ordering;
@@ -124,7 +124,7 @@ fn commands_with(text: String, line: String, moves: Vec<Move>) -> [Command; 14] 
         Command::Ask(1, None, Query::Chunks),
         Command::Ask(0, Some((3, 6)), Query::Line(1)),
         Command::Ask(0, None, Query::ChunkAt(At::Char, 1)),
-        Command::Ask(1, None, Query::Walk(Items::Lines, 0, moves)),
+        Command::Ask(1, None, Query::Walk(Unit::Lines, 0, moves)),
         Command::Ask(0, None, Query::Compare((1, None))),
         Command::Cut(0, 2),
         Command::Join(0, 2),

@@ -17,8 +17,8 @@ use Rattle.rope_script.specs.declared.script.Conv.{Conv}
 use Rattle.rope_script.specs.declared.script.Conv.TheVariants.{ByteToChar, ByteToLine, CharToByte, CharToLine, CharToUtf16, Utf16ToChar, LineToByte, LineToChar}
 use Rattle.rope_script.specs.declared.script.At.{At}
 use Rattle.rope_script.specs.declared.script.At.TheVariants as at
-use Rattle.rope_script.specs.declared.script.Items as items
-use Rattle.rope_script.specs.declared.script.Items.TheVariants as item
+use Rattle.rope_script.specs.declared.script.Unit as units
+use Rattle.rope_script.specs.declared.script.Unit.TheVariants as unit
 use Rattle.rope_script.specs.declared.script.Move.{Move}
 use Rattle.rope_script.specs.declared.script.Query.{Query}
 use Rattle.rope_script.specs.declared.script.Query.TheVariants as query
@@ -92,11 +92,11 @@ Compares ropes c other range r =
     (λ rope. MatchOption (part_of rope range) (r ≡ reply.NoSlice) (λ part. r ≡ reply.Order (text_cmp c.text part.text)))
 
 -- what a cursor gives that starts at an index and does these moves
-abbrev pub AnswersWalk : Content → items.Items → ℕ → List Move → Reply → Type 0
-AnswersWalk c item.Bytes i moves r = Walks IsByteItem (nat_le i (byte_len c.text)) (encode_utf8_all c.text) i moves r
-AnswersWalk c item.Chars i moves r = Walks IsCharItem (nat_le i (length c.text)) c.text i moves r
-AnswersWalk c item.Lines i moves r = Walks IsLineItem (nat_le i (line_count c.breaks c.text)) (lines_of c) i moves r
-AnswersWalk c (item.Chunks at) i moves r = Walks IsTextItem (is_inside c at i) c.chunks (chunk_place c at i) moves r
+abbrev pub AnswersWalk : Content → units.Unit → ℕ → List Move → Reply → Type 0
+AnswersWalk c unit.Bytes i moves r = Walks IsByteItem (nat_le i (byte_len c.text)) (encode_utf8_all c.text) i moves r
+AnswersWalk c unit.Chars i moves r = Walks IsCharItem (nat_le i (length c.text)) c.text i moves r
+AnswersWalk c unit.Lines i moves r = Walks IsLineItem (nat_le i (line_count c.breaks c.text)) (lines_of c) i moves r
+AnswersWalk c (unit.Chunks at) i moves r = Walks IsTextItem (is_inside c at i) c.chunks (chunk_place c at i) moves r
 
 -- of these ropes a part may be replied so to a query
 abbrev pub Answers : List Content → Content → Query → Reply → Type 0

@@ -20,5 +20,5 @@ mod shown;
 mod walker;
 mod walks;
 
-pub use script::{At, Command, Conv, Item, Items, Move, Passage, Query, Reply};
+pub use script::{At, Command, Conv, Item, Move, Part, Query, Reply, Unit};
 pub use session::Session;

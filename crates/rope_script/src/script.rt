@@ -5,7 +5,7 @@ use std::cmp::Ordering;
 
 /// The number of a rope, and a range of its characters by start and excluded end, or `None` for the
 /// whole rope.
-pub type Passage = (usize, Option<(usize, usize)>);
+pub type Part = (usize, Option<(usize, usize)>);
 
 /// What a session may be asked to do.
 ///
@@ -23,7 +23,7 @@ pub enum Command {
     /// Makes a clone of a rope, in the same chunks.
     Clone(usize),
     /// Makes a rope of a part of a rope, with its line breaks.
-    Copy(Passage),
+    Copy(Part),
     /// In a rope, before the character of this index, inserts a text.
     Insert(usize, usize, String),
     /// In a rope, before the character of this index, inserts a character.
@@ -76,7 +76,7 @@ pub enum At {
 
 /// What a cursor steps through.
 #[derive(Clone, Copy, PartialEq, Eq, Debug)]
-pub enum Items {
+pub enum Unit {
     /// Bytes, from the one of an index on.
     Bytes,
     /// Characters, from the one of an index on.
@@ -120,9 +120,9 @@ pub enum Query {
     /// The chunk that an index looks up.
     ChunkAt(At, usize),
     /// What a cursor gives that starts at an index and does these moves.
-    Walk(Items, usize, Vec<Move>),
+    Walk(Unit, usize, Vec<Move>),
     /// How it is ordered against another part.
-    Compare(Passage),
+    Compare(Part),
     /// The position of a character: its line, and its column in code units of UTF-16.
     ToPosition(usize),
     /// The character at a line and a column.

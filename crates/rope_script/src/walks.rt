@@ -10,7 +10,7 @@ ghost use Rattle.rope_slice.specs.Slice.{content_of, text_of, breaks_of, chunks_
 ghost use Rattle.rope_script.specs.Ask.{AnswersWalk, is_inside, chunk_place};
 ghost use Rattle.rope_script.specs.Walk.{IsByteItem, IsCharItem, IsTextItem, IsLineItem, Walks};
 
-use crate::script::{At, Item, Items, Move, Reply};
+use crate::script::{At, Item, Move, Reply, Unit};
 use crate::walker::Walker;
 use ropey::iter::Chunks;
 use ropey::{Result, RopeSlice};
@@ -20,18 +20,18 @@ use std::alloc::Global;
 pub(crate) fn walk(
     alloc: Global,
     part: &RopeSlice<'_>,
-    items: Items,
+    unit: Unit,
     index: usize,
     moves: &[Move],
 ) -> Result<Reply>
-    ensures walk { IfOk result (AnswersWalk (content_of part.now) items index moves.now) }
+    ensures walk { IfOk result (AnswersWalk (content_of part.now) unit index moves.now) }
     ensures memory { IfErr result (λ e. e ≡ OutOfMemory) }
 {
-    match items {
-        Items::Bytes => walk_bytes(alloc, part, index, moves),
-        Items::Chars => walk_chars(alloc, part, index, moves),
-        Items::Lines => walk_lines(alloc, part, index, moves),
-        Items::Chunks(at) => walk_chunks(alloc, part, at, index, moves),
+    match unit {
+        Unit::Bytes => walk_bytes(alloc, part, index, moves),
+        Unit::Chars => walk_chars(alloc, part, index, moves),
+        Unit::Lines => walk_lines(alloc, part, index, moves),
+        Unit::Chunks(at) => walk_chunks(alloc, part, at, index, moves),
     }
 }
 
