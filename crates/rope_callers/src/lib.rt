@@ -11,4 +11,5 @@ pub mod lines;
 pub mod places;
 pub mod positions;
 pub mod search;
+pub mod surface;
 pub mod twins;

@@ -1,0 +1,32 @@
+//! Every public item of `ropey`, `rope_position`, `rope_script` and `rope_language`, used once under
+//! its name, with its arguments in their order and its types.
+//!
+//! An item that is renamed or dropped, an argument or a result of another type, and an argument more
+//! or less make this file fail to compile. Where two arguments or results have one type, a clause
+//! says which is which, and the prover refuses the two exchanged. Add a caller with every new public
+//! item; change one only where the public surface is to change.
+//!
+//! Modules:
+//! - `texts`: plain texts, sets of line breaks, sizes, counts of steps, index ranges
+//! - `errors`: the variants of `Error`
+//! - `ropes`: ropes made, built, measured, compared and given out
+//! - `edits`, `rope_lookups`, `rope_parts`: edits, look-ups, and slices and cursors of ropes
+//! - `slices`, `slice_lookups`, `slice_parts`: the calls of slices
+//! - `cursors`: the four cursors
+//! - `devices`: readers and writers
+//! - `positions`: positions in lines
+//! - `commands`: commands, replies, and the line language
+
+pub mod commands;
+pub mod cursors;
+pub mod devices;
+pub mod edits;
+pub mod errors;
+pub mod positions;
+pub mod rope_lookups;
+pub mod rope_parts;
+pub mod ropes;
+pub mod slice_lookups;
+pub mod slice_parts;
+pub mod slices;
+pub mod texts;
