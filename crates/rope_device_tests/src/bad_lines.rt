@@ -133,7 +133,7 @@ fn parts_and_queries_that_are_none_are_bad_lines(rt: HostRuntime) -> Result<(), 
     refuse(rt.alloc(), &PARTS_AND_QUERIES)
 }
 
-const TEXTS: [&[u8]; 32] = [
+const TEXTS: [&[u8]; 35] = [
     b"ins 0 0",
     b"ins 0  x",
     b"ins  0 x",
@@ -160,6 +160,9 @@ const TEXTS: [&[u8]; 32] = [
     b"text \\u0041",
     b"text \\u{",
     b"text \\u{}",
+    b"textb lf \\u{}",
+    b"ins 0 0 \\u{}",
+    b"insc 0 0 \\u{}",
     b"text \\u{41",
     b"text \\u{g}",
     b"text \\u{ 41}",
@@ -171,4 +174,49 @@ const TEXTS: [&[u8]; 32] = [
 #[test]
 fn texts_that_are_not_escaped_are_bad_lines(rt: HostRuntime) -> Result<(), Failure> {
     refuse(rt.alloc(), &TEXTS)
+}
+
+/// Each number of each line with a sign before it, where a number has none.
+const SIGNS: [&[u8]; 36] = [
+    b"clone +0",
+    b"copy +0",
+    b"copy 0:+0..1",
+    b"copy 0:0..+1",
+    b"ins +0 0 x",
+    b"ins 0 +0 x",
+    b"insc +0 0 x",
+    b"insc 0 +0 x",
+    b"del +0 0 1",
+    b"del 0 +0 1",
+    b"del 0 0 +1",
+    b"del 0 - +1",
+    b"del 0 -0 1",
+    b"cut +0 0",
+    b"cut 0 +0",
+    b"join +0 0",
+    b"join 0 +0",
+    b"fit +0",
+    b"len +0",
+    b"show +0",
+    b"chunks +0",
+    b"breaks +0",
+    b"b2c +0 0",
+    b"b2c 0 +0",
+    b"byte 0 +0",
+    b"char 0 +0",
+    b"line 0 +0",
+    b"chunk 0 b +0",
+    b"walk 0 bytes +0 n",
+    b"walk +0 bytes 0 n",
+    b"cmp +0 0",
+    b"cmp 0 +0",
+    b"cmp 0 0:+0..1",
+    b"c2p 0 +0",
+    b"p2c 0 +0 0",
+    b"p2c 0 0 +0",
+];
+
+#[test]
+fn numbers_with_a_sign_are_bad_lines(rt: HostRuntime) -> Result<(), Failure> {
+    refuse(rt.alloc(), &SIGNS)
 }

@@ -30,6 +30,8 @@ mod replies;
 #[cfg(test)]
 mod rows;
 #[cfg(test)]
+mod runs;
+#[cfg(test)]
 mod seams;
 #[cfg(test)]
 mod served;

@@ -193,3 +193,36 @@ const QUERIES: [(&str, &str); 27] = [
 fn every_query_is_replied(rt: HostRuntime) -> Result<(), Failure> {
     expect(rt.alloc(), &QUERIES)
 }
+
+/// Lines with two numbers of one form, each with a reply that tells which is which.
+const WORDS_IN_ORDER: [(&str, &str); 24] = [
+    ("text abcd", "rope 0"),
+    ("text xy", "rope 1"),
+    ("join 1 0", "ok"),
+    ("show 1", "\"xyabcd\""),
+    ("show 0", "\"abcd\""),
+    ("cut 0 1", "rope 2"),
+    ("show 0", "\"a\""),
+    ("show 2", "\"bcd\""),
+    ("ins 2 1 q", "ok"),
+    ("show 2", "\"bqcd\""),
+    ("insc 2 1 r", "ok"),
+    ("show 2", "\"brqcd\""),
+    ("del 2 1 3", "ok"),
+    ("show 2", "\"bcd\""),
+    ("copy 2:1..3", "rope 3"),
+    ("show 3", "\"cd\""),
+    ("cmp 3 2", "greater"),
+    ("cmp 2 3", "less"),
+    ("cmp 1:2..3 0", "equal"),
+    ("byte 3 1", "100"),
+    ("line 1:0..2 0", "\"xy\""),
+    ("chunk 0 c 1", "\"a\" 0 0 0"),
+    ("c2p 1 4", "0 4"),
+    ("p2c 1 0 4", "4"),
+];
+
+#[test]
+fn words_are_read_in_their_order(rt: HostRuntime) -> Result<(), Failure> {
+    expect(rt.alloc(), &WORDS_IN_ORDER)
+}

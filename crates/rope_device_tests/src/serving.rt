@@ -9,7 +9,7 @@ use std::alloc::{AllocError, Global};
 use std::cell::Cell;
 
 /// Inputs, how the runs over them end, and what is written.
-const ENDS: [(&[u8], Ended, &str); 13] = [
+const ENDS: [(&[u8], Ended, &str); 18] = [
     (b"", Ended::Done, ""),
     (b"\n", Ended::BadLine(1), ""),
     (b"text \nlen 0", Ended::Done, "rope 0\n0 0 1 0\n"),
@@ -17,6 +17,24 @@ const ENDS: [(&[u8], Ended, &str); 13] = [
     (b"len 7\n\n", Ended::BadLine(2), "no rope\n"),
     (b"len 7\r\n", Ended::BadLine(1), ""),
     (b"len 7\ntext \xff\n", Ended::BadLine(2), "no rope\n"),
+    (
+        b"len 7\nlen 7\nfrob",
+        Ended::BadLine(3),
+        "no rope\nno rope\n",
+    ),
+    (b"new\nfit 0", Ended::Done, "rope 0\nok\n"),
+    (b"new\nb2c 0 0\n", Ended::Done, "rope 0\n0\n"),
+    // a CR before the LF is a character of the TEXT
+    (
+        b"text a\r\nshow 0\ntextb lf \r\nlen 1\n",
+        Ended::Done,
+        "rope 0\n\"a\\r\"\nrope 1\n1 1 1 1\n",
+    ),
+    (
+        b"new\nins 0 0 b\r\ninsc 0 0 \r\nshow 0\nlen 0\r",
+        Ended::BadLine(5),
+        "rope 0\nok\nok\n\"\\rb\\r\"\n",
+    ),
     (
         b"text \nins 0 0 \nins 0 1 \nchunks 0\ntext \nins 2 0 a\n",
         Ended::Done,
@@ -80,6 +98,37 @@ fn ends_with(
         ),
         _ => Err(Failure::new("no memory for the input")),
     }
+}
+
+/// Good lines, and then one that is bad.
+fn bad_after(alloc: Global, count: usize) -> Result<String, AllocError> {
+    let good = repeated(alloc, "len 0\n", count)?;
+    format!(in alloc; "{}frob\nlen 0\n", good.as_str())
+}
+
+/// Fails unless a bad line after `count` good ones is reported by its number, counted from 1.
+fn expect_bad_after(alloc: Global, count: u16) -> Result<(), Failure> {
+    let input = bad_after(alloc, usize::from(count))?;
+    let replies = repeated(alloc, "no rope\n", usize::from(count))?;
+    let ended = Ended::BadLine(u64::from(count) + 1);
+    expect_served(
+        alloc,
+        input.as_str().as_bytes(),
+        4096,
+        ended,
+        replies.as_str(),
+    )
+}
+
+#[test]
+fn a_bad_line_is_reported_by_its_number(rt: HostRuntime) -> Result<(), Failure> {
+    for count in &[0u16, 1, 2, 3, 9, 10, 99, 255, 256, 4095] {
+        within(
+            format_args!("after {count} lines"),
+            expect_bad_after(rt.alloc(), *count),
+        )?;
+    }
+    Ok(())
 }
 
 /// A text that is joined to itself until it may not grow.
@@ -210,8 +259,9 @@ fn a_reply_longer_than_what_is_gathered_is_written(rt: HostRuntime) -> Result<()
 const LONG: &str = "text a\nlen 0\n";
 
 /// Parts of inputs, one a read, and how many replies had been flushed at each read.
-const SEEN: [(&[&str], &[usize]); 5] = [
+const SEEN: [(&[&str], &[usize]); 6] = [
     (&["text a\n", "len 0\n", "show 0\n"], &[0, 1, 2, 3]),
+    (&["new\n", "b2c 0 0\n", "fit 0\n"], &[0, 1, 2, 3]),
     (
         &["text a\nlen 0\nsh", "ow", " 0\nlen 0", "\n"],
         &[0, 2, 2, 3, 4],

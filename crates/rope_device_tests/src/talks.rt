@@ -1,6 +1,5 @@
 //! Readers that give a few bytes at once, writers with little room, and both ends of a talk.
-use rope_plain::failure::Failure;
-use rope_plain::same;
+use rope_plain::failure::{Failure, expect_same, within};
 use std::alloc::Global;
 use std::cell::Cell;
 use std::io::{self, ErrorKind, Read, Write};
@@ -26,13 +25,29 @@ impl Read for Dripping<'_> {
     }
 }
 
+/// Fails at the first line of what was written that is not the line wanted, and counts it from 1.
+fn expect_same_lines(found: &str, wanted: &str) -> Result<(), Failure> {
+    let mut lines = found.split('\n');
+    let mut number: usize = 0;
+    for line in wanted.split('\n') {
+        number = number.saturating_add(1);
+        within(
+            format_args!("reply {number}"),
+            expect_same("it", &lines.next(), &Some(line)),
+        )?;
+    }
+    within(
+        "past the last reply",
+        expect_same("it", &lines.next(), &None),
+    )
+}
+
 /// Fails unless the bytes that were written are a text.
 fn expect_same_text(written: &[u8], text: &str) -> Result<(), Failure> {
     let Ok(found) = str::from_utf8(written) else {
         return Err(Failure::new("no UTF-8 was written"));
     };
-    same!(found, text);
-    Ok(())
+    expect_same_lines(found, text)
 }
 
 /// Keeps so many bytes, and then fails. Its flush may fail too.
@@ -54,14 +69,13 @@ impl Narrow {
         }
     }
 
-    /// Fails unless what was flushed last is this; where the last of what it keeps was not, that is
-    /// nothing.
+    /// Fails unless it keeps this text, and has flushed all of it.
     pub fn expect_flushed(&self, text: &str) -> Result<(), Failure> {
-        if self.is_flushed {
-            expect_same_text(self.kept.as_slice(), text)
-        } else {
-            expect_same_text(b"", text)
+        let count = self.kept.len();
+        if count > 0 && !self.is_flushed {
+            return Err(Failure::new(format_args!("not all of {count} bytes were flushed")));
         }
+        expect_same_text(self.kept.as_slice(), text)
     }
 }
 
