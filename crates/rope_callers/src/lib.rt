@@ -1,5 +1,7 @@
 //! Examples: small callers of ropes, each but the first with a contract that says what it did. They
 //! are proved from public contracts alone. docs/CALLING.md shows them, and `rope_tests` runs them.
+//!
+//! `surface` holds no examples: it uses every public item, so that none can be renamed unseen.
 #![tactic(auto)]
 
 pub mod copies;

@@ -1,10 +1,13 @@
-//! Every public item of `ropey`, `rope_position`, `rope_script` and `rope_language`, used once under
-//! its name, with its arguments in their order and its types.
+//! Every public item of `ropey`, `rope_position`, `rope_script` and `rope_language`, used under its
+//! name, with its arguments in their order and with its types.
 //!
-//! An item that is renamed or dropped, an argument or a result of another type, and an argument more
-//! or less make this file fail to compile. Where two arguments or results have one type, a clause
-//! says which is which, and the prover refuses the two exchanged. Add a caller with every new public
-//! item; change one only where the public surface is to change.
+//! This file fails to compile if an item is renamed or dropped, if a call takes an argument more or
+//! less, or if an argument, a field or a result has another type. Where two of them have the same
+//! type, a clause says which is which, and the prover refuses the two exchanged. Add a caller with
+//! every new public item; change a caller only where the public surface is to change.
+//!
+//! Left out is what `ropey` alone takes from `rope_slice`: `RopeSlice::of_node`, and the variants of
+//! `RopeSlice`.
 //!
 //! Modules:
 //! - `texts`: plain texts, sets of line breaks, sizes, counts of steps, index ranges

@@ -3,16 +3,18 @@ ghost use Rattle.std.specs.Prelude.{◌≡◌, ◌++◌, ◌∷◌, [], List, co
 ghost use Rattle.std.specs.Str.{chars};
 ghost use Rattle.std.specs.String.{string_bytes};
 ghost use Rattle.rope_text.specs.Content.{Content};
+ghost use Rattle.rope_text.specs.Conversions.{char_to_line};
 ghost use Rattle.rope_text.specs.Lines.{line_count};
+ghost use Rattle.rope_text.specs.Lookup.{FoundChunk};
 ghost use Rattle.rope_text.specs.Text.{byte_len, utf16_len};
-ghost use Rattle.rope_text.specs.Position.{position_error, position_to_char};
-ghost use Rattle.rope_script.specs.Ask.{Answers, refusal_or};
-ghost use Rattle.rope_script.specs.Step.{Asks, Copies, Cuts, Inserts, Joins, Removes, Step};
+ghost use Rattle.rope_text.specs.Position.{char_to_column, position_error, position_to_char};
+ghost use Rattle.rope_script.specs.Ask.{Answers, IsChunkReply, refusal_or};
+ghost use Rattle.rope_script.specs.Step.{Asks, Copies, Cuts, Inserts, Joins, Removes, RunsKeepRopes, Step};
 ghost use Rattle.rope_language.specs.EndedText.{ended_text};
 ghost use Rattle.std.specs.Fmt.{decimal};
 
 use rope_language::{Ended, serve};
-use rope_script::{At, Command, Conv, Item, Move, Part, Query, Reply, Session, Unit};
+use rope_script::{At, Command, Conv, Item, Move, Part, Query, Reply, Session, Unit, laws};
 use ropey::{Error, LineBreaks};
 use std::alloc::{AllocError, Global};
 use std::cmp::Ordering;
@@ -234,7 +236,10 @@ pub fn lengths_of(reply: &Reply) -> Option<(usize, usize, usize, usize)>
 }
 
 /// Returns the bytes, characters and line breaks before the chunk of a reply.
-pub fn place_of_chunk(reply: &Reply) -> Option<(usize, usize, usize)> {
+pub fn place_of_chunk(reply: &Reply) -> Option<(usize, usize, usize)>
+    ensures { (found : FoundChunk) → IsChunkReply reply.now found
+        → result ≡ Some (found.bytes, found.chars, found.break_count) }
+{
     match reply {
         Reply::Chunk(_, bytes, characters, breaks) => Some((*bytes, *characters, *breaks)),
         _ => None,
@@ -242,7 +247,10 @@ pub fn place_of_chunk(reply: &Reply) -> Option<(usize, usize, usize)> {
 }
 
 /// Returns the line and the column of a reply.
-pub fn position_of(reply: &Reply) -> Option<(usize, usize)> {
+pub fn position_of(reply: &Reply) -> Option<(usize, usize)>
+    ensures { (ropes : List Content) (c : Content) → Answers ropes c (Query.ToPosition 0) reply.now
+        → result ≡ Some (char_to_line c.breaks c.text 0, char_to_column c.breaks c.text 0) }
+{
     match reply {
         Reply::Position(line, column) => Some((*line, *column)),
         _ => None,
@@ -253,6 +261,13 @@ pub fn position_of(reply: &Reply) -> Option<(usize, usize)> {
 pub fn run(alloc: Global, commands: &[Command], replies: &mut Vec<Reply>) -> Result<(), Error> {
     let mut session: Session = Session::new(alloc);
     session.run(commands, replies)
+}
+
+/// Holds by the law of runs.
+pub fn runs_keep_ropes()
+    ensures { RunsKeepRopes }
+{
+    laws::runs_keep_ropes();
 }
 
 /// Serves a reader's lines.

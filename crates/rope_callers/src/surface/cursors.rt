@@ -1,6 +1,8 @@
 //! The four cursors: their items, both ways, and how many are left.
 ghost use Rattle.std.specs.Prelude.{◌≡◌, Some, IfOk, length};
-ghost use Rattle.rope_text.specs.Sides.{ahead, turned};
+ghost use Rattle.std.specs.Str.{chars};
+ghost use Rattle.rope_text.specs.Sides.{GoesAhead, StepsBack, ahead, turned};
+ghost use Rattle.rope_slice.specs.Slice.{content_of};
 
 use ropey::RopeSlice;
 use ropey::iter::{Bytes, Chars, Chunks, Lines};
@@ -11,9 +13,18 @@ fn left<I: ExactSizeIterator>(items: &I) -> usize {
     items.len()
 }
 
-/// Returns the next byte of a cursor, and the one before.
-pub fn bytes_steps(bytes: &mut Bytes<'_>) -> (Option<u8>, Option<u8>) {
-    (bytes.next(), bytes.prev())
+/// Returns the next byte of a cursor.
+pub fn next_byte(bytes: &mut Bytes<'_>) -> Option<u8>
+    ensures { GoesAhead (λ x. x) bytes.old result bytes.new }
+{
+    bytes.next()
+}
+
+/// Returns the byte before, and steps back.
+pub fn prev_byte(bytes: &mut Bytes<'_>) -> Option<u8>
+    ensures { StepsBack (λ x. x) bytes.old result bytes.new }
+{
+    bytes.prev()
 }
 
 /// Turns a cursor over bytes.
@@ -24,7 +35,7 @@ pub fn reverse_bytes(bytes: &mut Bytes<'_>)
 }
 
 /// Returns a turned cursor over bytes.
-pub fn bytes_reversed<'a>(bytes: Bytes<'a>) -> Bytes<'a>
+pub fn reversed_bytes<'a>(bytes: Bytes<'a>) -> Bytes<'a>
     ensures { result ≡ turned bytes.entry }
 {
     bytes.reversed()
@@ -38,7 +49,7 @@ pub fn clone_bytes<'a>(bytes: &Bytes<'a>) -> Result<Bytes<'a>, AllocError>
 }
 
 /// Returns how many bytes a cursor still gives.
-pub fn bytes_left(bytes: &Bytes<'_>) -> (usize, usize, Option<usize>)
+pub fn left_bytes(bytes: &Bytes<'_>) -> (usize, usize, Option<usize>)
     ensures least { result.1 ≡ length (ahead bytes.now) }
     ensures most { result.2 ≡ Some (length (ahead bytes.now)) }
 {
@@ -46,34 +57,43 @@ pub fn bytes_left(bytes: &Bytes<'_>) -> (usize, usize, Option<usize>)
     (left(bytes), least, most)
 }
 
-/// Returns the next character of a cursor, and the one before.
-pub fn chars_steps(chars: &mut Chars<'_>) -> (Option<char>, Option<char>) {
-    (chars.next(), chars.prev())
+/// Returns the next character of a cursor.
+pub fn next_char(chars: &mut Chars<'_>) -> Option<char>
+    ensures { GoesAhead (λ x. x) chars.old result chars.new }
+{
+    chars.next()
 }
 
-/// Turns a cursor over chars.
+/// Returns the character before, and steps back.
+pub fn prev_char(chars: &mut Chars<'_>) -> Option<char>
+    ensures { StepsBack (λ x. x) chars.old result chars.new }
+{
+    chars.prev()
+}
+
+/// Turns a cursor over characters.
 pub fn reverse_chars(chars: &mut Chars<'_>)
     ensures { chars.new ≡ turned chars.old }
 {
     chars.reverse();
 }
 
-/// Returns a turned cursor over chars.
-pub fn chars_reversed<'a>(chars: Chars<'a>) -> Chars<'a>
+/// Returns a turned cursor over characters.
+pub fn reversed_chars<'a>(chars: Chars<'a>) -> Chars<'a>
     ensures { result ≡ turned chars.entry }
 {
     chars.reversed()
 }
 
-/// Clones a cursor over chars.
+/// Clones a cursor over characters.
 pub fn clone_chars<'a>(chars: &Chars<'a>) -> Result<Chars<'a>, AllocError>
     ensures { IfOk result (λ clone. clone ≡ chars.now) }
 {
     chars.clone()
 }
 
-/// Returns how many chars a cursor still gives.
-pub fn chars_left(chars: &Chars<'_>) -> (usize, usize, Option<usize>)
+/// Returns how many characters a cursor still gives.
+pub fn left_chars(chars: &Chars<'_>) -> (usize, usize, Option<usize>)
     ensures least { result.1 ≡ length (ahead chars.now) }
     ensures most { result.2 ≡ Some (length (ahead chars.now)) }
 {
@@ -81,9 +101,18 @@ pub fn chars_left(chars: &Chars<'_>) -> (usize, usize, Option<usize>)
     (left(chars), least, most)
 }
 
-/// Returns the next line of a cursor, and the one before.
-pub fn lines_steps<'a>(lines: &mut Lines<'a>) -> (Option<RopeSlice<'a>>, Option<RopeSlice<'a>>) {
-    (lines.next(), lines.prev())
+/// Returns the next line of a cursor.
+pub fn next_line<'a>(lines: &mut Lines<'a>) -> Option<RopeSlice<'a>>
+    ensures { GoesAhead (λ x. content_of x) lines.old result lines.new }
+{
+    lines.next()
+}
+
+/// Returns the line before, and steps back.
+pub fn prev_line<'a>(lines: &mut Lines<'a>) -> Option<RopeSlice<'a>>
+    ensures { StepsBack (λ x. content_of x) lines.old result lines.new }
+{
+    lines.prev()
 }
 
 /// Turns a cursor over lines.
@@ -94,7 +123,7 @@ pub fn reverse_lines(lines: &mut Lines<'_>)
 }
 
 /// Returns a turned cursor over lines.
-pub fn lines_reversed<'a>(lines: Lines<'a>) -> Lines<'a>
+pub fn reversed_lines<'a>(lines: Lines<'a>) -> Lines<'a>
     ensures { result ≡ turned lines.entry }
 {
     lines.reversed()
@@ -108,7 +137,7 @@ pub fn clone_lines<'a>(lines: &Lines<'a>) -> Result<Lines<'a>, AllocError>
 }
 
 /// Returns how many lines a cursor still gives.
-pub fn lines_left(lines: &Lines<'_>) -> (usize, usize, Option<usize>)
+pub fn left_lines(lines: &Lines<'_>) -> (usize, usize, Option<usize>)
     ensures least { result.1 ≡ length (ahead lines.now) }
     ensures most { result.2 ≡ Some (length (ahead lines.now)) }
 {
@@ -116,9 +145,18 @@ pub fn lines_left(lines: &Lines<'_>) -> (usize, usize, Option<usize>)
     (left(lines), least, most)
 }
 
-/// Returns the next chunk of a cursor, and the one before.
-pub fn chunks_steps<'a>(chunks: &mut Chunks<'a>) -> (Option<&'a str>, Option<&'a str>) {
-    (chunks.next(), chunks.prev())
+/// Returns the next chunk of a cursor.
+pub fn next_chunk<'a>(chunks: &mut Chunks<'a>) -> Option<&'a str>
+    ensures { GoesAhead (λ x. chars x.now) chunks.old result chunks.new }
+{
+    chunks.next()
+}
+
+/// Returns the chunk before, and steps back.
+pub fn prev_chunk<'a>(chunks: &mut Chunks<'a>) -> Option<&'a str>
+    ensures { StepsBack (λ x. chars x.now) chunks.old result chunks.new }
+{
+    chunks.prev()
 }
 
 /// Turns a cursor over chunks.
@@ -129,7 +167,7 @@ pub fn reverse_chunks(chunks: &mut Chunks<'_>)
 }
 
 /// Returns a turned cursor over chunks.
-pub fn chunks_reversed<'a>(chunks: Chunks<'a>) -> Chunks<'a>
+pub fn reversed_chunks<'a>(chunks: Chunks<'a>) -> Chunks<'a>
     ensures { result ≡ turned chunks.entry }
 {
     chunks.reversed()

@@ -3,9 +3,9 @@ ghost use Rattle.std.specs.Prelude.{◌≡◌, ◌≤◌, length, None};
 ghost use Rattle.rope_text.specs.Answer.{checked};
 ghost use Rattle.rope_text.specs.Edit.{char_index_error};
 ghost use Rattle.rope_text.specs.Position.{position_error, position_to_char};
-ghost use Rattle.rope_position.specs.Positions.{position_at};
+ghost use Rattle.rope_position.specs.Positions.{PositionsReturn, position_at};
 
-use rope_position::{Position, Positions};
+use rope_position::{Position, Positions, laws};
 use ropey::{Result, Rope, RopeSlice};
 
 /// Makes a position of a line and a column.
@@ -50,4 +50,11 @@ pub fn positions(rope: &Rope, slice: &RopeSlice<'_>, char_idx: usize) -> Result<
     let of_rope = try_char_to_position(rope, char_idx)?;
     let of_slice = try_char_to_position(slice, char_idx)?;
     Ok(of_rope == of_slice)
+}
+
+/// Holds by the law of positions.
+pub fn positions_return()
+    ensures { PositionsReturn }
+{
+    laws::positions_return();
 }

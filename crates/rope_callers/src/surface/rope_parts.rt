@@ -12,6 +12,7 @@ ghost use Rattle.rope_slice.specs.Sliced.{HasByteRange, HasCharRange, IsByteRang
 ghost use Rattle.rope_slice.specs.Slice.{content_of};
 ghost use Rattle.ropey.specs.View.{content};
 
+use rope_text::TextInfo;
 use ropey::iter::{Bytes, Chars, Chunks, Lines};
 use ropey::{IndexRange, Result, Rope, RopeSlice};
 
@@ -127,6 +128,14 @@ pub fn lines_at(rope: &Rope, line_idx: usize) -> Lines<'_>
     ensures { result ≡ at_place (lines_of (content rope.now)) line_idx }
 {
     rope.lines_at(line_idx)
+}
+
+/// Starts a cursor at a line of a rope, with the counts of the text before it.
+pub fn lines_and_counts_at(rope: &Rope, line_idx: usize) -> (Lines<'_>, TextInfo)
+    requires { line_idx ≤ line_count rope.now.breaks rope.now.text }
+    ensures { result.0 ≡ at_place (lines_of (content rope.now)) line_idx }
+{
+    rope.lines_and_counts_at(line_idx)
 }
 
 /// Starts a cursor at any line of a rope.

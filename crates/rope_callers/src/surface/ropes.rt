@@ -117,6 +117,14 @@ pub fn finish(builder: RopeBuilder) -> Result<Rope>
     builder.finish()
 }
 
+/// Prints how far a builder is.
+pub fn print_builder(
+    alloc: Global,
+    builder: &RopeBuilder,
+) -> std::result::Result<String, AllocError> {
+    format!(in alloc; "{builder:?}")
+}
+
 /// Returns the lengths of a rope.
 pub fn lengths(rope: &Rope) -> (usize, usize, usize, usize)
     ensures bytes { result.0 ≡ byte_len rope.now.text }

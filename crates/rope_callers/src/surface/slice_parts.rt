@@ -11,6 +11,7 @@ ghost use Rattle.rope_slice.specs.Ranges.{GivesBytes, GivesChars, IsByteSlice};
 ghost use Rattle.rope_slice.specs.Sliced.{HasByteRange, HasCharRange, IsByteRange, IsCharRange};
 ghost use Rattle.rope_slice.specs.Slice.{breaks_of, chunks_of, content_of, text_of};
 
+use rope_text::TextInfo;
 use ropey::iter::{Bytes, Chars, Chunks, Lines};
 use ropey::{IndexRange, Result, RopeSlice};
 
@@ -127,6 +128,14 @@ pub fn lines_at<'a>(slice: &RopeSlice<'a>, line_idx: usize) -> Lines<'a>
     ensures { result ≡ at_place (lines_of (content_of slice.now)) line_idx }
 {
     slice.lines_at(line_idx)
+}
+
+/// Starts a cursor at a line of a slice, with the counts of the text before it.
+pub fn lines_and_counts_at<'a>(slice: &RopeSlice<'a>, line_idx: usize) -> (Lines<'a>, TextInfo)
+    requires { line_idx ≤ line_count (breaks_of slice.now) (text_of slice.now) }
+    ensures { result.0 ≡ at_place (lines_of (content_of slice.now)) line_idx }
+{
+    slice.lines_and_counts_at(line_idx)
 }
 
 /// Starts a cursor at any line of a slice.

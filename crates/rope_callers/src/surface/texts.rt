@@ -2,6 +2,7 @@
 ghost use Rattle.std.specs.Prelude.{◌≡◌, ◌∷◌, [], None, Some};
 ghost use Rattle.std.specs.Str.{chars};
 ghost use Rattle.rope_text.specs.declared.line_breaks.LineBreaks.TheVariants.{Unicode};
+ghost use Rattle.rope_text.specs.Breaks.{is_break_char};
 ghost use Rattle.rope_text.specs.Conversions.{byte_to_char, byte_to_line, char_to_byte, char_to_line, line_to_byte, line_to_char};
 ghost use Rattle.rope_text.specs.Range.{excluded_end};
 
@@ -51,6 +52,13 @@ pub fn line_breaks(breaks: LineBreaks) -> [bool; 3] {
         LineBreaks::CrLf => [false, breaks == LineBreaks::CrLf, false],
         LineBreaks::Unicode => [false, false, true],
     }
+}
+
+/// Returns whether a character ends a line break of a set.
+pub fn is_break(breaks: LineBreaks, c: char) -> bool
+    ensures { result ≡ is_break_char breaks c }
+{
+    breaks.is_break(c)
 }
 
 /// Returns the bounds on chunks and children.
