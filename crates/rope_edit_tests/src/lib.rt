@@ -3,6 +3,7 @@
 //! No contract shows these:
 //! - a call succeeds where there is memory, and rows worked by hand come out;
 //! - a rope lies in few chunks after many edits;
+//! - a counted edit counts each node and comparison;
 //! - texts of 2^62 bytes are edited without a walk over them.
 //!
 //! The proofs show these too, and they are run for the compiler's sake: each edit leaves its text,
@@ -12,6 +13,8 @@
 
 #[cfg(test)]
 mod building;
+#[cfg(test)]
+mod counts;
 #[cfg(test)]
 mod edits;
 #[cfg(test)]

@@ -5,13 +5,14 @@ ghost use Rattle.rope_tree.specs.Tree.{text, leaf_tree, IsTree};
 ghost use Rattle.rope_tree.specs.View.{trees_in};
 ghost use Rattle.rope_tree.specs.Siblings.{gathered};
 ghost use Rattle.rope_tree.specs.Rows.{IsRow};
+ghost use Rattle.rope_tree.specs.Searched.{HasSearched};
 ghost use Rattle.rope_join.specs.Cut.{side_of, IsFront, IsBack, ArePart, AreBeside, IsWithFront, IsWithBack};
 
 use crate::join::{unite, unite_before, unite_behind};
-use rope_text::{LineBreaks, Steps, TextInfo};
+use rope_text::{LineBreaks, TextInfo};
 use rope_tree::{
-    Made, Maker, Node, Nodes, Row, ShortText, Unit, View, gather_rows, leaf_of, make_leaf,
-    place_of, shared_breaks, total_before,
+    Editor, Made, Maker, Node, Nodes, Row, ShortText, View, gather_rows, leaf_of, make_leaf,
+    shared_breaks, total_before,
 };
 
 /// The two sides of a place at which a text is cut.
@@ -71,7 +72,7 @@ struct Part<'a> {
 
 /// The first `at` characters of an inner node, at least one.
 #[cycle(front)]
-fn front_part<'a>(maker: &mut Maker, node: &'a Node, at: usize) -> Made<Part<'a>>
+fn front_part<'a>(editor: &mut Editor, node: &'a Node, at: usize) -> Made<Part<'a>>
     requires inner { 1 ≤ node.now.height }
     requires some { 1 ≤ at }
     requires within { at ≤ length (text node.now) }
@@ -80,73 +81,76 @@ fn front_part<'a>(maker: &mut Maker, node: &'a Node, at: usize) -> Made<Part<'a>
         (part.row.nodes.now ++ trees_in part.nodes)) }
     ensures front { IfOk result (λ part. IsFront at node.now
         (gathered (part.row.nodes.now ++ trees_in part.nodes))) }
-    ensures made_ok { IfOk result (λ part. maker.new.made ≤ maker.old.made
+    ensures made_ok { IfOk result (λ part. editor.new.maker.made ≤ editor.old.maker.made
         + 4 * node.now.height
         + 2 * (gathered (part.row.nodes.now ++ trees_in part.nodes)).height) }
-    ensures made { maker.new.made ≤ maker.old.made + 6 * node.now.height }
+    ensures made { editor.new.maker.made ≤ editor.old.maker.made + 6 * node.now.height }
+    ensures searched { HasSearched node.now.height (5 * node.now.height) editor.old editor.new }
 {
     let View::Inner(children, totals) = node.view() else {
         unreachable!()
     };
-    let place = place_of(totals, Unit::Char, at - 1, &mut Steps::new());
+    let place = editor.child_at(totals, at - 1);
     let before = total_before(totals, place).chars;
     let child = &children[place];
     let within = at - before;
     if place == 0 {
-        let only = front(maker, child, within)?;
+        let only = front(editor, child, within)?;
         return Ok(Part {
             row: Row::none(),
             nodes: Nodes::One(only),
         });
     }
     let row = Row::of(children, totals).first(place - 1);
-    let nodes = with_front(maker, &children[place - 1], child, within)?;
+    let nodes = with_front(editor, &children[place - 1], child, within)?;
     Ok(Part { row, nodes })
 }
 
 /// A tree, and behind it the first `at` characters of its next sibling, at least one.
 #[cycle(front)]
-fn with_front(maker: &mut Maker, left: &Node, right: &Node, at: usize) -> Made<Nodes>
+fn with_front(editor: &mut Editor, left: &Node, right: &Node, at: usize) -> Made<Nodes>
     requires beside { AreBeside left.now right.now }
     requires some { 1 ≤ at }
     requires within { at ≤ length (text right.now) }
     ensures union { IfOk result (λ nodes. IsWithFront left.now at right.now (trees_in nodes)) }
-    ensures made { maker.new.made ≤ maker.old.made + 6 * right.now.height + 3 }
+    ensures made { editor.new.maker.made ≤ editor.old.maker.made + 6 * right.now.height + 3 }
+    ensures searched { HasSearched right.now.height (5 * right.now.height) editor.old editor.new }
 {
     if right.height() == 0 || at == right.info().chars {
-        let part = front(maker, right, at)?;
-        return unite(maker, left, &part);
+        let part = front(editor, right, at)?;
+        return unite(&mut editor.maker, left, &part);
     }
-    let Part { row, nodes } = front_part(maker, right, at)?;
-    unite_behind(maker, left, row, nodes)
+    let Part { row, nodes } = front_part(editor, right, at)?;
+    unite_behind(&mut editor.maker, left, row, nodes)
 }
 
 /// The first `at` characters, perhaps none. Nodes that lie wholly before the cut are shared.
 #[cycle(front)]
-pub fn front(maker: &mut Maker, node: &Node, at: usize) -> Made<Node>
+pub fn front(editor: &mut Editor, node: &Node, at: usize) -> Made<Node>
     requires { at ≤ length (text node.now) }
     ensures front { IfOk result (λ part. IsFront at node.now part) }
     ensures tree { IfOk result (λ part. IsTree part) }
-    ensures made_ok { IfOk result (λ part. maker.new.made
-        ≤ maker.old.made + 4 * node.now.height + 2 * part.height + 1) }
-    ensures made { maker.new.made ≤ maker.old.made + 6 * node.now.height + 1 }
+    ensures made_ok { IfOk result (λ part. editor.new.maker.made
+        ≤ editor.old.maker.made + 4 * node.now.height + 2 * part.height + 1) }
+    ensures made { editor.new.maker.made ≤ editor.old.maker.made + 6 * node.now.height + 1 }
+    ensures searched { HasSearched node.now.height (5 * node.now.height) editor.old editor.new }
 {
     if at == 0 {
-        return leaf_of(maker, node.line_breaks(), "");
+        return leaf_of(&mut editor.maker, node.line_breaks(), "");
     }
     if at == node.info().chars {
         return node.share();
     }
     if let View::Leaf(leaf) = node.view() {
-        return leaf_part(maker, node, &leaf, at, Side::Front);
+        return leaf_part(&mut editor.maker, node, &leaf, at, Side::Front);
     }
-    let Part { row, nodes } = front_part(maker, node, at)?;
-    gather_rows(maker, row, nodes, Row::none())
+    let Part { row, nodes } = front_part(editor, node, at)?;
+    gather_rows(&mut editor.maker, row, nodes, Row::none())
 }
 
 /// What follows the first `at` characters of an inner node, at least one character.
 #[cycle(back)]
-fn back_part<'a>(maker: &mut Maker, node: &'a Node, at: usize) -> Made<Part<'a>>
+fn back_part<'a>(editor: &mut Editor, node: &'a Node, at: usize) -> Made<Part<'a>>
     requires inner { 1 ≤ node.now.height }
     requires within { at < length (text node.now) }
     ensures row { IfOk result (λ part. IsRow part.row) }
@@ -154,80 +158,85 @@ fn back_part<'a>(maker: &mut Maker, node: &'a Node, at: usize) -> Made<Part<'a>>
         (trees_in part.nodes ++ part.row.nodes.now)) }
     ensures back { IfOk result (λ part. IsBack at node.now
         (gathered (trees_in part.nodes ++ part.row.nodes.now))) }
-    ensures made_ok { IfOk result (λ part. maker.new.made ≤ maker.old.made
+    ensures made_ok { IfOk result (λ part. editor.new.maker.made ≤ editor.old.maker.made
         + 4 * node.now.height
         + 2 * (gathered (trees_in part.nodes ++ part.row.nodes.now)).height) }
-    ensures made { maker.new.made ≤ maker.old.made + 6 * node.now.height }
+    ensures made { editor.new.maker.made ≤ editor.old.maker.made + 6 * node.now.height }
+    ensures searched { HasSearched node.now.height (5 * node.now.height) editor.old editor.new }
 {
     let View::Inner(children, totals) = node.view() else {
         unreachable!()
     };
-    let place = place_of(totals, Unit::Char, at, &mut Steps::new());
+    let place = editor.child_at(totals, at);
     let before = total_before(totals, place).chars;
     let child = &children[place];
     let within = at - before;
     if place + 1 == children.len() {
-        let only = back(maker, child, within)?;
+        let only = back(editor, child, within)?;
         return Ok(Part {
             row: Row::none(),
             nodes: Nodes::One(only),
         });
     }
     let row = Row::of(children, totals).rest(place + 2);
-    let nodes = with_back(maker, child, within, &children[place + 1])?;
+    let nodes = with_back(editor, child, within, &children[place + 1])?;
     Ok(Part { row, nodes })
 }
 
 /// A tree, and before it what follows the first `at` characters of the sibling before it, at least
 /// one.
 #[cycle(back)]
-fn with_back(maker: &mut Maker, left: &Node, at: usize, right: &Node) -> Made<Nodes>
+fn with_back(editor: &mut Editor, left: &Node, at: usize, right: &Node) -> Made<Nodes>
     requires beside { AreBeside left.now right.now }
     requires within { at < length (text left.now) }
     ensures union { IfOk result (λ nodes. IsWithBack left.now at right.now (trees_in nodes)) }
-    ensures made { maker.new.made ≤ maker.old.made + 6 * left.now.height + 3 }
+    ensures made { editor.new.maker.made ≤ editor.old.maker.made + 6 * left.now.height + 3 }
+    ensures searched { HasSearched left.now.height (5 * left.now.height) editor.old editor.new }
 {
     if left.height() == 0 || at == 0 {
-        let part = back(maker, left, at)?;
-        return unite(maker, &part, right);
+        let part = back(editor, left, at)?;
+        return unite(&mut editor.maker, &part, right);
     }
-    let Part { row, nodes } = back_part(maker, left, at)?;
-    unite_before(maker, nodes, row, right)
+    let Part { row, nodes } = back_part(editor, left, at)?;
+    unite_before(&mut editor.maker, nodes, row, right)
 }
 
 /// What follows the first `at` characters, perhaps nothing. Nodes that lie wholly behind the cut
 /// are shared.
 #[cycle(back)]
-pub fn back(maker: &mut Maker, node: &Node, at: usize) -> Made<Node>
+pub fn back(editor: &mut Editor, node: &Node, at: usize) -> Made<Node>
     requires { at ≤ length (text node.now) }
     ensures back { IfOk result (λ part. IsBack at node.now part) }
     ensures tree { IfOk result (λ part. IsTree part) }
-    ensures made { maker.new.made ≤ maker.old.made + 6 * node.now.height + 1 }
-    ensures made_ok { IfOk result (λ part. maker.new.made
-        ≤ maker.old.made + 4 * node.now.height + 2 * part.height + 1) }
+    ensures made { editor.new.maker.made ≤ editor.old.maker.made + 6 * node.now.height + 1 }
+    ensures made_ok { IfOk result (λ part. editor.new.maker.made
+        ≤ editor.old.maker.made + 4 * node.now.height + 2 * part.height + 1) }
+    ensures searched { HasSearched node.now.height (5 * node.now.height) editor.old editor.new }
 {
     if at == node.info().chars {
-        return leaf_of(maker, node.line_breaks(), "");
+        return leaf_of(&mut editor.maker, node.line_breaks(), "");
     }
     if at == 0 {
         return node.share();
     }
     if let View::Leaf(leaf) = node.view() {
-        return leaf_part(maker, node, &leaf, at, Side::Back);
+        return leaf_part(&mut editor.maker, node, &leaf, at, Side::Back);
     }
-    let Part { row, nodes } = back_part(maker, node, at)?;
-    gather_rows(maker, Row::none(), nodes, row)
+    let Part { row, nodes } = back_part(editor, node, at)?;
+    gather_rows(&mut editor.maker, Row::none(), nodes, row)
 }
 
 /// The characters from `start` up to `end`, at least one. Nodes that lie wholly between are shared.
-pub fn between(maker: &mut Maker, node: &Node, start: usize, end: usize) -> Made<Node>
+pub fn between(editor: &mut Editor, node: &Node, start: usize, end: usize) -> Made<Node>
     requires ordered { start < end }
     requires within { end ≤ length (text node.now) }
     ensures text { IfOk result (λ part. text part ≡ slice_range (text node.now) start end) }
     ensures breaks { IfOk result (λ part. part.breaks ≡ node.now.breaks) }
     ensures tree { IfOk result (λ part. IsTree part) }
-    ensures made { maker.new.made ≤ maker.old.made + 12 * node.now.height + 3 }
+    ensures made { editor.new.maker.made ≤ editor.old.maker.made + 12 * node.now.height + 3 }
+    ensures searched { HasSearched (2 * node.now.height) (10 * node.now.height) editor.old
+        editor.new }
 {
-    let front = front(maker, node, end)?;
-    back(maker, &front, start)
+    let front = front(editor, node, end)?;
+    back(editor, &front, start)
 }

@@ -8,16 +8,16 @@ ghost use Rattle.rope_text.specs.Text.{byte_len};
 ghost use Rattle.rope_tree.specs.Leaves.{IsSeam};
 ghost use Rattle.rope_tree.specs.Siblings.{gathered};
 ghost use Rattle.rope_tree.specs.Totals.{HasTotals};
+ghost use Rattle.rope_tree.specs.Searched.{HasSearched};
 ghost use Rattle.rope_tree.specs.Tree.{text, leaves_of, height_of, breaks_of, IsTree, AreFamily};
 ghost use Rattle.rope_join.specs.Cut.{first_chars, last_chars, SparesFirst, SparesLast, IsSides};
 ghost use Rattle.rope_join.specs.Put.{CanPut, CanPutAtEnd, IsPut, IsPutAtEnd, leaves_before};
 
 use crate::cut::{back, front};
 use crate::join::{end_leaf_len, join, unite};
-use rope_text::{MIN_TWO_LEAVES_BYTES, Steps};
+use rope_text::MIN_TWO_LEAVES_BYTES;
 use rope_tree::{
-    Made, Maker, Node, Row, Totals, Unit, View, node_over, pack, pack_over, place_of, root_of,
-    total_before,
+    Editor, Made, Maker, Node, Row, Totals, View, node_over, pack, pack_over, root_of, total_before,
 };
 
 /// A higher tree is cut into a front and a back instead, so that the nodes made are bounded by a
@@ -75,7 +75,7 @@ pub(crate) fn stands(children: &[Node], first: usize, past: usize, part: &Node) 
 /// The first `end` characters of one tree, and behind them what follows the first `start` of
 /// another, where no CR meets an LF.
 pub(crate) fn join_sides(
-    maker: &mut Maker,
+    editor: &mut Editor,
     left: &Node,
     end: usize,
     right: &Node,
@@ -89,12 +89,14 @@ pub(crate) fn join_sides(
         < 2 ^ 63 }
     ensures sides { IfOk result (λ node. IsSides left.now end right.now start node) }
     ensures tree { IfOk result (λ node. IsTree node) }
-    ensures made { maker.new.made
-        ≤ maker.old.made + 14 * max left.now.height right.now.height + 5 }
+    ensures made { editor.new.maker.made
+        ≤ editor.old.maker.made + 14 * max left.now.height right.now.height + 5 }
+    ensures searched { HasSearched (2 * max left.now.height right.now.height) (10 * max
+        left.now.height right.now.height) editor.old editor.new }
 {
-    let first = front(maker, left, end)?;
-    let second = back(maker, right, start)?;
-    join(maker, &first, &second)
+    let first = front(editor, left, end)?;
+    let second = back(editor, right, start)?;
+    join(&mut editor.maker, &first, &second)
 }
 
 /// A node's children with a tree in the place of those from `first` up to `past`. If the tree is
@@ -166,20 +168,22 @@ fn put_at_end(
 }
 
 /// The tree without the characters from `start` up to `end`, at least one, where no CR meets an LF.
-pub(crate) fn without(maker: &mut Maker, node: &Node, start: usize, end: usize) -> Made<Node>
+pub(crate) fn without(editor: &mut Editor, node: &Node, start: usize, end: usize) -> Made<Node>
     requires ordered { start < end }
     requires within { end ≤ length (text node.now) }
     requires seam { IsSeam (take start (text node.now)) (drop end (text node.now)) }
     ensures sides { IfOk result (λ part. IsSides node.now start node.now end part) }
     ensures tree { IfOk result (λ part. IsTree part) }
-    ensures made { maker.new.made ≤ maker.old.made + 16 * node.now.height + 11 }
+    ensures made { editor.new.maker.made ≤ editor.old.maker.made + 16 * node.now.height + 11 }
+    ensures searched { HasSearched (4 * node.now.height) (20 * node.now.height) editor.old
+        editor.new }
 {
     let height = node.height();
     if let View::Inner(children, totals) = node.view()
         && height <= MAX_ONE_WAY
     {
-        let first = place_of(totals, Unit::Char, start, &mut Steps::new());
-        let last = place_of(totals, Unit::Char, end - 1, &mut Steps::new());
+        let first = editor.child_at(totals, start);
+        let last = editor.child_at(totals, end - 1);
         let (left, right) = (&children[first], &children[last]);
         let from = start - total_before(totals, first).chars;
         let to = end - total_before(totals, last).chars;
@@ -187,26 +191,26 @@ pub(crate) fn without(maker: &mut Maker, node: &Node, start: usize, end: usize) 
             if height == 1 {
                 // At most three leaves are made in vain, if they turn out too short for their
                 // neighbours.
-                let part = join_sides(maker, left, from, right, to)?;
+                let part = join_sides(editor, left, from, right, to)?;
                 if part.info().bytes > 0 && stands(children, first, last + 1, &part) {
-                    return put(maker, children, totals, first, last + 1, &part);
+                    return put(&mut editor.maker, children, totals, first, last + 1, &part);
                 }
             } else if spares_first(left, from) && spares_last(right, to) {
                 let part = if first == last {
-                    without(maker, left, from, to)?
+                    without(editor, left, from, to)?
                 } else {
-                    join_sides(maker, left, from, right, to)?
+                    join_sides(editor, left, from, right, to)?
                 };
-                return put(maker, children, totals, first, last + 1, &part);
+                return put(&mut editor.maker, children, totals, first, last + 1, &part);
             }
         } else if height > 1 && (first > 0 || last + 1 < children.len()) {
             let part = if first == last {
-                without(maker, left, from, to)?
+                without(editor, left, from, to)?
             } else {
-                join_sides(maker, left, from, right, to)?
+                join_sides(editor, left, from, right, to)?
             };
-            return put_at_end(maker, children, first, last + 1, &part);
+            return put_at_end(&mut editor.maker, children, first, last + 1, &part);
         }
     }
-    join_sides(maker, node, start, node, end)
+    join_sides(editor, node, start, node, end)
 }

@@ -8,33 +8,43 @@ ghost use Rattle.rope_text.specs.Text.{byte_len};
 ghost use Rattle.rope_text.specs.Cutting.{parts_crlf};
 ghost use Rattle.rope_text.specs.Edit.{inserted, removed};
 ghost use Rattle.rope_tree.specs.Leaves.{IsSeam};
+ghost use Rattle.rope_tree.specs.Searched.{HasSearched};
 ghost use Rattle.rope_tree.specs.Tree.{text, leaf_tree, IsTree};
 
 use crate::cut::{back, front};
 use crate::gap::{join_sides, put, stands, without};
 use crate::join::join;
-use rope_text::{MAX_BYTES, MAX_SHORT_BYTES, Steps};
+use rope_text::{MAX_BYTES, MAX_SHORT_BYTES};
 use rope_tree::build::build;
 use rope_tree::{
-    Builder, Made, Maker, Node, ShortText, Unit, View, char_at, insert_at, is_lf, leaf_of,
-    place_of, remove_at, total_before,
+    Builder, Editor, Made, Maker, Node, ShortText, View, insert_at, is_lf, leaf_of, remove_at,
+    total_before,
 };
 
 /// Whether a CR at the end of the first `end` characters of one tree meets an LF behind the first
 /// `start` of another.
-fn meets(left: &Node, end: usize, right: &Node, start: usize) -> bool
+fn meets(editor: &mut Editor, left: &Node, end: usize, right: &Node, start: usize) -> bool
     requires tree { IsTree left.now }
     requires end { end ≤ length (text left.now) }
     requires start { start ≤ length (text right.now) }
     ensures value { result ≡ parts_crlf (take end (text left.now)) (drop start (text right.now)) }
     ensures tree { result ≡ true → IsTree right.now }
+    ensures made { editor.new.maker.made ≡ editor.old.maker.made }
+    ensures searched { HasSearched (2 * max left.now.height right.now.height + 2)
+        (10 * max left.now.height right.now.height) editor.old editor.new }
 {
-    end > 0 && char_at(left, end - 1, &mut Steps::new()) == '\r' && is_lf(right, start)
+    end > 0 && editor.char_at(left, end - 1) == '\r' && is_lf(editor, right, start)
 }
 
 /// The first `end` characters of one tree, and behind them what follows the first `start` of
 /// another.
-fn join_parts(maker: &mut Maker, left: &Node, end: usize, right: &Node, start: usize) -> Made<Node>
+fn join_parts(
+    editor: &mut Editor,
+    left: &Node,
+    end: usize,
+    right: &Node,
+    start: usize,
+) -> Made<Node>
     requires tree { IsTree left.now }
     requires end { end ≤ length (text left.now) }
     requires start { start ≤ length (text right.now) }
@@ -45,107 +55,120 @@ fn join_parts(maker: &mut Maker, left: &Node, end: usize, right: &Node, start: u
         ≡ take end (text left.now) ++ drop start (text right.now)) }
     ensures breaks { IfOk result (λ node. node.breaks ≡ left.now.breaks) }
     ensures tree { IfOk result (λ node. IsTree node) }
-    ensures made { maker.new.made
-        ≤ maker.old.made + 16 * max left.now.height right.now.height + 11 }
+    ensures made { editor.new.maker.made
+        ≤ editor.old.maker.made + 16 * max left.now.height right.now.height + 11 }
+    ensures searched { HasSearched (4 * max left.now.height right.now.height
+        + 2) (20 * max left.now.height right.now.height) editor.old editor.new }
 {
-    if !meets(left, end, right, start) {
-        return join_sides(maker, left, end, right, start);
+    if !meets(editor, left, end, right, start) {
+        return join_sides(editor, left, end, right, start);
     }
-    let first = front(maker, left, end - 1)?;
-    let second = back(maker, right, start + 1)?;
-    let pair = leaf_of(maker, left.line_breaks(), "\r\n")?;
-    let ended = join(maker, &first, &pair)?;
-    join(maker, &ended, &second)
+    let first = front(editor, left, end - 1)?;
+    let second = back(editor, right, start + 1)?;
+    let pair = leaf_of(&mut editor.maker, left.line_breaks(), "\r\n")?;
+    let ended = join(&mut editor.maker, &first, &pair)?;
+    join(&mut editor.maker, &ended, &second)
 }
 
 /// The text of one tree and then that of another.
-fn append(maker: &mut Maker, left: &Node, right: &Node) -> Made<Node>
+fn append(editor: &mut Editor, left: &Node, right: &Node) -> Made<Node>
     requires same_breaks { right.now.breaks ≡ left.now.breaks }
     requires fits { byte_len (text left.now) + byte_len (text right.now) < 2 ^ 63 }
     ensures text { IfOk result (λ node. text node ≡ text left.now ++ text right.now) }
     ensures breaks { IfOk result (λ node. node.breaks ≡ left.now.breaks) }
     ensures tree { IfOk result (λ node. IsTree node) }
-    ensures made { maker.new.made
-        ≤ maker.old.made + 16 * max left.now.height right.now.height + 11 }
+    ensures made { editor.new.maker.made
+        ≤ editor.old.maker.made + 16 * max left.now.height right.now.height + 11 }
+    ensures searched { HasSearched (4 * max left.now.height right.now.height
+        + 2) (20 * max left.now.height right.now.height) editor.old editor.new }
 {
-    join_parts(maker, left, left.info().chars, right, 0)
+    join_parts(editor, left, left.info().chars, right, 0)
 }
 
 /// Appends the text of another tree. If that is a leaf, and short, its text is inserted into the
 /// last leaf, where that stands; else a tree of both takes the old one's place last of all.
-pub fn append_to(maker: &mut Maker, root: &mut Node, other: &Node) -> Made<()>
+pub fn append_to(editor: &mut Editor, root: &mut Node, other: &Node) -> Made<()>
     requires same_breaks { other.now.breaks ≡ root.old.breaks }
     requires fits { byte_len (text root.old) + byte_len (text other.now) < 2 ^ 63 }
     ensures text { OnOk result (text root.new ≡ text root.old ++ text other.now) }
     ensures breaks { root.new.breaks ≡ root.old.breaks }
     ensures tree { IsTree root.new }
     ensures err { OnErr result (root.new ≡ root.old) }
-    ensures made { maker.new.made
-        ≤ maker.old.made + 16 * max root.old.height other.now.height + 11 }
+    ensures made { editor.new.maker.made
+        ≤ editor.old.maker.made + 16 * max root.old.height other.now.height + 11 }
+    ensures searched { HasSearched (4 * max root.old.height other.now.height
+        + 2) (33 * max root.old.height other.now.height) editor.old editor.new }
 {
     let end = root.info().chars;
     if let View::Leaf(leaf) = other.view()
         && leaf.len() > 0
         && leaf.len() <= MAX_SHORT_BYTES
     {
-        return insert_at(maker, root, end, leaf.as_str());
+        return insert_at(editor, root, end, leaf.as_str());
     }
-    *root = append(maker, root, other)?;
+    *root = append(editor, root, other)?;
     Ok(())
 }
 
 /// A tree without the characters from `start` up to `end`, at least one.
-fn removed_from(maker: &mut Maker, root: &Node, start: usize, end: usize) -> Made<Node>
+fn removed_from(editor: &mut Editor, root: &Node, start: usize, end: usize) -> Made<Node>
     requires ordered { start < end }
     requires within { end ≤ length (text root.now) }
     ensures text { IfOk result (λ node. text node ≡ removed (text root.now) start end) }
     ensures breaks { IfOk result (λ node. node.breaks ≡ root.now.breaks) }
     ensures tree { IfOk result (λ node. IsTree node) }
     ensures own { IsTree root.now }
-    ensures made { maker.new.made ≤ maker.old.made + 16 * root.now.height + 11 }
+    ensures made { editor.new.maker.made ≤ editor.old.maker.made + 16 * root.now.height + 11 }
+    ensures searched { HasSearched (6 * root.now.height
+        + 4) (30 * root.now.height) editor.old editor.new }
 {
-    if root.height() == 0 || meets(root, start, root, end) {
-        return join_parts(maker, root, start, root, end);
+    if root.height() == 0 || meets(editor, root, start, root, end) {
+        return join_parts(editor, root, start, root, end);
     }
-    without(maker, root, start, end)
+    without(editor, root, start, end)
 }
 
 /// Removes the characters from `start` up to `end`, at least one: from one leaf, if they lie in one
 /// that may do without them; else by a tree without them, which takes the old one's place last of
 /// all. No leaf is tried with as many characters as a leaf has bytes.
-pub fn remove(maker: &mut Maker, root: &mut Node, start: usize, end: usize) -> Made<()>
+pub fn remove(editor: &mut Editor, root: &mut Node, start: usize, end: usize) -> Made<()>
     requires ordered { start < end }
     requires within { end ≤ length (text root.old) }
     ensures text { OnOk result (text root.new ≡ removed (text root.old) start end) }
     ensures breaks { root.new.breaks ≡ root.old.breaks }
     ensures tree { IsTree root.new }
     ensures err { OnErr result (root.new ≡ root.old) }
-    ensures made { maker.new.made ≤ maker.old.made + 17 * root.old.height + 12 }
+    ensures made { editor.new.maker.made ≤ editor.old.maker.made + 17 * root.old.height + 12 }
+    ensures searched { HasSearched (7 * root.old.height
+        + 4) (37 * root.old.height) editor.old editor.new }
 {
-    if end - start < MAX_BYTES && remove_at(maker, root, start, end)? {
+    if end - start < MAX_BYTES && remove_at(editor, root, start, end)? {
         return Ok(());
     }
-    *root = removed_from(maker, root, start, end)?;
+    *root = removed_from(editor, root, start, end)?;
     Ok(())
 }
 
 /// The tree with a text of any length before its character `at`: it is split, and the text goes
 /// between as a tree of its own. It makes nodes for the new text, and for each level of the old
 /// tree.
-fn insert_apart(maker: &mut Maker, node: &Node, at: usize, added: &str) -> Made<Node>
+fn insert_apart(editor: &mut Editor, node: &Node, at: usize, added: &str) -> Made<Node>
     requires within { at ≤ length (text node.now) }
     requires fits { byte_len (text node.now) + length added.now < 2 ^ 63 }
     ensures text { IfOk result (λ new. text new ≡ inserted (text node.now) at (chars added.now)) }
     ensures breaks { IfOk result (λ new. new.breaks ≡ node.now.breaks) }
     ensures tree { IfOk result (λ new. IsTree new) }
-    ensures made { IfOk result (λ _. maker.new.made
-        ≤ maker.old.made + 2 * (length added.now / MIN_CUT_BYTES) + 12 * node.now.height + 603) }
+    ensures made { editor.new.maker.made
+        ≤ editor.old.maker.made + 2 * (length added.now / MIN_CUT_BYTES) + 12 * node.now.height
+        + 603 }
+    ensures searched { HasSearched (2 * node.now.height + 148) (10 * node.now.height
+        + 720) editor.old editor.new }
 {
-    let front = front(maker, node, at)?;
-    let back = back(maker, node, at)?;
-    let middle = build(maker, added, node.line_breaks())?;
-    let first = append(maker, &front, &middle)?;
-    append(maker, &first, &back)
+    let front = front(editor, node, at)?;
+    let back = back(editor, node, at)?;
+    let middle = build(&mut editor.maker, added, node.line_breaks())?;
+    let first = append(editor, &front, &middle)?;
+    append(editor, &first, &back)
 }
 
 /// A leaf with a text of any length before its character `at`, as a tree that is built from the
@@ -162,8 +185,8 @@ fn insert_into_leaf(
     ensures text { IfOk result (λ new. text new ≡ inserted (text node.now) at (chars added.now)) }
     ensures breaks { IfOk result (λ new. new.breaks ≡ node.now.breaks) }
     ensures tree { IfOk result (λ new. IsTree new) }
-    ensures made { IfOk result (λ _. maker.new.made
-        ≤ maker.old.made + 2 * (length added.now / MIN_CUT_BYTES) + 7) }
+    ensures made { maker.new.made
+        ≤ maker.old.made + 2 * (length added.now / MIN_CUT_BYTES) + 7 }
 {
     let text = leaf.as_str();
     let place = leaf.char_to_byte_idx(at);
@@ -176,7 +199,13 @@ fn insert_into_leaf(
 
 /// What stands before the character `start` of a tree, then another tree, and then what follows
 /// from the character `end` on.
-fn join_around(maker: &mut Maker, node: &Node, start: usize, part: &Node, end: usize) -> Made<Node>
+fn join_around(
+    editor: &mut Editor,
+    node: &Node,
+    start: usize,
+    part: &Node,
+    end: usize,
+) -> Made<Node>
     requires start { start ≤ length (text node.now) }
     requires end { end ≤ length (text node.now) }
     requires same_breaks { part.now.breaks ≡ node.now.breaks }
@@ -189,13 +218,15 @@ fn join_around(maker: &mut Maker, node: &Node, start: usize, part: &Node, end: u
         ≡ take start (text node.now) ++ (text part.now ++ drop end (text node.now))) }
     ensures breaks { IfOk result (λ new. new.breaks ≡ node.now.breaks) }
     ensures tree { IfOk result (λ new. IsTree new) }
-    ensures made { maker.new.made ≤ maker.old.made + 12 * node.now.height
+    ensures made { editor.new.maker.made ≤ editor.old.maker.made + 12 * node.now.height
         + 4 * max node.now.height part.now.height + 10 }
+    ensures searched { HasSearched (2 * node.now.height) (10 * node.now.height) editor.old
+        editor.new }
 {
-    let front = front(maker, node, start)?;
-    let first = join(maker, &front, part)?;
-    let back = back(maker, node, end)?;
-    join(maker, &first, &back)
+    let front = front(editor, node, start)?;
+    let first = join(&mut editor.maker, &front, part)?;
+    let back = back(editor, node, end)?;
+    join(&mut editor.maker, &first, &back)
 }
 
 /// A longer text goes between two parts of the tree. Up to this length it fills, with the leaf that
@@ -206,36 +237,39 @@ const MAX_AMONG_BYTES: usize = 20 * MAX_BYTES;
 /// into the leaf that holds the character, and the leaves that this gives take its place, in one
 /// descent. A longer text, or one at the end of a node, is put between two parts of the split tree.
 /// It makes at most two nodes for each 981 bytes of the text, 298 for each level and 603 more.
-pub fn insert(maker: &mut Maker, node: &Node, at: usize, added: &str) -> Made<Node>
+pub fn insert(editor: &mut Editor, node: &Node, at: usize, added: &str) -> Made<Node>
     requires within { at ≤ length (text node.now) }
     requires fits { byte_len (text node.now) + length added.now < 2 ^ 63 }
     ensures text { IfOk result (λ new. text new ≡ inserted (text node.now) at (chars added.now)) }
     ensures breaks { IfOk result (λ new. new.breaks ≡ node.now.breaks) }
     ensures tree { IfOk result (λ new. IsTree new) }
-    ensures made { IfOk result (λ _. maker.new.made
-        ≤ maker.old.made + 2 * (length added.now / MIN_CUT_BYTES) + 298 * node.now.height + 603) }
+    ensures made { editor.new.maker.made
+        ≤ editor.old.maker.made + 2 * (length added.now / MIN_CUT_BYTES) + 298 * node.now.height
+        + 603 }
+    ensures searched { HasSearched (37 * node.now.height + 148) (185 * node.now.height
+        + 720) editor.old editor.new }
 {
     if added.len() > MAX_AMONG_BYTES || at >= node.info().chars {
-        return insert_apart(maker, node, at, added);
+        return insert_apart(editor, node, at, added);
     }
     match node.view() {
-        View::Leaf(leaf) => insert_into_leaf(maker, node, &leaf, at, added),
+        View::Leaf(leaf) => insert_into_leaf(&mut editor.maker, node, &leaf, at, added),
         View::Inner(children, totals) => {
-            let place = place_of(totals, Unit::Char, at, &mut Steps::new());
+            let place = editor.child_at(totals, at);
             let child = &children[place];
             let inside = at - total_before(totals, place).chars;
             if inside == 0 {
-                return insert_apart(maker, node, at, added);
+                return insert_apart(editor, node, at, added);
             }
-            let part = insert(maker, child, inside, added)?;
+            let part = insert(editor, child, inside, added)?;
             if place > 0
                 && place + 1 < children.len()
                 && part.height() <= child.height() + 1
                 && stands(children, place, place + 1, &part)
             {
-                return put(maker, children, totals, place, place + 1, &part);
+                return put(&mut editor.maker, children, totals, place, place + 1, &part);
             }
-            join_around(maker, node, at - inside, &part, totals.get(place).chars)
+            join_around(editor, node, at - inside, &part, totals.get(place).chars)
         }
     }
 }

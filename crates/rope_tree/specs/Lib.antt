@@ -24,6 +24,7 @@ pub mod NewList
 pub mod Fronts
 pub mod Found
 pub mod StepBounds
+pub mod Searched
 pub mod Conversions
 pub mod Insert
 pub mod Removal

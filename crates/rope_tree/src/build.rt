@@ -30,7 +30,7 @@ fn level_over(maker: &mut Maker, nodes: &[Node], count: usize) -> Made<Vec<Node>
         AreSiblings (breaks_of nodes.now) (height_of nodes.now + 1) level.items) }
     ensures leaves { IfOk result (λ level. leaves_of level.items ≡ leaves_of nodes.now) }
     ensures count { IfOk result (λ level. length level.items ≡ count) }
-    ensures made { IfOk result (λ level. maker.new.made ≤ maker.old.made + length level.items) }
+    ensures made { maker.new.made ≤ maker.old.made + count }
 {
     let mut level = Vec::with_capacity(maker.alloc, count)?;
     let mut rest = nodes;
@@ -51,7 +51,7 @@ pub(crate) fn root_over(maker: &mut Maker, nodes: Vec<Node>) -> Made<Node>
     ensures leaves { IfOk result (λ node. node.leaves ≡ leaves_of nodes.items) }
     ensures breaks { IfOk result (λ node. node.breaks ≡ breaks_of nodes.items) }
     ensures tree { IfOk result (λ node. IsTree node) }
-    ensures made { IfOk result (λ _. maker.new.made ≤ maker.old.made + length nodes.items) }
+    ensures made { maker.new.made ≤ maker.old.made + length nodes.items }
 {
     let mut level = nodes;
     while level.len() > MAX_CHILDREN {
@@ -73,8 +73,8 @@ pub fn build(maker: &mut Maker, whole: &str, breaks: LineBreaks) -> Made<Node>
     ensures tree { IfOk result (λ node. IsTree node) }
     ensures few { IfOk result (λ node. length node.leaves
         ≤ (length whole.now + (MIN_CUT_BYTES - 1)) / MIN_CUT_BYTES) }
-    ensures made { IfOk result (λ node.
-        maker.new.made ≤ maker.old.made + 2 * length node.leaves + 1) }
+    ensures made { maker.new.made
+        ≤ maker.old.made + 2 * ((length whole.now + (MIN_CUT_BYTES - 1)) / MIN_CUT_BYTES) + 1 }
 {
     if whole.len() <= MAX_BYTES {
         return leaf_of(maker, breaks, whole);

@@ -219,8 +219,8 @@ impl Builder {
         ensures tree { IfOk result (λ node. IsTree node) }
         ensures few { IfOk result (λ node. length node.leaves
             ≤ (byte_len self.text + (MIN_CUT_BYTES - 1)) / MIN_CUT_BYTES) }
-        ensures made { IfOk result (λ node.
-            maker.new.made ≤ maker.old.made + 2 * length node.leaves + 1) }
+        ensures made { maker.new.made ≤ maker.old.made
+            + 2 * ((byte_len self.text + (MIN_CUT_BYTES - 1)) / MIN_CUT_BYTES) + 1 }
     {
         maker.add_all_made(self.leaves.len());
         let rest = leaf_of(maker, self.breaks, self.rest.as_str())?;

@@ -20,6 +20,7 @@
 //! - `leaf`: a text with its counts
 //! - `maker`: where nodes' memory comes from
 //! - `search`: running totals, and the child that holds a place
+//! - `editor`: the maker of an edit's nodes, with the counts of its searches
 //! - `node`: nodes; `node::row` puts them side by side, `node::anew` inserts into a new tree, and
 //!   `node::in_place` edits nodes where they stand
 //! - `lookup`, `conversions`: the descent to a leaf, and indices on it
@@ -32,6 +33,7 @@ mod beside;
 pub mod build;
 mod builder;
 mod conversions;
+mod editor;
 mod leaf;
 mod leaf_edits;
 mod lookup;
@@ -44,6 +46,7 @@ mod short_text;
 
 pub use builder::Builder;
 pub use conversions::{convert, convert_in, first_sought};
+pub use editor::Editor;
 pub use leaf_edits::shared_breaks;
 pub use lookup::{Found, byte_at, char_at, leaf_at, leaf_count};
 pub use maker::{Made, Maker};

@@ -7,9 +7,10 @@ ghost use Rattle.rope_text.specs.TextInfo.{info_of, info_sum, HasPart};
 ghost use Rattle.rope_tree.specs.declared.search.Unit.TheVariants.{Char};
 ghost use Rattle.rope_tree.specs.Search.{count_of, IsSmall};
 ghost use Rattle.rope_tree.specs.Narrow.{IsBelow, IsNarrow, AreNarrow, FitsWith};
+ghost use Rattle.rope_tree.specs.Searched.{HasSearched};
 ghost use Rattle.rope_tree.specs.RunningTotals.{AreSmall, HavePart, FitFrom, SameBefore, ChangedFrom, MovedFrom};
 
-use crate::Made;
+use crate::{Editor, Made};
 use arrayvec::ArrayVec;
 use rope_text::{MAX_CHILDREN, MIN_CHILDREN, Steps, TextInfo};
 use std::alloc::{AllocError, Global};
@@ -337,11 +338,17 @@ pub fn place_of(totals: &Totals, unit: Unit, at: usize, steps: &mut Steps) -> us
     base
 }
 
-/// The child that holds `at`, and whether the way still follows that of the last edit. While it
-/// does, that edit's child is tried before the search, unless there are few children: then the
-/// branch would be mispredicted too often.
+/// Returns the index of the child that holds the character `at`, and whether the path still follows
+/// that of the last edit. While it does, that edit's child is tried before the search, unless there
+/// are few children: then the branch would be mispredicted too often. The child is entered.
 #[inline(always)]
-pub(crate) fn try_place(totals: &Totals, at: usize, likely: usize, follows: bool) -> (usize, bool)
+pub(crate) fn try_place(
+    editor: &mut Editor,
+    totals: &Totals,
+    at: usize,
+    likely: usize,
+    follows: bool,
+) -> (usize, bool)
     requires some { 0 < length totals.now }
     requires few { length totals.now ≤ MAX_CHILDREN }
     requires small { AreSmall totals.now }
@@ -351,17 +358,21 @@ pub(crate) fn try_place(totals: &Totals, at: usize, likely: usize, follows: bool
     ensures before { (d : TextInfo) → 0 < result.0
         → count_of Char (slice_index_or totals.now (result.0 - 1) d) ≤ at }
     ensures past { (d : TextInfo) → at < count_of Char (slice_index_or totals.now result.0 d) }
+    ensures made { editor.new.maker.made ≡ editor.old.maker.made }
+    ensures searched { HasSearched 1 7 editor.old editor.new }
 {
     let are_few = totals.len() < MIN_CHILDREN;
     if follows && !are_few && likely < totals.len() {
+        editor.compares = editor.compares.saturating_add(2);
         // Both comparisons are made, so that there is one branch to predict.
         let is_before = at < count(totals.get(likely), Unit::Char);
         let is_behind = likely == 0 || count(totals.get(likely - 1), Unit::Char) <= at;
         if is_before & is_behind {
+            editor.enter();
             return (likely, true);
         }
     }
-    let place = place_of(totals, Unit::Char, at, &mut Steps::new());
+    let place = editor.child_at(totals, at);
     (place, follows && are_few)
 }
 

@@ -8,22 +8,26 @@ ghost use Rattle.rope_text.specs.Breaks.{begins_with_lf};
 ghost use Rattle.rope_text.specs.Edit.{inserted, removed};
 ghost use Rattle.rope_tree.specs.Tree.{text, leaf_tree, IsTree};
 ghost use Rattle.rope_tree.specs.View.{trees_in};
+ghost use Rattle.rope_tree.specs.Searched.{HasSearched};
 ghost use Rattle.rope_tree.specs.Insert.{TakesShort, MayInsert, IsInserted};
 ghost use Rattle.rope_tree.specs.Tries.{IsTried};
 
 use crate::beside::Least;
 use crate::leaf_edits::ends_in_cr;
 use crate::node::anew::insert;
-use crate::{Made, Maker, Node, ShortText, char_at, root_of};
-use rope_text::{Steps, TextInfo};
+use crate::{Editor, Made, Node, ShortText, root_of};
+use rope_text::TextInfo;
 
-/// Whether the character at an index is LF. None is at the end.
-pub fn is_lf(node: &Node, at: usize) -> bool
+/// Returns whether the character at an index is LF. The end of the text has none.
+pub fn is_lf(editor: &mut Editor, node: &Node, at: usize) -> bool
     requires { at ≤ length (text node.now) }
     ensures value { result ≡ begins_with_lf (drop at (text node.now)) }
     ensures tree { IsTree node.now }
+    ensures made { editor.new.maker.made ≡ editor.old.maker.made }
+    ensures searched { HasSearched (node.now.height + 1) (5 * node.now.height)
+        editor.old editor.new }
 {
-    at < node.info().chars && char_at(node, at, &mut Steps::new()) == '\n'
+    at < node.info().chars && editor.char_at(node, at) == '\n'
 }
 
 /// Puts a text of 1 to 981 bytes before the character `at`, by the first of three ways that can:
@@ -36,7 +40,7 @@ pub fn is_lf(node: &Node, at: usize) -> bool
 /// 3. Else, as where all lists up to the root are full, by a new tree, which shares the nodes off
 ///    the way. It takes the old one's place last of all, so that a refusal leaves the tree as it
 ///    was.
-pub fn insert_at(maker: &mut Maker, root: &mut Node, at: usize, added: &str) -> Made<()>
+pub fn insert_at(editor: &mut Editor, root: &mut Node, at: usize, added: &str) -> Made<()>
     requires within { at ≤ length (text root.old) }
     requires some { 1 ≤ length added.now }
     requires short { length added.now ≤ MAX_SHORT_BYTES }
@@ -45,21 +49,23 @@ pub fn insert_at(maker: &mut Maker, root: &mut Node, at: usize, added: &str) -> 
     ensures breaks { root.new.breaks ≡ root.old.breaks }
     ensures tree { IsTree root.new }
     ensures err { OnErr result (root.new ≡ root.old) }
-    ensures made { maker.new.made ≤ maker.old.made + 3 * root.old.height + 5 }
+    ensures made { editor.new.maker.made ≤ editor.old.maker.made + 3 * root.old.height + 5 }
+    ensures searched { HasSearched (4 * root.old.height
+        + 2) (33 * root.old.height) editor.old editor.new }
 {
     let added = ShortText::new(added);
     // At a seam between leaves, a text that ends in CR goes to the right if an LF stands there: so
     // the two come to lie in one leaf.
-    let to_right = ends_in_cr(added.as_str()) && is_lf(root, at);
-    if root.insert_in_place(maker, at, &added, to_right, true, &mut TextInfo::new())? {
+    let to_right = ends_in_cr(added.as_str()) && is_lf(editor, root, at);
+    if root.insert_in_place(editor, at, &added, to_right, true, &mut TextInfo::new())? {
         return Ok(());
     }
     // The first try made the nodes on the way the tree's own, so this one needn't copy any.
-    if root.insert_parting(maker, at, &added, to_right)? {
+    if root.insert_parting(editor, at, &added, to_right)? {
         return Ok(());
     }
-    let nodes = insert(maker, root, at, &added, to_right)?;
-    *root = root_of(maker, nodes)?;
+    let nodes = insert(editor, root, at, &added, to_right)?;
+    *root = root_of(&mut editor.maker, nodes)?;
     Ok(())
 }
 
@@ -70,14 +76,15 @@ const ANY: Least = Least { first: 0, last: 0 };
 /// them: it has others, no LF comes first in it that didn't, and no CR last. So no CR LF comes to
 /// lie in two leaves. Returns whether it did. Shared nodes on the way are copied; where there are
 /// none, it takes no memory.
-pub fn remove_at(maker: &mut Maker, root: &mut Node, start: usize, end: usize) -> Made<bool>
+pub fn remove_at(editor: &mut Editor, root: &mut Node, start: usize, end: usize) -> Made<bool>
     requires ordered { start < end }
     requires within { end ≤ length (text root.old) }
     ensures tried { IsTried result root.old root.new
         (text root.new ≡ removed (text root.old) start end) }
     ensures breaks { root.new.breaks ≡ root.old.breaks }
     ensures tree { IsTree root.new }
-    ensures made { maker.new.made ≤ maker.old.made + root.old.height + 1 }
+    ensures made { editor.new.maker.made ≤ editor.old.maker.made + root.old.height + 1 }
+    ensures searched { HasSearched root.old.height (7 * root.old.height) editor.old editor.new }
 {
-    root.remove_in_place(maker, start, end, ANY, true, &mut TextInfo::new())
+    root.remove_in_place(editor, start, end, ANY, true, &mut TextInfo::new())
 }

@@ -48,9 +48,19 @@ split_nodes depth = 12 * depth + 2
 abbrev pub append_nodes : ℕ → ℕ
 append_nodes depth = 16 * depth + 11
 
--- an edit made no more nodes than these, and no count is left over from an earlier call: an edit that counts its
--- searches enters and compares no more than so many, and one that doesn't leaves 0
+-- the counts of a call that enters no node
+abbrev pub no_steps : Steps
+no_steps = record { nodes = 0; compares = 0; made = 0 }
+
+-- the counts of an edit of a rope of this depth, refused or not: it made at most so many nodes, and its searches entered
+-- at most 7 nodes a level and 5 more, and compared at most 37 totals a level
 pub record IsEditCount (most depth : ℕ) (steps : Steps) : Type 0 where
   pub made : steps.made ≤ most
-  pub nodes : steps.nodes ≤ 24 * (depth + 1)
-  pub compares : steps.compares ≤ 40 * (depth + 1)
+  pub nodes : steps.nodes ≤ 7 * depth + 5
+  pub compares : steps.compares ≤ 37 * depth
+
+-- the same of an insert of a text of any length, whose new tree has a depth of its own
+pub record IsLongInsertCount (bytes depth : ℕ) (steps : Steps) : Type 0 where
+  pub made : steps.made ≤ long_insert_nodes bytes depth
+  pub nodes : steps.nodes ≤ 37 * depth + 149
+  pub compares : steps.compares ≤ 185 * depth + 720

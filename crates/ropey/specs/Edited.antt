@@ -1,5 +1,5 @@
 -- What edits of ropes leave, and when they are refused.
-use Rattle.std.specs.Prelude.{◌≡◌, ℕ, List, ◌++◌, length, take, drop, Option, None, Result, IsOk, OnErr}
+use Rattle.std.specs.Prelude.{◌≡◌, ℕ, List, ◌++◌, length, take, drop, Option, None, IsSome, Result, IsOk, OnErr}
 use Rattle.rope_text.specs.declared.error.Error.{Error}
 use Rattle.rope_text.specs.Edit.{inserted, insert_error, removed, range_start, range_end, char_range_error, append_error, IsRefusal}
 use Rattle.rope_slice.specs.Sliced.{HasCharRange}
@@ -37,6 +37,10 @@ IsRemovalRefusal old start end = IsRefusal (char_range_error start end (length o
 -- a rope may be appended to another: the two have the same set of line breaks, and the new text is not too long
 abbrev pub CanAppend : RopeView → RopeView → Type 0
 CanAppend old other = append_error old.breaks other.breaks old.text other.text ≡ None
+
+-- it may not be appended: the two sets of line breaks differ, or the new text is too long
+abbrev pub CannotAppend : RopeView → RopeView → Type 0
+CannotAppend old other = IsSome (append_error old.breaks other.breaks old.text other.text)
 
 -- it may be appended, and the new text is the old one with the other's behind it
 abbrev pub IsAppend : RopeView → RopeView → RopeView → Type 0

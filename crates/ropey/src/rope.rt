@@ -160,9 +160,8 @@ impl Rope {
         info.chars + info.utf16_surrogates
     }
 
-    /// How many levels of the tree lie above the chunks: 0 where there is at most one chunk, and
-    /// never more than
-    /// 18. Takes constant time and no memory.
+    /// Returns how many levels the tree has above the chunks: 0 for at most one chunk, never more
+    /// than 18. Takes constant time and no memory.
     pub fn depth(&self) -> usize
         ensures value { result ≡ self.now.depth }
         ensures kept { IsRope self.now }

@@ -10,8 +10,9 @@ ghost use Rattle.rope_text.specs.declared.TheConstants.{MAX_SHORT_BYTES};
 ghost use Rattle.rope_text.specs.Text.{byte_len};
 ghost use Rattle.rope_text.specs.Edit.{IsRefusal, char_index_error, append_error};
 ghost use Rattle.rope_slice.specs.Sliced.{HasCharRange, IsEmptyRange};
-ghost use Rattle.ropey.specs.Counted.{IsEditCount, insert_nodes, long_insert_nodes, removal_nodes, split_nodes, append_nodes};
-ghost use Rattle.ropey.specs.Edited.{IsEdit, IsIdle, CanInsert, IsInsert, IsInsertRefusal, IsRemoval, IsRemovalRefusal, CanAppend, IsAppend, IsAppendRefusal, IsCutAt};
+ghost use Rattle.rope_tree.specs.Searched.{HasSearched};
+ghost use Rattle.ropey.specs.Counted.{IsEditCount, IsLongInsertCount, no_steps, insert_nodes, long_insert_nodes, removal_nodes, split_nodes, append_nodes};
+ghost use Rattle.ropey.specs.Edited.{IsEdit, IsIdle, CanInsert, IsInsert, IsInsertRefusal, IsRemoval, IsRemovalRefusal, CanAppend, CannotAppend, IsAppend, IsAppendRefusal, IsCutAt};
 ghost use Rattle.rope_text.specs.declared.error.Error.TheVariants.{OutOfMemory};
 
 use crate::rope::Rope;
@@ -19,25 +20,15 @@ use rope_join::cut::{back, front};
 use rope_join::long_edits::{append_to, insert, remove};
 use rope_text::range::{IndexRange, char_bounds};
 use rope_text::{Error, MAX_SHORT_BYTES, MAX_TEXT_BYTES, Result, Steps};
-use rope_tree::{Maker, insert_at};
+use rope_tree::{Editor, insert_at};
 use std::mem;
 
 // The calls without `try_` are inlined: each call in between would store the seven words of an
 // answer and load them again, some by one load over two stores, which stalls.
 impl Rope {
-    // What makes the nodes of an edit, where the counts begin with 0.
+    // Inserts a text before a character, and counts what that takes.
     #[inline(always)]
-    fn begin_edit(&self, steps: &mut Steps) -> Maker
-        ensures zero { steps.new ≡ record { nodes = 0; compares = 0; made = 0 } }
-        ensures none { result.made ≡ 0 }
-    {
-        *steps = Steps::new();
-        Maker::new(self.alloc)
-    }
-
-    // Puts a text before a character, and counts the nodes that are made.
-    #[inline(always)]
-    fn insert_made(&mut self, char_idx: usize, text: &str, maker: &mut Maker) -> Result<()>
+    fn insert_by(&mut self, editor: &mut Editor, char_idx: usize, text: &str) -> Result<()>
         requires { char_idx ≤ length self.old.text }
         ensures ok { OnOk result (IsInsert self.old.text char_idx (chars text.now) self.new.text) }
         ensures refused { IfErr result (IsInsertRefusal self.old.text char_idx (chars text.now)) }
@@ -45,9 +36,18 @@ impl Rope {
             → CanInsert self.old.text char_idx (chars text.now) → IsIdle result self.old self.new }
         ensures kept { IsEdit result self.old self.new }
         ensures made { length text.now ≤ MAX_SHORT_BYTES
-            → maker.new.made ≤ maker.old.made + insert_nodes self.old.depth }
-        ensures made_long { OnOk result (maker.new.made
-            ≤ maker.old.made + long_insert_nodes (length text.now) self.old.depth) }
+            → editor.new.maker.made ≤ editor.old.maker.made + insert_nodes self.old.depth }
+        ensures made_long { editor.new.maker.made
+            ≤ editor.old.maker.made + long_insert_nodes (length text.now) self.old.depth }
+        ensures searched { length text.now ≤ MAX_SHORT_BYTES → HasSearched
+            (4 * self.old.depth + 3) (33 * self.old.depth) editor.old editor.new }
+        ensures searched_long { HasSearched
+            (37 * self.old.depth + 149) (185 * self.old.depth + 720) editor.old editor.new }
+        ensures outside { length (chars text.now) ≡ 0 → editor.new ≡ editor.old }
+        ensures too_long { 2 ^ 63 ≤ byte_len self.old.text + length text.now
+            → editor.new ≡ editor.old }
+        ensures inside { 1 ≤ length text.now
+            → byte_len self.old.text + length text.now < 2 ^ 63 → 1 ≤ editor.new.nodes }
     {
         let bytes = self.len_bytes();
         if text.len() > MAX_TEXT_BYTES - bytes {
@@ -56,10 +56,11 @@ impl Rope {
         if text.is_empty() {
             return Ok(());
         }
+        editor.enter();
         if text.len() <= MAX_SHORT_BYTES {
-            return Ok(insert_at(maker, &mut self.root, char_idx, text)?);
+            return Ok(insert_at(editor, &mut self.root, char_idx, text)?);
         }
-        self.root = insert(maker, &self.root, char_idx, text)?;
+        self.root = insert(editor, &self.root, char_idx, text)?;
         Ok(())
     }
 
@@ -105,11 +106,12 @@ impl Rope {
         self.insert_counted(char_idx, text, &mut Steps::new())
     }
 
-    /// As `insert`, and sets `steps` to what it did: `made` counts the nodes that were made. In a
-    /// rope of depth d a text of at most 981 bytes makes at most 3 d + 5, refused or not; a longer
-    /// one, where it isn't refused, at most two for each 981 bytes, and 298 d + 603 more. Its
-    /// searches need not be counted: `nodes` is at most 24 (d + 1), and `compares` at most 40 (d +
-    /// 1).
+    /// Inserts `text` as [`insert`](Rope::insert) does, and sets all counts of `steps` to those of
+    /// this call, refused or not. They are 0 where the text is empty or too long; else the root
+    /// counts as entered. In a rope of depth d a text of at most 981 bytes makes at most 3 d + 5
+    /// nodes, enters at most 7 d + 5 and compares at most 37 d totals. A longer text makes at most
+    /// two nodes for each 981 bytes and 298 d + 603 more, enters at most 37 d + 149 and compares at
+    /// most 185 d + 720.
     ///
     /// The index is at most `len_chars()`.
     ///
@@ -127,13 +129,16 @@ impl Rope {
         ensures kept { IsEdit result self.old self.new }
         ensures steps { length text.now ≤ MAX_SHORT_BYTES
             → IsEditCount (insert_nodes self.old.depth) self.old.depth steps.new }
-        ensures steps_long { OnOk result
-            (IsEditCount (long_insert_nodes (length text.now) self.old.depth)
-            self.old.depth steps.new) }
+        ensures steps_long { IsLongInsertCount (length text.now) self.old.depth steps.new }
+        ensures steps_empty { length (chars text.now) ≡ 0 → steps.new ≡ no_steps }
+        ensures steps_too_long { 2 ^ 63 ≤ byte_len self.old.text + length text.now
+            → steps.new ≡ no_steps }
+        ensures steps_inside { 1 ≤ length text.now
+            → byte_len self.old.text + length text.now < 2 ^ 63 → 1 ≤ steps.new.nodes }
     {
-        let mut maker = self.begin_edit(steps);
-        let inserted = self.insert_made(char_idx, text, &mut maker);
-        steps.made = maker.made;
+        let mut editor = Editor::new(self.alloc);
+        let inserted = self.insert_by(&mut editor, char_idx, text);
+        *steps = editor.steps();
         inserted
     }
 
@@ -174,9 +179,9 @@ impl Rope {
         self.insert_char_counted(char_idx, c, &mut Steps::new())
     }
 
-    /// As `insert_char`, and sets `steps` to what it did, refused or not: `made` counts the nodes
-    /// that were made, at most 3 d + 5 in a rope of depth d. Of the other two counts what
-    /// `insert_counted` says.
+    /// Inserts the character `c` as [`insert_char`](Rope::insert_char) does, and sets all counts of
+    /// `steps` to those of this call, refused or not, within the bounds of
+    /// [`insert_counted`](Rope::insert_counted) for a short text.
     ///
     /// The index is at most `len_chars()`.
     ///
@@ -191,6 +196,10 @@ impl Rope {
         ensures refused { IfErr result (IsInsertRefusal self.old.text char_idx (c ∷ [])) }
         ensures kept { IsEdit result self.old self.new }
         ensures steps { IsEditCount (insert_nodes self.old.depth) self.old.depth steps.new }
+        ensures steps_too_long { 2 ^ 63 ≤ byte_len self.old.text + byte_len (c ∷ [])
+            → steps.new ≡ no_steps }
+        ensures steps_inside { byte_len self.old.text + byte_len (c ∷ []) < 2 ^ 63
+            → 1 ≤ steps.new.nodes }
     {
         self.insert_counted(char_idx, c.encode_utf8(&mut [0; 4]), steps)
     }
@@ -230,9 +239,9 @@ impl Rope {
         self.split_off_counted(char_idx, &mut Steps::new())
     }
 
-    /// As `split_off`, and sets `steps` to what it did, refused or not: `made` counts the nodes
-    /// that were made, at most 12 d + 2 in a rope of depth d. Of the other two counts what
-    /// `insert_counted` says.
+    /// Splits the rope as [`split_off`](Rope::split_off) does, and sets all counts of `steps` to
+    /// those of this call, refused or not. In a rope of depth d it makes at most 12 d + 2 nodes,
+    /// enters the root and at most 7 d + 5 nodes in all, and compares at most 37 d totals.
     ///
     /// The index is at most `len_chars()`.
     ///
@@ -245,13 +254,15 @@ impl Rope {
         ensures refused { IfErr result (λ e. e ≡ OutOfMemory) }
         ensures kept { IsEdit result self.old self.new }
         ensures steps { IsEditCount (split_nodes self.old.depth) self.old.depth steps.new }
+        ensures steps_inside { 1 ≤ steps.new.nodes }
     {
-        let mut maker = self.begin_edit(steps);
-        let front = front(&mut maker, &self.root, char_idx);
-        steps.made = maker.made;
+        let mut editor = Editor::new(self.alloc);
+        editor.enter();
+        let front = front(&mut editor, &self.root, char_idx);
+        *steps = editor.steps();
         let front = front?;
-        let back = back(&mut maker, &self.root, char_idx);
-        steps.made = maker.made;
+        let back = back(&mut editor, &self.root, char_idx);
+        *steps = editor.steps();
         let back = back?;
         self.root = front;
         Ok(Rope {
@@ -305,9 +316,10 @@ impl Rope {
         self.remove_counted(range, &mut Steps::new())
     }
 
-    /// As `remove`, and sets `steps` to what it did, refused or not: `made` counts the nodes that
-    /// were made, at most 17 d + 12 in a rope of depth d. Of the other two counts what
-    /// `insert_counted` says.
+    /// Removes a range as [`remove`](Rope::remove) does, and sets all counts of `steps` to those of
+    /// this call, refused or not. They are 0 for an empty range; else the root counts as entered.
+    /// In a rope of depth d it makes at most 17 d + 12 nodes, enters at most 7 d + 5 and compares
+    /// at most 37 d totals.
     ///
     /// The range's bounds are at most `len_chars()`, and its start is at most its end.
     ///
@@ -324,14 +336,20 @@ impl Rope {
             → IsIdle result self.old self.new }
         ensures kept { IsEdit result self.old self.new }
         ensures steps { IsEditCount (removal_nodes self.old.depth) self.old.depth steps.new }
+        ensures steps_empty { IsEmptyRange self.old.text (R.given_start range) (R.given_end range)
+            → steps.new ≡ no_steps }
+        ensures steps_inside { steps.new.nodes < 1
+            → IsEmptyRange self.old.text (R.given_start range) (R.given_end range) }
     {
-        let mut maker = self.begin_edit(steps);
+        *steps = Steps::new();
         let (start, end) = char_bounds(&range, self.len_chars()).unwrap();
         if start == end {
             return Ok(());
         }
-        let removed = remove(&mut maker, &mut self.root, start, end);
-        steps.made = maker.made;
+        let mut editor = Editor::new(self.alloc);
+        editor.enter();
+        let removed = remove(&mut editor, &mut self.root, start, end);
+        *steps = editor.steps();
         Ok(removed?)
     }
 
@@ -376,9 +394,10 @@ impl Rope {
         self.append_counted(other, &mut Steps::new())
     }
 
-    /// As `append`, and sets `steps` to what it did, refused or not: `made` counts the nodes that
-    /// were made, at most 16 d + 11 where d is the greater depth of the two. Of the other two
-    /// counts what `insert_counted` says.
+    /// Appends a rope as [`append`](Rope::append) does, and sets all counts of `steps` to those of
+    /// this call, refused or not. They are 0 where a rope is empty, or refused for its set of line
+    /// breaks or its length; else the root counts as entered. With d the greater depth of the two,
+    /// it makes at most 16 d + 11 nodes, enters at most 7 d + 5 and compares at most 37 d totals.
     ///
     /// # Errors
     ///
@@ -394,8 +413,13 @@ impl Rope {
         ensures kept { IsEdit result self.old self.new }
         ensures steps { IsEditCount (append_nodes (max self.old.depth other.depth))
             (max self.old.depth other.depth) steps.new }
+        ensures steps_outside { CannotAppend self.old other → steps.new ≡ no_steps }
+        ensures steps_empty_other { length other.text ≡ 0 → steps.new ≡ no_steps }
+        ensures steps_empty_self { length self.old.text ≡ 0 → steps.new ≡ no_steps }
+        ensures steps_inside { CanAppend self.old other → 0 < length self.old.text
+            → 0 < length other.text → 1 ≤ steps.new.nodes }
     {
-        let mut maker = self.begin_edit(steps);
+        *steps = Steps::new();
         let bytes = self.len_bytes();
         self.may_append(&other)?;
         if other.len_bytes() == 0 {
@@ -405,8 +429,10 @@ impl Rope {
             mem::swap(&mut self.root, &mut other.root);
             return Ok(());
         }
-        let appended = append_to(&mut maker, &mut self.root, &other.root);
-        steps.made = maker.made;
+        let mut editor = Editor::new(self.alloc);
+        editor.enter();
+        let appended = append_to(&mut editor, &mut self.root, &other.root);
+        *steps = editor.steps();
         Ok(appended?)
     }
 }

@@ -26,7 +26,7 @@ use crate::rope::Rope;
 use rope_join::cut::between;
 use rope_slice::{Bytes, Chars, ChunksAt, Excerpt, Lines, RopeSlice};
 use rope_text::{IndexRange, Result, TextInfo};
-use rope_tree::Maker;
+use rope_tree::Editor;
 use std::alloc::Global;
 
 // Inlined, as they are in rope_slice: a call would store the slice or the cursor in words, and a
@@ -118,7 +118,7 @@ impl Rope {
     {
         match slice {
             RopeSlice::InTree(Excerpt { node, start, end }) => {
-                let root = between(&mut Maker::new(alloc), node, start.chars, end.chars)?;
+                let root = between(&mut Editor::new(alloc), node, start.chars, end.chars)?;
                 Ok(Rope { root, alloc })
             }
             RopeSlice::Alone(plain) => Rope::from_str_with(alloc, plain.text, plain.breaks),
@@ -200,7 +200,7 @@ impl Rope {
     /// last chunk. With it the numbers of bytes, of characters and of line breaks that end before
     /// the cursor.
     ///
-    /// The index is at most `len_lines()`. Costs one look-up; takes no memory.
+    /// The index is at most `len_lines()`. Costs two look-ups; takes no memory.
     #[inline(always)]
     pub fn chunks_at_line_break(&self, line_break_idx: usize) -> ChunksAt<'_>
         requires { line_break_idx ≤ line_count self.now.breaks self.now.text }
@@ -232,7 +232,7 @@ impl Rope {
     /// A cursor over the lines, before the line `line_idx`, counted from 0, facing forward; for
     /// `len_lines()` it stands past the last line.
     ///
-    /// The index is at most `len_lines()`. Costs one look-up; takes no memory.
+    /// The index is at most `len_lines()`. Costs two look-ups; takes no memory.
     #[inline(always)]
     pub fn lines_at(&self, line_idx: usize) -> Lines<'_>
         requires { line_idx ≤ line_count self.now.breaks self.now.text }
@@ -241,7 +241,7 @@ impl Rope {
         self.whole().lines_at(line_idx)
     }
 
-    /// As `lines_at`, with the counts of the text before the line. Costs one look-up; takes no
+    /// As `lines_at`, with the counts of the text before the line. Costs two look-ups; takes no
     /// memory.
     #[inline(always)]
     pub fn lines_and_counts_at(&self, line_idx: usize) -> (Lines<'_>, TextInfo)
@@ -289,7 +289,7 @@ impl Rope {
     }
 
     /// As `chunks_at_line_break`, or `None` exactly where the index is past `len_lines()`. Costs
-    /// one look-up; takes no memory.
+    /// two look-ups; takes no memory.
     pub fn get_chunks_at_line_break(&self, line_break_idx: usize) -> Option<ChunksAt<'_>>
         ensures { GivesWithin line_break_idx (line_count self.now.breaks self.now.text) result
             (StandsBefore (content self.now)
@@ -308,7 +308,7 @@ impl Rope {
         self.whole().get_line(line_idx)
     }
 
-    /// As `lines_at`, or `None` exactly where the index is past `len_lines()`. Costs one look-up;
+    /// As `lines_at`, or `None` exactly where the index is past `len_lines()`. Costs two look-ups;
     /// takes no memory.
     pub fn get_lines_at(&self, line_idx: usize) -> Option<Lines<'_>>
         ensures { GivesWithin line_idx (line_count self.now.breaks self.now.text) result

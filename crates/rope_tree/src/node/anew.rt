@@ -5,6 +5,7 @@ ghost use Rattle.rope_text.specs.Text.{byte_len};
 ghost use Rattle.rope_text.specs.Edit.{inserted};
 ghost use Rattle.rope_tree.specs.Tree.{text, leaf_tree};
 ghost use Rattle.rope_tree.specs.View.{trees_in};
+ghost use Rattle.rope_tree.specs.Searched.{HasSearched};
 ghost use Rattle.rope_tree.specs.Insert.{TakesShort, MayInsert, IsInserted};
 
 use super::row::{Row, pack};
@@ -12,8 +13,8 @@ use super::{Node, Nodes, View, make_leaf};
 use crate::leaf_edits::leaf_with;
 use crate::node_text::halves_of;
 use crate::search::char_to_hold;
-use crate::{Made, Maker, ShortText, Unit, place_of, total_before};
-use rope_text::{MAX_BYTES, Steps, TextInfo};
+use crate::{Editor, Made, Maker, ShortText, total_before};
+use rope_text::{MAX_BYTES, TextInfo};
 
 /// The leaf with another text before its character `at`, as one leaf, or as two if one can't hold
 /// both. Nothing of the old leaf is counted again: only the new text is, and of two leaves the
@@ -52,7 +53,7 @@ fn insert_into_leaf(
 /// The tree with a text of at most 981 bytes before its character `at`, as one tree or as two of
 /// the same height. The old tree stays as it is, and shares its nodes off the way.
 pub(crate) fn insert(
-    maker: &mut Maker,
+    editor: &mut Editor,
     node: &Node,
     at: usize,
     added: &ShortText<'_>,
@@ -62,20 +63,22 @@ pub(crate) fn insert(
     requires side { MayInsert node.now at added.now to_right }
     ensures ok { IfOk result (λ nodes.
         IsInserted node.now (trees_in nodes) (inserted (text node.now) at added.now)) }
-    ensures made { maker.new.made ≤ maker.old.made + 2 * node.now.height + 2 }
-    ensures some_made { maker.old.made + 1 < 2 ^ 64 → maker.old.made < maker.new.made }
-    ensures rises { maker.old.made ≤ maker.new.made }
+    ensures made { editor.new.maker.made ≤ editor.old.maker.made + 2 * node.now.height + 2 }
+    ensures some_made { editor.old.maker.made + 1 < 2 ^ 64
+        → editor.old.maker.made < editor.new.maker.made }
+    ensures searched { HasSearched node.now.height (5 * node.now.height) editor.old editor.new }
+    ensures rises { editor.old.maker.made ≤ editor.new.maker.made }
 {
     match node.view() {
-        View::Leaf(leaf) => insert_into_leaf(maker, node, &leaf, at, added),
+        View::Leaf(leaf) => insert_into_leaf(&mut editor.maker, node, &leaf, at, added),
         View::Inner(children, totals) => {
             let held = char_to_hold(at, to_right);
-            let place = place_of(totals, Unit::Char, held, &mut Steps::new());
+            let place = editor.child_at(totals, held);
             let front = total_before(totals, place).chars;
-            let middle = insert(maker, &children[place], at - front, added, to_right)?;
+            let middle = insert(editor, &children[place], at - front, added, to_right)?;
             let row = Row::of(children, totals);
             let (before, after) = (row.first(place), row.rest(place + 1));
-            pack(maker, before, middle, after)
+            pack(&mut editor.maker, before, middle, after)
         }
     }
 }

@@ -9,6 +9,7 @@ ghost use Rattle.rope_tree.specs.Tree.{Tree, text, joined, height_of, tree_over,
 ghost use Rattle.rope_tree.specs.Shape.{form_tree, IsForm};
 ghost use Rattle.rope_tree.specs.declared.node.in_place.Cut.TheVariants.{Kept, Grown, Parted};
 ghost use Rattle.rope_tree.specs.Change.{GrowsBy, FallsBy, GrowBy, FallBy};
+ghost use Rattle.rope_tree.specs.Searched.{HasSearched};
 ghost use Rattle.rope_tree.specs.Insert.{TakesShort, MayInsert, GoesIn, IsInserted, IsCut, AreGrown};
 ghost use Rattle.rope_tree.specs.Removal.{IsRemoved, AreRemoved};
 ghost use Rattle.rope_tree.specs.Tries.{IsTried};
@@ -19,7 +20,7 @@ use super::{Children, Form, Node, Nodes};
 use crate::beside::{Least, least_at};
 use crate::leaf::Leaf;
 use crate::search::{char_to_hold, try_place};
-use crate::{Made, Maker, ShortText, Totals, total_before};
+use crate::{Editor, Made, Maker, ShortText, Totals, total_before};
 use rope_text::{MAX_BYTES, MAX_CHILDREN, TextInfo};
 use std::rc::Rc;
 
@@ -137,10 +138,12 @@ impl Children {
     /// The way to the child that takes a text before the character `at`. While it follows that of
     /// the last edit, that edit's child is tried first.
     #[inline(always)]
-    fn way_in(&self, at: usize, to_right: bool, follows: bool) -> WayIn
+    fn way_in(&self, editor: &mut Editor, at: usize, to_right: bool, follows: bool) -> WayIn
         requires children { AreFamily self.now }
         requires within { at ≤ length (joined self.now) }
         requires right { to_right ≡ true → at < length (joined self.now) }
+        ensures made { editor.new.maker.made ≡ editor.old.maker.made }
+        ensures searched { HasSearched 1 7 editor.old editor.new }
         ensures child { result.place < length self.now }
         ensures place { at ≡ length (joined (take result.place self.now)) + result.inside }
         ensures goes { (child : Tree)
@@ -148,7 +151,13 @@ impl Children {
             to_right }
     {
         let held = char_to_hold(at, to_right);
-        let (place, follows) = try_place(&self.totals, held, usize::from(self.last), follows);
+        let (place, follows) = try_place(
+            editor,
+            &self.totals,
+            held,
+            usize::from(self.last),
+            follows,
+        );
         let before = total_before(&self.totals, place).chars;
         WayIn {
             place,
@@ -160,10 +169,12 @@ impl Children {
     /// The same. Where the way doesn't follow that of the last edit, what this one will go over is
     /// read ahead. None only if `touch_list` or `touch_leaf` say yes, which they never do.
     #[inline(always)]
-    fn locate(&self, at: usize, to_right: bool, follows: bool) -> Option<WayIn>
+    fn locate(&self, editor: &mut Editor, at: usize, to_right: bool, follows: bool) -> Option<WayIn>
         requires children { AreFamily self.now }
         requires within { at ≤ length (joined self.now) }
         requires right { to_right ≡ true → at < length (joined self.now) }
+        ensures made { editor.new.maker.made ≡ editor.old.maker.made }
+        ensures searched { HasSearched 1 7 editor.old editor.new }
         ensures child { IfSome result (λ way. way.place < length self.now) }
         ensures place { IfSome result
             (λ way. at ≡ length (joined (take way.place self.now)) + way.inside) }
@@ -175,7 +186,7 @@ impl Children {
         if !follows && self.height == 1 && touch_list(&self.nodes) {
             return None;
         }
-        let way = self.way_in(at, to_right, follows);
+        let way = self.way_in(editor, at, to_right, follows);
         let WayIn { place, inside, .. } = way;
         if !way.follows
             && self.height == 1
@@ -194,7 +205,7 @@ impl Children {
     #[inline(never)]
     fn insert_in_place(
         &mut self,
-        maker: &mut Maker,
+        editor: &mut Editor,
         at: usize,
         added: &ShortText<'_>,
         to_right: bool,
@@ -205,16 +216,18 @@ impl Children {
         requires takes { TakesShort (tree_over self.old) at added.now }
         requires side { MayInsert (tree_over self.old) at added.now to_right }
         ensures change { IfOk result (λ did. did ≡ true → GrowBy more.new self.old self.new) }
-        ensures made { maker.new.made ≤ maker.old.made + height_of self.old + 2 }
+        ensures made { editor.new.maker.made ≤ editor.old.maker.made + height_of self.old + 2 }
+        ensures searched { HasSearched (height_of self.old + 2) (14 * height_of self.old + 14)
+            editor.old editor.new }
         ensures idle { IfOk result (λ did.
-            did ≡ false → maker.new.made ≤ maker.old.made + height_of self.old + 1) }
+            did ≡ false → editor.new.maker.made ≤ editor.old.maker.made + height_of self.old + 1) }
         ensures tried { IsTried result self.old self.new
             (AreGrown self.old self.new (inserted (joined self.old) at added.now)) }
     {
         if !self.totals.has_room_for(added.len()) {
             return unchanged();
         }
-        let Some(way) = self.locate(at, to_right, follows) else {
+        let Some(way) = self.locate(editor, at, to_right, follows) else {
             return unchanged();
         };
         let WayIn {
@@ -224,10 +237,10 @@ impl Children {
         } = way;
         let most = MAX_BYTES.saturating_sub(added.len());
         if self.nodes[place].is_leaf_above(most) {
-            return self.cut_child(maker, at, added, to_right, more);
+            return self.cut_child(editor, at, added, to_right, more);
         }
         let node = &mut self.nodes[place];
-        if !node.insert_in_place(maker, inside, added, to_right, follows, more)? {
+        if !node.insert_in_place(editor, inside, added, to_right, follows, more)? {
             return unchanged();
         }
         self.totals.retotal(place, TextInfo::new(), *more);
@@ -242,7 +255,7 @@ impl Children {
     #[inline(never)]
     fn cut_child(
         &mut self,
-        maker: &mut Maker,
+        editor: &mut Editor,
         at: usize,
         added: &ShortText<'_>,
         to_right: bool,
@@ -252,15 +265,20 @@ impl Children {
         requires takes { TakesShort (tree_over self.old) at added.now }
         requires side { MayInsert (tree_over self.old) at added.now to_right }
         ensures change { IfOk result (λ did. did ≡ true → GrowBy more.new self.old self.new) }
-        ensures made { maker.new.made ≤ maker.old.made + 2 * height_of self.old + 2 }
-        ensures idle { IfOk result (λ did. did ≡ false → maker.new.made ≤ maker.old.made + 1) }
+        ensures made { editor.new.maker.made ≤ editor.old.maker.made + 2 * height_of self.old + 2 }
+        ensures searched { HasSearched (height_of self.old + 1) (7 * height_of self.old + 7)
+            editor.old editor.new }
+        ensures idle { IfOk result (λ did. did ≡ false → editor.new.maker.made
+            ≤ editor.old.maker.made + 1) }
         ensures idle_above { IfOk result (λ did.
-            did ≡ false → 1 ≤ height_of self.old → maker.new.made ≡ maker.old.made) }
+            did ≡ false → 1 ≤ height_of self.old → editor.new.maker.made ≡ editor.old.maker.made) }
+        ensures idle_above_searched { IfOk result (λ did.
+            did ≡ false → 1 ≤ height_of self.old → HasSearched 0 0 editor.old editor.new) }
         ensures tried { IsTried result self.old self.new
             (AreGrown self.old self.new (inserted (joined self.old) at added.now)) }
     {
         let before = self.total();
-        if !self.part_child(maker, at, added, to_right)? {
+        if !self.part_child(editor, at, added, to_right)? {
             return Ok(false);
         }
         *more = self.total().minus(before);
@@ -270,7 +288,7 @@ impl Children {
     /// The same, but doesn't say by how much the counts grew.
     fn part_child(
         &mut self,
-        maker: &mut Maker,
+        editor: &mut Editor,
         at: usize,
         added: &ShortText<'_>,
         to_right: bool,
@@ -278,10 +296,15 @@ impl Children {
         requires children { AreFamily self.old }
         requires takes { TakesShort (tree_over self.old) at added.now }
         requires side { MayInsert (tree_over self.old) at added.now to_right }
-        ensures made { maker.new.made ≤ maker.old.made + 2 * height_of self.old + 2 }
-        ensures idle { IfOk result (λ did. did ≡ false → maker.new.made ≤ maker.old.made + 1) }
+        ensures made { editor.new.maker.made ≤ editor.old.maker.made + 2 * height_of self.old + 2 }
+        ensures searched { HasSearched (height_of self.old + 1) (7 * height_of self.old + 7)
+            editor.old editor.new }
+        ensures idle { IfOk result (λ did. did ≡ false → editor.new.maker.made
+            ≤ editor.old.maker.made + 1) }
         ensures idle_above { IfOk result (λ did.
-            did ≡ false → 1 ≤ height_of self.old → maker.new.made ≡ maker.old.made) }
+            did ≡ false → 1 ≤ height_of self.old → editor.new.maker.made ≡ editor.old.maker.made) }
+        ensures idle_above_searched { IfOk result (λ did.
+            did ≡ false → 1 ≤ height_of self.old → HasSearched 0 0 editor.old editor.new) }
         ensures full { IfOk result (λ did. did ≡ false → 1 ≤ height_of self.old
             → length self.old < MAX_CHILDREN
             → 2 ^ 32 ≤ byte_len (joined self.old) + byte_len added.now) }
@@ -292,10 +315,10 @@ impl Children {
         if count >= MAX_CHILDREN || !self.totals.has_room_for(added.len()) {
             return Ok(false);
         }
-        let WayIn { place, inside, .. } = self.way_in(at, to_right, false);
+        let WayIn { place, inside, .. } = self.way_in(editor, at, to_right, false);
         let node = &mut self.nodes[place];
         let old = node.info();
-        let back = match node.cut(maker, inside, added, to_right)? {
+        let back = match node.cut(editor, inside, added, to_right)? {
             Cut::Kept => return Ok(false),
             Cut::Grown => {
                 let new = node.info();
@@ -320,7 +343,7 @@ impl Children {
     #[inline(never)]
     fn insert_parting(
         &mut self,
-        maker: &mut Maker,
+        editor: &mut Editor,
         at: usize,
         added: &ShortText<'_>,
         to_right: bool,
@@ -328,19 +351,25 @@ impl Children {
         requires children { AreFamily self.old }
         requires takes { TakesShort (tree_over self.old) at added.now }
         requires side { MayInsert (tree_over self.old) at added.now to_right }
-        ensures made { maker.new.made ≤ maker.old.made + 2 * height_of self.old + 2 }
-        ensures idle { IfOk result (λ did. did ≡ false → maker.new.made ≡ maker.old.made) }
+        ensures made { editor.new.maker.made ≤ editor.old.maker.made + 2 * height_of self.old + 2 }
+        ensures searched { HasSearched (2 * height_of self.old + 2) (14 * height_of self.old + 14)
+            editor.old editor.new }
+        ensures idle_searched { IfOk result (λ did. did ≡ false
+            → HasSearched (height_of self.old + 1) (7 * height_of self.old
+            + 7) editor.old editor.new) }
+        ensures idle { IfOk result (λ did. did ≡ false
+            → editor.new.maker.made ≡ editor.old.maker.made) }
         ensures tried { IsTried result self.old self.new
             (AreGrown self.old self.new (inserted (joined self.old) at added.now)) }
     {
         if self.height == 1 || !self.totals.has_room_for(added.len()) {
             return Ok(false);
         }
-        let WayIn { place, inside, .. } = self.way_in(at, to_right, false);
+        let WayIn { place, inside, .. } = self.way_in(editor, at, to_right, false);
         let node = &mut self.nodes[place];
         let old = node.info();
-        if !node.insert_parting(maker, inside, added, to_right)? {
-            return self.part_child(maker, at, added, to_right);
+        if !node.insert_parting(editor, inside, added, to_right)? {
+            return self.part_child(editor, at, added, to_right);
         }
         let grown = node.info();
         self.totals.retotal(place, old, grown);
@@ -355,7 +384,7 @@ impl Children {
     #[inline(never)]
     fn remove_in_place(
         &mut self,
-        maker: &mut Maker,
+        editor: &mut Editor,
         start: usize,
         end: usize,
         least: Least,
@@ -366,11 +395,13 @@ impl Children {
         requires ordered { start < end }
         requires within { end ≤ length (joined self.old) }
         ensures change { IfOk result (λ did. did ≡ true → FallBy less.new self.old self.new) }
-        ensures made { maker.new.made ≤ maker.old.made + height_of self.old + 1 }
+        ensures made { editor.new.maker.made ≤ editor.old.maker.made + height_of self.old + 1 }
+        ensures searched { HasSearched (height_of self.old + 1) (7 * height_of self.old + 7)
+            editor.old editor.new }
         ensures tried { IsTried result self.old self.new
             (AreRemoved least.first least.last self.old self.new start end) }
     {
-        let Some(way) = self.locate(start, true, follows) else {
+        let Some(way) = self.locate(editor, start, true, follows) else {
             return unchanged();
         };
         let WayIn {
@@ -383,7 +414,7 @@ impl Children {
         }
         let least = least_at(usize::from(self.height), &self.totals, place, least);
         let node = &mut self.nodes[place];
-        if !node.remove_in_place(maker, inside, end - (start - inside), least, follows, less)? {
+        if !node.remove_in_place(editor, inside, end - (start - inside), least, follows, less)? {
             return unchanged();
         }
         self.totals.retotal(place, *less, TextInfo::new());
@@ -431,7 +462,7 @@ impl Node {
     #[inline(always)]
     pub(crate) fn insert_in_place(
         &mut self,
-        maker: &mut Maker,
+        editor: &mut Editor,
         at: usize,
         added: &ShortText<'_>,
         to_right: bool,
@@ -441,14 +472,16 @@ impl Node {
         requires takes { TakesShort self.old at added.now }
         requires side { MayInsert self.old at added.now to_right }
         ensures change { IfOk result (λ did. did ≡ true → GrowsBy more.new self.old self.new) }
-        ensures made { maker.new.made ≤ maker.old.made + self.old.height + 2 }
+        ensures made { editor.new.maker.made ≤ editor.old.maker.made + self.old.height + 2 }
+        ensures searched { HasSearched (self.old.height
+            + 1) (14 * self.old.height) editor.old editor.new }
         ensures idle { IfOk result (λ did.
-            did ≡ false → maker.new.made ≤ maker.old.made + self.old.height + 1) }
+            did ≡ false → editor.new.maker.made ≤ editor.old.maker.made + self.old.height + 1) }
         ensures tree { IsTree self.new }
         ensures tried { IsTried result self.old self.new
             (IsInserted self.old (self.new ∷ []) (inserted (text self.old) at added.now)) }
     {
-        own(&mut self.form, maker)?;
+        own(&mut self.form, &mut editor.maker)?;
         match &mut self.form {
             Form::Empty(_) => Ok(false),
             Form::Leaf(leaf) => match Rc::get_mut(leaf) {
@@ -457,7 +490,7 @@ impl Node {
             },
             Form::Inner(children) => match Rc::get_mut(children) {
                 Some(children) => {
-                    children.insert_in_place(maker, at, added, to_right, follows, more)
+                    children.insert_in_place(editor, at, added, to_right, follows, more)
                 }
                 None => Ok(false),
             },
@@ -470,22 +503,27 @@ impl Node {
     #[cycle(parting)]
     pub(crate) fn insert_parting(
         &mut self,
-        maker: &mut Maker,
+        editor: &mut Editor,
         at: usize,
         added: &ShortText<'_>,
         to_right: bool,
     ) -> Made<bool>
         requires takes { TakesShort self.old at added.now }
         requires side { MayInsert self.old at added.now to_right }
-        ensures made { maker.new.made ≤ maker.old.made + 2 * self.old.height }
-        ensures idle { IfOk result (λ did. did ≡ false → maker.new.made ≡ maker.old.made) }
+        ensures made { editor.new.maker.made ≤ editor.old.maker.made + 2 * self.old.height }
+        ensures idle { IfOk result (λ did. did ≡ false
+            → editor.new.maker.made ≡ editor.old.maker.made) }
+        ensures searched { HasSearched (2 * self.old.height) (14 * self.old.height) editor.old
+            editor.new }
+        ensures idle_searched { IfOk result (λ did. did ≡ false
+            → HasSearched self.old.height (7 * self.old.height) editor.old editor.new) }
         ensures tree { IsTree self.new }
         ensures tried { IsTried result self.old self.new
             (IsInserted self.old (self.new ∷ []) (inserted (text self.old) at added.now)) }
     {
         match &mut self.form {
             Form::Inner(children) => match Rc::get_mut(children) {
-                Some(children) => children.insert_parting(maker, at, added, to_right),
+                Some(children) => children.insert_parting(editor, at, added, to_right),
                 None => Ok(false),
             },
             _ => Ok(false),
@@ -496,7 +534,7 @@ impl Node {
     /// part here, and answers the second. If memory is refused, nothing has changed.
     fn cut(
         &mut self,
-        maker: &mut Maker,
+        editor: &mut Editor,
         at: usize,
         added: &ShortText<'_>,
         to_right: bool,
@@ -506,21 +544,23 @@ impl Node {
         ensures cut { IfOk result
             (IsCut self.old self.new (inserted (text self.old) at added.now)) }
         ensures err { OnErr result (self.new ≡ self.old) }
-        ensures made { maker.new.made ≤ maker.old.made + 2 * self.old.height + 2 }
-        ensures idle { IfOk result (λ cut. cut ≡ Kept → maker.new.made ≤ maker.old.made + 1) }
+        ensures made { editor.new.maker.made ≤ editor.old.maker.made + 2 * self.old.height + 2 }
+        ensures searched { HasSearched self.old.height (7 * self.old.height) editor.old editor.new }
+        ensures idle { IfOk result (λ cut. cut ≡ Kept → editor.new.maker.made
+            ≤ editor.old.maker.made + 1) }
         ensures inner { IfOk result (λ cut. cut ≡ Kept → self.old.height ≡ 0) }
     {
         if let Form::Inner(_) = self.form {
-            return self.cut_anew(maker, at, added, to_right);
+            return self.cut_anew(editor, at, added, to_right);
         }
-        own(&mut self.form, maker)?;
+        own(&mut self.form, &mut editor.maker)?;
         let Form::Leaf(leaf) = &mut self.form else {
             return Ok(Cut::Kept);
         };
         let Some(leaf) = Rc::get_mut(leaf) else {
             return Ok(Cut::Kept);
         };
-        match leaf.cut(maker, at, added)? {
+        match leaf.cut(&mut editor.maker, at, added)? {
             Some(back) => Ok(Cut::Parted(back)),
             None => Ok(Cut::Kept),
         }
@@ -530,7 +570,7 @@ impl Node {
     /// place last of all.
     fn cut_anew(
         &mut self,
-        maker: &mut Maker,
+        editor: &mut Editor,
         at: usize,
         added: &ShortText<'_>,
         to_right: bool,
@@ -541,9 +581,10 @@ impl Node {
             (IsCut self.old self.new (inserted (text self.old) at added.now)) }
         ensures done { IfOk result (λ cut. cut ≡ Kept → ⊥) }
         ensures err { OnErr result (self.new ≡ self.old) }
-        ensures made { maker.new.made ≤ maker.old.made + 2 * self.old.height + 2 }
+        ensures made { editor.new.maker.made ≤ editor.old.maker.made + 2 * self.old.height + 2 }
+        ensures searched { HasSearched self.old.height (5 * self.old.height) editor.old editor.new }
     {
-        match insert(maker, self, at, added, to_right)? {
+        match insert(editor, self, at, added, to_right)? {
             Nodes::One(node) => {
                 *self = node;
                 Ok(Cut::Grown)
@@ -564,7 +605,7 @@ impl Node {
     #[inline(always)]
     pub(crate) fn remove_in_place(
         &mut self,
-        maker: &mut Maker,
+        editor: &mut Editor,
         start: usize,
         end: usize,
         least: Least,
@@ -574,12 +615,13 @@ impl Node {
         requires ordered { start < end }
         requires within { end ≤ length (text self.old) }
         ensures change { IfOk result (λ did. did ≡ true → FallsBy less.new self.old self.new) }
-        ensures made { maker.new.made ≤ maker.old.made + self.old.height + 1 }
+        ensures made { editor.new.maker.made ≤ editor.old.maker.made + self.old.height + 1 }
+        ensures searched { HasSearched self.old.height (7 * self.old.height) editor.old editor.new }
         ensures tree { IsTree self.new }
         ensures tried { IsTried result self.old self.new
             (IsRemoved least.first least.last self.old self.new start end) }
     {
-        own(&mut self.form, maker)?;
+        own(&mut self.form, &mut editor.maker)?;
         match &mut self.form {
             Form::Empty(_) => Ok(false),
             Form::Leaf(leaf) => match Rc::get_mut(leaf) {
@@ -588,7 +630,7 @@ impl Node {
             },
             Form::Inner(children) => match Rc::get_mut(children) {
                 Some(children) => {
-                    children.remove_in_place(maker, start, end, least, follows, less)
+                    children.remove_in_place(editor, start, end, least, follows, less)
                 }
                 None => Ok(false),
             },

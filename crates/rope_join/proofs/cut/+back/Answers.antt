@@ -17,19 +17,19 @@ use Rattle.rope_join.proofs.Parts.{back_made}
 use Rattle.rope_join.proofs.cut.+back.Goals.{back_part-After-index-children-place, back_part-After-index-children-place-2}
 use Rattle.rope_join.proofs.cut.+back.Goals as goal
 
-down : (t : ℕ) (c : back_part-After-index-children-place t) → Descends (breaks_of c.in-Inner.children.now) Char c.args.at c.in-Inner.children.now c.place_of-place.result c.index-children-place.result c.total_before-before.result
+down : (t : ℕ) (c : back_part-After-index-children-place t) → Descends (breaks_of c.in-Inner.children.now) Char c.args.at c.in-Inner.children.now c.child_at-place.result c.index-children-place.result c.total_before-before.result
 down t c =
-    descends Char c.args.at c.in-Inner.children.now c.in-Inner.totals.now c.place_of-place.result c.index-children-place.result c.total_before-before.result
-    c.in-Inner.ensures.children c.in-Inner.ensures.totals_right c.place_of-place.ensures.within c.index-children-place.is
-    c.total_before-before.ensures.first c.total_before-before.ensures.later c.place_of-place.ensures.before c.place_of-place.ensures.past
+    descends Char c.args.at c.in-Inner.children.now c.in-Inner.totals.now c.child_at-place.result c.index-children-place.result c.total_before-before.result
+    c.in-Inner.ensures.children c.in-Inner.ensures.totals_right c.child_at-place.ensures.within c.index-children-place.is
+    c.total_before-before.ensures.first c.total_before-before.ensures.later c.child_at-place.ensures.before c.child_at-place.ensures.past
 
-parts : (t : ℕ) (c : back_part-After-index-children-place t) → CutsAt c.args.node.now (take c.place_of-place.result c.in-Inner.children.now) c.index-children-place.result (drop (c.place_of-place.result + 1) c.in-Inner.children.now)
+parts : (t : ℕ) (c : back_part-After-index-children-place t) → CutsAt c.args.node.now (take c.child_at-place.result c.in-Inner.children.now) c.index-children-place.result (drop (c.child_at-place.result + 1) c.in-Inner.children.now)
 parts t c =
     let d = down t c in
     let ts = c.in-Inner.children.now in
-    cuts_at c.args.node.now (breaks_of ts) (height_of ts) ts c.place_of-place.result c.index-children-place.result (c.in-Inner.ensures.is) d.children d.within d.child_is
+    cuts_at c.args.node.now (breaks_of ts) (height_of ts) ts c.child_at-place.result c.index-children-place.result (c.in-Inner.ensures.is) d.children d.within d.child_is
 
-place : (t : ℕ) (c : back_part-After-index-children-place t) → c.args.at ≡ length (joined (take c.place_of-place.result c.in-Inner.children.now)) + (c.args.at - c.total_before-before.result.chars)
+place : (t : ℕ) (c : back_part-After-index-children-place t) → c.args.at ≡ length (joined (take c.child_at-place.result c.in-Inner.children.now)) + (c.args.at - c.total_before-before.result.chars)
 place t c =
     let d = down t c in
     omega (arith, d.not_past, ap (λ x. x.chars) d.front_is)
@@ -39,14 +39,14 @@ inside t c =
     let d = down t c in
     omega (arith, d.past, d.not_past)
 
-many : (t : ℕ) (c : back_part-After-index-children-place t) → length (drop (c.place_of-place.result + 1) c.in-Inner.children.now) + (c.place_of-place.result + 1) ≡ length c.in-Inner.children.now
+many : (t : ℕ) (c : back_part-After-index-children-place t) → length (drop (c.child_at-place.result + 1) c.in-Inner.children.now) + (c.child_at-place.result + 1) ≡ length c.in-Inner.children.now
 many t c =
     let d = down t c in
-    omega (arith, length-drop (c.place_of-place.result + 1) c.in-Inner.children.now, d.within)
+    omega (arith, length-drop (c.child_at-place.result + 1) c.in-Inner.children.now, d.within)
 
-pub back_part-place_of-place-requires-clause-small :
-    goal.back_part-place_of-place-requires-clause-small
-back_part-place_of-place-requires-clause-small t c =
+pub back_part-child_at-place-requires-clause-small :
+    goal.back_part-child_at-place-requires-clause-small
+back_part-child_at-place-requires-clause-small t c =
     small_totals _ c.in-Inner.totals.now c.in-Inner.children.now c.in-Inner.ensures.totals_right c.in-Inner.ensures.children.fits
 
 pub back_part-overflow_sub-within : goal.back_part-overflow_sub-within
@@ -70,23 +70,23 @@ back_part-with_back-requires t c =
     let e = (goal.at.back_part-with_back-requires t c).After-index-children-place in
     let d = down t e in
     let ts = c.in-Inner.children.now in
-    let lt : c.place_of-place.result + 1 < length ts = omega (arith, d.within, c.if-place-children.false) in
-    (omega (arith, c.decreases, (parts t e).above), (beside_at (breaks_of ts) (height_of ts) ts c.place_of-place.result c.index-children-place.result _ d.children lt d.child_is (sym c.index-children-place-2.is), inside t e))
+    let lt : c.child_at-place.result + 1 < length ts = omega (arith, d.within, c.if-place-children.false) in
+    (omega (arith, c.decreases, (parts t e).above), (beside_at (breaks_of ts) (height_of ts) ts c.child_at-place.result c.index-children-place.result _ d.children lt d.child_is (sym c.index-children-place-2.is), inside t e))
 
-row_is : (t : ℕ) (c : back_part-After-index-children-place-2 t) → c.index-children-place-2.result ∷ c.rest-row.result.nodes.now ≡ drop (c.place_of-place.result + 1) c.in-Inner.children.now
+row_is : (t : ℕ) (c : back_part-After-index-children-place-2 t) → c.index-children-place-2.result ∷ c.rest-row.result.nodes.now ≡ drop (c.child_at-place.result + 1) c.in-Inner.children.now
 row_is t c =
     let d = down t (goal.at.back_part-After-index-children-place-2 t c).After-index-children-place in
     let ts = c.in-Inner.children.now in
-    let two : c.place_of-place.result + 2 ≡ c.place_of-place.result + 1 + 1 = omega arith in
+    let two : c.child_at-place.result + 2 ≡ c.child_at-place.result + 1 + 1 = omega arith in
     rw (c.rest-row.ensures.nodes, c.of.ensures.nodes)
-    (ap (λ x. x ∷ drop (c.place_of-place.result + 2) ts) c.index-children-place-2.is
-    ∙ ap (λ k. get_or ts (c.place_of-place.result + 1) c.index-children-place-2.result ∷ drop k ts) two ∙ sym (drop_more ts (c.place_of-place.result + 1) c.index-children-place-2.result (omega (arith, d.within, c.if-place-children.false))))
+    (ap (λ x. x ∷ drop (c.child_at-place.result + 2) ts) c.index-children-place-2.is
+    ∙ ap (λ k. get_or ts (c.child_at-place.result + 1) c.index-children-place-2.result ∷ drop k ts) two ∙ sym (drop_more ts (c.child_at-place.result + 1) c.index-children-place-2.result (omega (arith, d.within, c.if-place-children.false))))
 
 made : (t : ℕ) (c : back_part-After-index-children-place-2 t) (p : Nodes) → IsWithBack c.index-children-place.result (c.args.at - c.total_before-before.result.chars) c.index-children-place-2.result (trees_in p)
     → ArePart c.args.node.now (trees_in p ++ c.rest-row.result.nodes.now) × IsBack c.args.at c.args.node.now (gathered (trees_in p ++ c.rest-row.result.nodes.now)) × (c.index-children-place.result.height ≤ (gathered (trees_in p ++ c.rest-row.result.nodes.now)).height)
 made t c p u =
     let e = (goal.at.back_part-After-index-children-place-2 t c).After-index-children-place in
-    let xs = take c.place_of-place.result c.in-Inner.children.now in
+    let xs = take c.child_at-place.result c.in-Inner.children.now in
     back_made c.args.node.now xs c.index-children-place.result c.index-children-place-2.result c.rest-row.result.nodes.now
     (subst (λ us. CutsAt c.args.node.now xs c.index-children-place.result us) (sym (row_is t c)) (parts t e)) c.args.at (c.args.at - c.total_before-before.result.chars) (place t e) (omega (arith, inside t e)) p u
 

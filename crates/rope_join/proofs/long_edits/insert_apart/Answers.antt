@@ -1,5 +1,4 @@
 use Rattle.std.proofs.Common.{ap, arith}
-use Rattle.std.proofs.lemmas.Result.{IfOk-weaker}
 use Rattle.rope_text.specs.Text.{byte_len}
 use Rattle.rope_text.proofs.Measures.{IsMeasure-byte_len}
 use Rattle.rope_text.proofs.Walks.{byte_len-chars}
@@ -30,12 +29,10 @@ append-requires-2-clause-fits c =
 -- what the front, the back, the new tree and the two appends make; none of the trees is higher than 18
 pub returns-clause-made : goal.returns-clause-made
 returns-clause-made c =
-    IfOk-weaker c.append-2.result _ _ (λ node _.
     omega (
       arith,
       c.in_ok-front.ensures.made,
       c.in_ok-back.ensures.made,
-      c.in_ok-middle.ensures.few,
       c.in_ok-middle.ensures.made,
       c.in_ok-first.ensures.made,
       c.append-2.ensures.made,
@@ -43,4 +40,38 @@ returns-clause-made c =
       low_tree c.in_ok-back.back c.in_ok-back.ensures.tree,
       low_tree c.in_ok-middle.middle c.in_ok-middle.ensures.tree,
       low_tree c.in_ok-first.first c.in_ok-first.ensures.tree,
-    )) c.append-2.ensures.tree
+    )
+
+pub returns-in_err-first-clause-made : goal.returns-in_err-first-clause-made
+returns-in_err-first-clause-made c =
+    omega (
+      arith,
+      c.in_ok-front.ensures.made,
+      c.in_ok-back.ensures.made,
+      c.in_ok-middle.ensures.made,
+      c.append.ensures.made,
+      low_tree c.in_ok-front.front c.in_ok-front.ensures.tree,
+      low_tree c.in_ok-middle.middle c.in_ok-middle.ensures.tree,
+    )
+
+pub returns-in_err-first-clause-searched : goal.returns-in_err-first-clause-searched
+returns-in_err-first-clause-searched c =
+    let front = low_tree c.in_ok-front.front c.in_ok-front.ensures.tree in
+    let middle = low_tree c.in_ok-middle.middle c.in_ok-middle.ensures.tree in
+    record {
+      rise = omega arith;
+      nodes = omega (arith, front, middle);
+      compares = omega (arith, front, middle);
+    }
+
+pub returns-clause-searched : goal.returns-clause-searched
+returns-clause-searched c =
+    let front = low_tree c.in_ok-front.front c.in_ok-front.ensures.tree in
+    let back = low_tree c.in_ok-back.back c.in_ok-back.ensures.tree in
+    let middle = low_tree c.in_ok-middle.middle c.in_ok-middle.ensures.tree in
+    let first = low_tree c.in_ok-first.first c.in_ok-first.ensures.tree in
+    record {
+      rise = omega arith;
+      nodes = omega (arith, front, back, middle, first);
+      compares = omega (arith, front, back, middle, first);
+    }

@@ -75,15 +75,13 @@ returns-clause-made c =
     let b = (goal.at.returns-clause-made c).In_ok-append-3 in
     let added = chars c.args.added.now in
     let behind = drop c.args.at c.args.leaf.now in
-    both_ok c.finish.result _ _ _ (λ (node : Tree) few made.
     omega (
       arith,
-      few,
-      made,
+      c.finish.ensures.made,
       ap byte_len (built b),
       IsMeasure-byte_len.joined (take c.args.at c.args.leaf.now) (added ++ behind),
       IsMeasure-byte_len.joined added behind,
       byte_len-chars c.args.added.now c.utf8.added,
       byte_len-parts c.args.at c.args.leaf.now,
       c.as_str-text.ensures.fits,
-    )) c.finish.ensures.few c.finish.ensures.made
+    )

@@ -1,18 +1,12 @@
 use Rattle.std.proofs.Common.{◌≡◌, ◌+◌, ◌-◌, take, true, false, refl, sym, ap, ◌∙◌, arith}
 use Rattle.rope_text.specs.Breaks.{ends_in_cr}
 use Rattle.rope_tree.specs.Tree.{text}
-use Rattle.rope_tree.proofs.TreeLaws.{low_tree}
 use Rattle.rope_join.proofs.Seams.{ends_at}
 use Rattle.rope_join.proofs.long_edits.meets.Goals.{then-end-gt0, else-end-gt0}
 use Rattle.rope_join.proofs.long_edits.meets.Goals as goal
 
 apart : false ≡ true → ⊥
 apart e = cc
-
-pub char_at-requires-clause-room : goal.char_at-requires-clause-room
-char_at-requires-clause-room c =
-    let low = low_tree c.args.left.now c.requires.tree in
-    record { nodes = omega (arith, low, ap (λ s. s.nodes) c.new.ensures); compares = omega (arith, low, ap (λ s. s.compares) c.new.ensures) }
 
 pub returns-then-char_at-eq13-clause-value : goal.returns-then-char_at-eq13-clause-value
 returns-then-char_at-eq13-clause-value c = elim c.if-end-gt0.branch [

@@ -9,7 +9,6 @@ use Rattle.rope_text.proofs.Walks.{byte_len-chars}
 use Rattle.rope_tree.specs.Tree.{Tree, leaves_of}
 use Rattle.rope_tree.specs.Siblings.{AreSiblings}
 use Rattle.rope_tree.specs.Fronts.{AreFrontNodes}
-use Rattle.rope_tree.proofs.LastCalls.{both_ok}
 use Rattle.rope_tree.proofs.TreeLaws.{breaks_of_is}
 use Rattle.rope_tree.proofs.InsertLeaves.{text_of_leaf}
 use Rattle.rope_tree.proofs.InsertTrees.{siblings_of_first}
@@ -87,6 +86,20 @@ returns-clause-few c =
 pub returns-clause-made : goal.returns-clause-made
 returns-clause-made c =
     let e = (goal.at.returns-clause-made c).In_ok-push-2 in
-    both_ok c.root_over.result _ _ _ (λ (node : Tree) leaves made.
-    omega (arith, c.loop-rest.invariant.made, c.in_ok-leaf_of-2.ensures.made, count e, made, ap length leaves, nodes_le c.args.breaks 0 c.push-2.new.self.items (siblings e).each))
-    c.root_over.ensures.leaves c.root_over.ensures.made
+    omega (arith, c.root_over.ensures.made, c.in_ok-leaf_of-2.ensures.made, count e, c.loop-rest.invariant.made, c.loop-rest.invariant.long, c.loop-rest.invariant.some, nodes_le c.args.breaks 0 c.loop-rest.leaves.items c.loop-rest.invariant.nodes.each)
+
+pub returns-in_err-leaf_of-clause-made : goal.returns-in_err-leaf_of-clause-made
+returns-in_err-leaf_of-clause-made c =
+    omega (arith, c.leaf_of-in-loop-rest.ensures.made, c.loop-rest.invariant.made, c.loop-rest.invariant.long, nodes_le c.args.breaks 0 c.loop-rest.leaves.items c.loop-rest.invariant.nodes.each)
+
+pub returns-in_err-push-clause-made : goal.returns-in_err-push-clause-made
+returns-in_err-push-clause-made c =
+    omega (arith, c.in_ok-leaf_of.ensures.made, c.loop-rest.invariant.made, c.loop-rest.invariant.long, nodes_le c.args.breaks 0 c.loop-rest.leaves.items c.loop-rest.invariant.nodes.each)
+
+pub returns-in_err-leaf_of-2-clause-made : goal.returns-in_err-leaf_of-2-clause-made
+returns-in_err-leaf_of-2-clause-made c =
+    omega (arith, c.leaf_of-2.ensures.made, c.loop-rest.invariant.made, c.loop-rest.invariant.long, nodes_le c.args.breaks 0 c.loop-rest.leaves.items c.loop-rest.invariant.nodes.each)
+
+pub returns-in_err-push-2-clause-made : goal.returns-in_err-push-2-clause-made
+returns-in_err-push-2-clause-made c =
+    omega (arith, c.in_ok-leaf_of-2.ensures.made, c.loop-rest.invariant.made, c.loop-rest.invariant.long, nodes_le c.args.breaks 0 c.loop-rest.leaves.items c.loop-rest.invariant.nodes.each)

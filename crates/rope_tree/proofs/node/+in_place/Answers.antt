@@ -202,3 +202,18 @@ pub Children::insert_in_place-returns-then-not-branch-clause-idle :
 Children::insert_in_place-returns-then-not-branch-clause-idle t c =
     let f = found t (goal.at.Children::insert_in_place-returns-then-not-branch-clause-idle t c).After-index-self-place-2 in
     if_idle _ (omega (arith, c.in_ok-insert_in_place.ensures.idle c.if-not-branch.true, f.taken.own.at_height))
+
+pub Children::insert_in_place-returns-in_err-insert_in_place-clause-searched : goal.Children::insert_in_place-returns-in_err-insert_in_place-clause-searched
+Children::insert_in_place-returns-in_err-insert_in_place-clause-searched t c =
+    let h = (found t (goal.at.Children::insert_in_place-returns-in_err-insert_in_place-clause-searched t c).After-index-self-place-2).taken.own.at_height in
+    record { rise = omega (arith, h); nodes = omega (arith, h); compares = omega (arith, h) }
+
+pub Children::insert_in_place-returns-then-not-branch-clause-searched : goal.Children::insert_in_place-returns-then-not-branch-clause-searched
+Children::insert_in_place-returns-then-not-branch-clause-searched t c =
+    let h = (found t (goal.at.Children::insert_in_place-returns-then-not-branch-clause-searched t c).After-index-self-place-2).taken.own.at_height in
+    record { rise = omega (arith, h); nodes = omega (arith, h); compares = omega (arith, h) }
+
+pub Children::insert_in_place-returns-clause-searched : goal.Children::insert_in_place-returns-clause-searched
+Children::insert_in_place-returns-clause-searched t c =
+    let h = (found t (goal.at.Children::insert_in_place-returns-clause-searched t c).After-index-self-place-2).taken.own.at_height in
+    record { rise = omega (arith, h); nodes = omega (arith, h); compares = omega (arith, h) }

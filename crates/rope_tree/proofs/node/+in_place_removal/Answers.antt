@@ -254,3 +254,18 @@ Node::remove_in_place-returns-clause-change t c =
           (λ did. did ≡ true → IsChange now no_counts (info_of c.args.self.now.breaks (text c.args.self.now)) (info_of c.args.self.now.breaks (text (tree_over us)))) (λ did g yes. rw i.is (g yes)) did.ensures.change)
       | Node::remove_in_place-in-Inner+in-None-get_mut w ↦ rw w.result-is (λ no. cc)
     ]
+
+pub Children::remove_in_place-returns-in_err-remove_in_place-clause-searched : goal.Children::remove_in_place-returns-in_err-remove_in_place-clause-searched
+Children::remove_in_place-returns-in_err-remove_in_place-clause-searched t c =
+    let h = (down t (goal.at.Children::remove_in_place-returns-in_err-remove_in_place-clause-searched t c).After-index-self-place).own.at_height in
+    record { rise = omega (arith, h); nodes = omega (arith, h); compares = omega (arith, h) }
+
+pub Children::remove_in_place-returns-then-not-branch-clause-searched : goal.Children::remove_in_place-returns-then-not-branch-clause-searched
+Children::remove_in_place-returns-then-not-branch-clause-searched t c =
+    let h = (down t (goal.at.Children::remove_in_place-returns-then-not-branch-clause-searched t c).After-index-self-place).own.at_height in
+    record { rise = omega (arith, h); nodes = omega (arith, h); compares = omega (arith, h) }
+
+pub Children::remove_in_place-returns-clause-searched : goal.Children::remove_in_place-returns-clause-searched
+Children::remove_in_place-returns-clause-searched t c =
+    let h = (down t (goal.at.Children::remove_in_place-returns-clause-searched t c).After-index-self-place).own.at_height in
+    record { rise = omega (arith, h); nodes = omega (arith, h); compares = omega (arith, h) }

@@ -115,3 +115,13 @@ Node::insert_parting-returns-clause-tried t c =
       | Node::insert_parting-in-Inner+in-None w ↦ rw (w.result-is, w.self-inside-is) (not_tried c.args.self.now _ (sym (inner_of c.self.inside c.args.self.now w.in-Inner.children c.self.invariant w.in-Inner.is c.self.view_is).is))
       | Node::insert_parting-in_default w ↦ rw (w.result-is, w.self-inside-is) (not_tried c.args.self.now _ c.self.view_is)
     ]
+
+pub Children::insert_parting-returns-in_err-insert_parting-clause-searched : goal.Children::insert_parting-returns-in_err-insert_parting-clause-searched
+Children::insert_parting-returns-in_err-insert_parting-clause-searched t c =
+    let h = (found t (goal.at.Children::insert_parting-returns-in_err-insert_parting-clause-searched t c).After-info-old).taken.own.at_height in
+    record { rise = omega (arith, h); nodes = omega (arith, h); compares = omega (arith, h) }
+
+pub Children::insert_parting-returns-clause-searched : goal.Children::insert_parting-returns-clause-searched
+Children::insert_parting-returns-clause-searched t c =
+    let h = (found t (goal.at.Children::insert_parting-returns-clause-searched t c).After-info-old).taken.own.at_height in
+    record { rise = omega (arith, h); nodes = omega (arith, h); compares = omega (arith, h) }

@@ -1,5 +1,5 @@
 -- The rest is the last leaf, and the tree has the leaves.
-use Rattle.std.proofs.Common.{◌≡◌, ◌∙◌, ◌+◌, ◌≤◌, ◌<◌, ◌++◌, false, [], ◌∷◌, length, ap, sym, arith}
+use Rattle.std.proofs.Common.{◌≡◌, ◌∙◌, ◌+◌, ◌*◌, ◌≤◌, ◌<◌, ◌++◌, false, [], ◌∷◌, length, ap, sym, arith}
 use Rattle.std.specs.Prelude.{◌==◌}
 use Rattle.std.proofs.lemmas.Bool.Decides.{nat_tests}
 use Rattle.std.proofs.lemmas.List.{length-append, append-nil}
@@ -7,9 +7,9 @@ use Rattle.std.proofs.lemmas.Result.{IfOk-weaker}
 use Rattle.std.specs.List.{concat}
 use Rattle.rope_text.specs.Text.{byte_len}
 use Rattle.rope_tree.specs.Tree.{Tree, leaf_tree, joined, leaves_of}
-use Rattle.rope_tree.specs.Fronts.{AreFrontNodes, Building}
+use Rattle.rope_tree.specs.declared.builder.Builder.TheInside.{Inside}
+use Rattle.rope_tree.specs.Fronts.{AreFrontNodes, Building, IsBuilding}
 use Rattle.rope_tree.specs.Siblings.{AreSiblings}
-use Rattle.rope_tree.proofs.LastCalls.{both_ok}
 use Rattle.rope_tree.proofs.TreeLaws.{breaks_of_is}
 use Rattle.rope_tree.proofs.InsertTrees.{siblings_of_first}
 use Rattle.rope_tree.proofs.LeafLaws.{seam-nil}
@@ -70,13 +70,24 @@ returns-clause-breaks c =
     breaks ∙ breaks_of_is c.self.inside.breaks 0 c.push.new.self.items (some b) (all b).each ∙ ap (λ (x : Building). x.breaks) c.self.view_is)
     c.root_over.ensures.breaks
 
+-- each leaf but the last has 981 bytes or more
+most : (a : Inside) → IsBuilding a → 981 * length a.leaves.items + byte_len a.rest ≤ a.bytes
+most a i = omega (arith, i.long, nodes_le a.breaks 0 a.leaves.items i.nodes.each)
+
+pub returns-in_err-rest-clause-made : goal.returns-in_err-rest-clause-made
+returns-in_err-rest-clause-made c =
+    omega (arith, c.leaf_of.ensures.made, c.add_all_made.ensures.most, c.len.ensures, c.self.inside.leaves.ok, most c.self.inside c.self.invariant, c.self.invariant.counted, ap (λ (b : Building). byte_len b.text) c.self.view_is)
+
+pub returns-in_err-push-clause-made : goal.returns-in_err-push-clause-made
+returns-in_err-push-clause-made c =
+    omega (arith, c.in_ok-rest.ensures.made, c.add_all_made.ensures.most, c.len.ensures, c.self.inside.leaves.ok, most c.self.inside c.self.invariant, c.self.invariant.counted, ap (λ (b : Building). byte_len b.text) c.self.view_is)
+
 pub returns-clause-made : goal.returns-clause-made
 returns-clause-made c =
     let b = (goal.at.returns-clause-made c).In_ok-push in
-    let ts = c.push.new.self.items in
-    both_ok c.root_over.result _ _ _ (λ (node : Tree) leaves made.
-    omega (arith, c.in_ok-rest.ensures.made, made, ap length leaves, nodes_le c.self.inside.breaks 0 ts (all b).each))
-    c.root_over.ensures.leaves c.root_over.ensures.made
+    let a = c.self.inside in
+    let all_leaves : length c.push.new.self.items ≡ length a.leaves.items + 1 = omega (arith, ap length c.in_ok-push.ensures.items, length-append a.leaves.items (c.in_ok-rest.rest ∷ [])) in
+    omega (arith, c.root_over.ensures.made, c.in_ok-rest.ensures.made, c.add_all_made.ensures.most, c.len.ensures, c.self.inside.leaves.ok, all_leaves, left b, most a c.self.invariant, c.self.invariant.counted, ap (λ (x : Building). byte_len x.text) c.self.view_is)
 
 pub returns-clause-few : goal.returns-clause-few
 returns-clause-few c =

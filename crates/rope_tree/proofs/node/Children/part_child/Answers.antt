@@ -277,3 +277,23 @@ returns-clause-tried c = record {
   kept = λ no. cc;
   err = tt;
 }
+
+pub returns-in_err-cut-clause-searched : goal.returns-in_err-cut-clause-searched
+returns-in_err-cut-clause-searched c =
+    let h = (found (goal.at.returns-in_err-cut-clause-searched c).After-info-old).taken.own.at_height in
+    record { rise = omega (arith, h); nodes = omega (arith, h); compares = omega (arith, h) }
+
+pub returns-in-Grown-clause-searched : goal.returns-in-Grown-clause-searched
+returns-in-Grown-clause-searched c =
+    let h = (found (goal.at.returns-in-Grown-clause-searched c).After-info-old).taken.own.at_height in
+    record { rise = omega (arith, h); nodes = omega (arith, h); compares = omega (arith, h) }
+
+pub returns-in-Kept-clause-searched : goal.returns-in-Kept-clause-searched
+returns-in-Kept-clause-searched c =
+    let h = (found (goal.at.returns-in-Kept-clause-searched c).After-info-old).taken.own.at_height in
+    record { rise = omega (arith, h); nodes = omega (arith, h); compares = omega (arith, h) }
+
+pub returns-clause-searched : goal.returns-clause-searched
+returns-clause-searched c =
+    let h = (found (goal.at.returns-clause-searched c).After-info-old).taken.own.at_height in
+    record { rise = omega (arith, h); nodes = omega (arith, h); compares = omega (arith, h) }

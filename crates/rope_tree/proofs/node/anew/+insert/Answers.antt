@@ -13,11 +13,11 @@ use Rattle.rope_tree.proofs.InsertTrees.{siblings_of_first, text_around, child_m
 use Rattle.rope_tree.proofs.node.anew.+insert.Goals.{After-index-children-place, In_ok-middle-in-Inner}
 use Rattle.rope_tree.proofs.node.anew.+insert.Goals as goal
 
-down : (t : ℕ) (c : After-index-children-place t) → Descends (breaks_of c.in-Inner.children.now) Char c.char_to_hold-held.result c.in-Inner.children.now c.place_of-place.result c.index-children-place.result c.total_before-front.result
+down : (t : ℕ) (c : After-index-children-place t) → Descends (breaks_of c.in-Inner.children.now) Char c.char_to_hold-held.result c.in-Inner.children.now c.child_at-place.result c.index-children-place.result c.total_before-front.result
 down t c =
-    descends Char c.char_to_hold-held.result c.in-Inner.children.now c.in-Inner.totals.now c.place_of-place.result c.index-children-place.result c.total_before-front.result
-    c.in-Inner.ensures.children c.in-Inner.ensures.totals_right c.place_of-place.ensures.within c.index-children-place.is
-    c.total_before-front.ensures.first c.total_before-front.ensures.later c.place_of-place.ensures.before c.place_of-place.ensures.past
+    descends Char c.char_to_hold-held.result c.in-Inner.children.now c.in-Inner.totals.now c.child_at-place.result c.index-children-place.result c.total_before-front.result
+    c.in-Inner.ensures.children c.in-Inner.ensures.totals_right c.child_at-place.ensures.within c.index-children-place.is
+    c.total_before-front.ensures.first c.total_before-front.ensures.later c.child_at-place.ensures.before c.child_at-place.ensures.past
 
 goes : (t : ℕ) (c : After-index-children-place t) → (c.total_before-front.result.chars ≤ c.args.at) × GoesIn c.args.at (c.args.at - c.total_before-front.result.chars) (length (text c.index-children-place.result)) c.args.to_right
 goes t c =
@@ -25,7 +25,7 @@ goes t c =
     goes_in c.args.at c.char_to_hold-held.result c.total_before-front.result.chars (length (text c.index-children-place.result)) c.args.to_right d.not_past d.past
     c.char_to_hold-held.ensures.right c.char_to_hold-held.ensures.first c.char_to_hold-held.ensures.left
 
-place : (t : ℕ) (c : After-index-children-place t) → c.args.at ≡ length (joined (take c.place_of-place.result c.in-Inner.children.now)) + (c.args.at - c.total_before-front.result.chars)
+place : (t : ℕ) (c : After-index-children-place t) → c.args.at ≡ length (joined (take c.child_at-place.result c.in-Inner.children.now)) + (c.args.at - c.total_before-front.result.chars)
 place t c =
     let front = ap (λ x. x.chars) (down t c).front_is in
     let g = (goes t c).0 in
@@ -35,14 +35,14 @@ may : (t : ℕ) (c : After-index-children-place t) → MayInsert c.index-childre
 may t c =
     let d = down t c in
     let g = (goes t c).1 in
-    child_may (breaks_of c.in-Inner.children.now) (height_of c.in-Inner.children.now) c.in-Inner.children.now c.place_of-place.result c.index-children-place.result d.children d.within d.child_is
+    child_may (breaks_of c.in-Inner.children.now) (height_of c.in-Inner.children.now) c.in-Inner.children.now c.child_at-place.result c.index-children-place.result d.children d.within d.child_is
     c.args.node.now c.in-Inner.ensures.is c.args.at (c.args.at - c.total_before-front.result.chars) c.args.added.now c.requires.takes.some (place t c) g.within c.args.to_right g.inside c.requires.side
 
-pub place_of-place-requires-clause-small : goal.place_of-place-requires-clause-small
-place_of-place-requires-clause-small t c = small_totals _ c.in-Inner.totals.now c.in-Inner.children.now c.in-Inner.ensures.totals_right c.in-Inner.ensures.children.fits
+pub child_at-place-requires-clause-small : goal.child_at-place-requires-clause-small
+child_at-place-requires-clause-small t c = small_totals _ c.in-Inner.totals.now c.in-Inner.children.now c.in-Inner.ensures.totals_right c.in-Inner.ensures.children.fits
 
-pub place_of-place-requires-clause-last : goal.place_of-place-requires-clause-last
-place_of-place-requires-clause-last t c =
+pub child_at-place-requires-clause-last : goal.child_at-place-requires-clause-last
+child_at-place-requires-clause-last t c =
     let ts = c.in-Inner.children.now in
     let some = inner_some _ _ ts c.in-Inner.ensures.children in
     let whole = ap (λ u. length (text u)) c.in-Inner.ensures.is in
@@ -57,7 +57,7 @@ child_fits : (t : ℕ) (c : After-index-children-place t) → byte_len (text c.i
 child_fits t c =
     let d = down t c in
     let ts = c.in-Inner.children.now in
-    let k = c.place_of-place.result in
+    let k = c.child_at-place.result in
     let whole = ap (λ u. byte_len (text u)) c.in-Inner.ensures.is in
     let parts = ap byte_len (text_around (breaks_of ts) (height_of ts) ts k c.index-children-place.result d.children d.within d.child_is) in
     omega (arith, whole, parts, IsMeasure-byte_len.joined (joined (take k ts)) (text c.index-children-place.result ++ joined (drop (k + 1) ts)), IsMeasure-byte_len.joined (text c.index-children-place.result) (joined (drop (k + 1) ts)))
@@ -89,11 +89,11 @@ pack-requires-clause-siblings t c =
     let g = (goes t e).1 in
     let ts = c.in-Inner.children.now in
     let ps = trees_in c.in_ok-middle-in-Inner.middle in
-    let more = new_length (breaks_of ts) (height_of ts) ts c.place_of-place.result c.index-children-place.result d.children d.within d.child_is c.args.node.now c.in-Inner.ensures.is c.args.at (c.args.at - c.total_before-front.result.chars) c.args.added.now c.requires.takes.some (place t e) g.within
+    let more = new_length (breaks_of ts) (height_of ts) ts c.child_at-place.result c.index-children-place.result d.children d.within d.child_is c.args.node.now c.in-Inner.ensures.is c.args.at (c.args.at - c.total_before-front.result.chars) c.args.added.now c.requires.takes.some (place t e) g.within
     ps c.args.to_right g.inside g.outside c.requires.side c.in_ok-middle-in-Inner.ensures.ok (fits t n) in
-    let s = new_siblings (breaks_of ts) (height_of ts) ts c.place_of-place.result c.index-children-place.result d.children d.within d.child_is c.args.node.now c.in-Inner.ensures.is c.args.at (c.args.at - c.total_before-front.result.chars) c.args.added.now c.requires.takes.some (place t e) g.within
+    let s = new_siblings (breaks_of ts) (height_of ts) ts c.child_at-place.result c.index-children-place.result d.children d.within d.child_is c.args.node.now c.in-Inner.ensures.is c.args.at (c.args.at - c.total_before-front.result.chars) c.args.added.now c.requires.takes.some (place t e) g.within
     ps c.args.to_right g.inside g.outside c.requires.side c.in_ok-middle-in-Inner.ensures.ok (fits t n) in
-    rw (c.first-before.ensures.nodes, c.rest-after.ensures.nodes, c.of-row.ensures.nodes) (siblings_of_first (breaks_of ts) (height_of ts) (take c.place_of-place.result ts ++ (ps ++ drop (c.place_of-place.result + 1) ts))
+    rw (c.first-before.ensures.nodes, c.rest-after.ensures.nodes, c.of-row.ensures.nodes) (siblings_of_first (breaks_of ts) (height_of ts) (take c.child_at-place.result ts ++ (ps ++ drop (c.child_at-place.result + 1) ts))
     (omega (arith, more, d.children.at_least_two, c.in_ok-middle-in-Inner.ensures.ok.parts.some)) s)
 
 pub returns-in_ok-middle-in-Inner-clause-ok : goal.returns-in_ok-middle-in-Inner-clause-ok
@@ -105,6 +105,16 @@ returns-in_ok-middle-in-Inner-clause-ok t c =
     let ts = c.in-Inner.children.now in
     let ps = trees_in c.in_ok-middle-in-Inner.middle in
     both_ok c.pack.result _ _ _ (λ nodes leaves shape.
-    new_node (breaks_of ts) (height_of ts) ts c.place_of-place.result c.index-children-place.result d.children d.within d.child_is c.args.node.now c.in-Inner.ensures.is c.args.at (c.args.at - c.total_before-front.result.chars) c.args.added.now c.requires.takes.some (place t e) g.within
+    new_node (breaks_of ts) (height_of ts) ts c.child_at-place.result c.index-children-place.result d.children d.within d.child_is c.args.node.now c.in-Inner.ensures.is c.args.at (c.args.at - c.total_before-front.result.chars) c.args.added.now c.requires.takes.some (place t e) g.within
     ps c.args.to_right g.inside g.outside c.requires.side c.in_ok-middle-in-Inner.ensures.ok (fits t n) (trees_in nodes) (rw (c.first-before.ensures.nodes, c.rest-after.ensures.nodes, c.of-row.ensures.nodes) at leaves) (rw (c.first-before.ensures.nodes, c.rest-after.ensures.nodes, c.of-row.ensures.nodes) at shape))
     c.pack.ensures.leaves c.pack.ensures.shape
+
+pub returns-in_err-middle-in-Inner-clause-searched : goal.returns-in_err-middle-in-Inner-clause-searched
+returns-in_err-middle-in-Inner-clause-searched t c =
+    let h = made_by t (goal.at.returns-in_err-middle-in-Inner-clause-searched t c).After-index-children-place in
+    record { rise = omega (arith, h); nodes = omega (arith, h); compares = omega (arith, h) }
+
+pub returns-in_ok-middle-in-Inner-clause-searched : goal.returns-in_ok-middle-in-Inner-clause-searched
+returns-in_ok-middle-in-Inner-clause-searched t c =
+    let h = made_by t (goal.at.returns-in_ok-middle-in-Inner-clause-searched t c).After-index-children-place in
+    record { rise = omega (arith, h); nodes = omega (arith, h); compares = omega (arith, h) }

@@ -12,7 +12,7 @@ use Rattle.rope_tree.proofs.BuildLaws.{no_chars}
 use Rattle.ropey.proofs.Refusals.{insert_error-none, insert_error-long, inserted_none}
 use Rattle.ropey.proofs.Ropes.{rope_of}
 use Rattle.ropey.proofs.TextsGiven.{passed_on}
-use Rattle.ropey.proofs.rope.Rope.insert_made.Goals as goal
+use Rattle.ropey.proofs.rope.Rope.insert_by.Goals as goal
 
 -- a text that isn't empty has a character
 some_chars : {A : Type 0} (new : List ℕ) → IsUtf8 new → (length new == 0) ≡ false → length (chars new) ≡ 0 → A
@@ -94,3 +94,16 @@ returns-in_err-insert_at-clause-kept c = (search rules, search rules, rope_of c.
 
 pub returns-clause-kept : goal.returns-clause-kept
 returns-clause-kept c = (search rules, search rules, rope_of _ c.in_ok-self-inside.ensures.tree)
+
+-- a text that isn't empty goes into the tree
+pub returns-in_err-insert_at-clause-outside : goal.returns-in_err-insert_at-clause-outside
+returns-in_err-insert_at-clause-outside c = λ none. some_chars c.args.text.now c.utf8.text (sym c.is_empty.ensures ∙ c.if-is_empty.false) none
+
+pub returns-then-text-le-MAX_SHORT_BYTES-clause-outside : goal.returns-then-text-le-MAX_SHORT_BYTES-clause-outside
+returns-then-text-le-MAX_SHORT_BYTES-clause-outside c = λ none. some_chars c.args.text.now c.utf8.text (sym c.is_empty.ensures ∙ c.if-is_empty.false) none
+
+pub returns-in_err-self-inside-clause-outside : goal.returns-in_err-self-inside-clause-outside
+returns-in_err-self-inside-clause-outside c = λ none. some_chars c.args.text.now c.utf8.text (sym c.is_empty.ensures ∙ c.if-is_empty.false) none
+
+pub returns-clause-outside : goal.returns-clause-outside
+returns-clause-outside c = λ none. some_chars c.args.text.now c.utf8.text (sym c.is_empty.ensures ∙ c.if-is_empty.false) none

@@ -1,0 +1,117 @@
+//! What counted edits count in small trees, worked by hand from the shape of the tree: the nodes
+//! entered, the totals compared and the nodes made.
+//!
+//! A rope of 20,000 letters has a list of 21 leaves, 20 of them of 984 bytes. A search of 21
+//! children for the eleventh takes five comparisons. An edit first tries the child of the edit
+//! before, the first one of a fresh list, by two comparisons.
+use rope_plain::failure::Failure;
+use rope_plain::same;
+use rope_plain::texts::{repeated, rope_of};
+use ropey::{LineBreaks, Rope, Steps};
+use std::alloc::Global;
+
+/// Counts as a call may find them: of a call before.
+const LEFT_OVER: Steps = Steps {
+    nodes: 1,
+    compares: 2,
+    made: 3,
+};
+
+fn counts(steps: Steps) -> [u64; 3] {
+    [steps.nodes, steps.compares, steps.made]
+}
+
+/// The root and the leaf are entered. The child is found twice, since its leaf is full, which is
+/// cut in two.
+fn counts_a_cut_leaf(rope: &mut Rope) -> Result<(), Failure> {
+    let mut steps = LEFT_OVER;
+    rope.insert_char_counted(10_000, 'x', &mut steps)?;
+    same!(counts(steps), [3, 12, 1]);
+    Ok(())
+}
+
+#[test]
+fn an_insert_that_cuts_a_leaf_counts_the_new_leaf(rt: HostRuntime) -> Result<(), Failure> {
+    let mut rope = rope_of(rt.alloc(), "a", 20_000)?;
+    counts_a_cut_leaf(&mut rope)
+}
+
+/// The list and the last leaf are copied; two comparisons find the last of 21 children.
+fn counts_copies(rope: &mut Rope) -> Result<(), Failure> {
+    let mut steps = LEFT_OVER;
+    rope.insert_counted(20_000, "x", &mut steps)?;
+    same!(counts(steps), [2, 4, 2]);
+    Ok(())
+}
+
+#[test]
+fn an_insert_beside_a_clone_counts_the_copies(rt: HostRuntime) -> Result<(), Failure> {
+    let rope = rope_of(rt.alloc(), "a", 20_000)?;
+    let mut clone = rope.clone()?;
+    counts_copies(&mut clone)
+}
+
+/// A leaf of 6,500 bytes makes seven, the last of 596 bytes, and a list over them.
+fn counts_a_long_text(alloc: Global, rope: &mut Rope) -> Result<(), Failure> {
+    let text = repeated(alloc, "z", 6_000)?;
+    let mut steps = LEFT_OVER;
+    rope.insert_counted(250, text.as_str(), &mut steps)?;
+    same!(counts(steps), [1, 0, 8]);
+    Ok(())
+}
+
+#[test]
+fn a_long_insert_counts_its_leaves_and_their_list(rt: HostRuntime) -> Result<(), Failure> {
+    let mut rope = rope_of(rt.alloc(), "a", 500)?;
+    counts_a_long_text(rt.alloc(), &mut rope)
+}
+
+fn counts_a_short_removal(rope: &mut Rope) -> Result<(), Failure> {
+    let mut steps = LEFT_OVER;
+    rope.remove_counted(10_000..10_010, &mut steps)?;
+    same!(counts(steps), [2, 7, 0]);
+    Ok(())
+}
+
+#[test]
+fn a_removal_in_place_makes_no_node(rt: HostRuntime) -> Result<(), Failure> {
+    let mut rope = rope_of(rt.alloc(), "a", 20_000)?;
+    counts_a_short_removal(&mut rope)
+}
+
+/// Each side takes a search, a leaf of what the cut leaves of the eleventh, and a list. The append
+/// looks up the last character of 11 leaves by two comparisons, to see whether it is a CR, and puts
+/// all 22 leaves into one list.
+fn counts_a_split_and_its_append(rope: &mut Rope) -> Result<(), Failure> {
+    let mut split = LEFT_OVER;
+    let mut joined = LEFT_OVER;
+    let back = rope.split_off_counted(10_000, &mut split)?;
+    rope.append_counted(back, &mut joined)?;
+    same!([counts(split), counts(joined)], [[3, 10, 4], [3, 2, 1]]);
+    same!([rope.chunks().count(), rope.depth()], [22, 1]);
+    Ok(())
+}
+
+#[test]
+fn a_split_counts_both_sides_and_an_append_its_list(rt: HostRuntime) -> Result<(), Failure> {
+    let mut rope = rope_of(rt.alloc(), "a", 20_000)?;
+    counts_a_split_and_its_append(&mut rope)
+}
+
+/// Calls that enter no node set all counts to 0.
+fn counts_nothing(alloc: Global, rope: &mut Rope) -> Result<(), Failure> {
+    let mut steps = [LEFT_OVER; 3];
+    rope.insert_counted(7, "", &mut steps[0])?;
+    rope.remove_counted(7..7, &mut steps[1])?;
+    let other = Rope::from_str_with(alloc, LineBreaks::Lf, "b")?;
+    let refused = rope.append_counted(other, &mut steps[2]).is_err();
+    same!(refused, true);
+    same!(steps, [Steps::new(); 3]);
+    Ok(())
+}
+
+#[test]
+fn edits_that_have_nothing_to_do_count_nothing(rt: HostRuntime) -> Result<(), Failure> {
+    let mut rope = rope_of(rt.alloc(), "a", 20_000)?;
+    counts_nothing(rt.alloc(), &mut rope)
+}

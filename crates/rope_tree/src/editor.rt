@@ -1,0 +1,109 @@
+//! What an edit works with: the maker of its nodes, and the counts of its searches.
+ghost use Rattle.std.specs.Prelude.{◌≡◌, ◌+◌, ◌-◌, ◌<◌, ◌≤◌, ◌*◌, length, slice_index_or, slice_get, Some};
+ghost use Rattle.rope_text.specs.declared.text_info.TextInfo.{TextInfo};
+ghost use Rattle.rope_text.specs.declared.TheConstants.{MAX_CHILDREN};
+ghost use Rattle.rope_tree.specs.declared.search.Unit.TheVariants.{Char};
+ghost use Rattle.rope_tree.specs.Search.{count_of};
+ghost use Rattle.rope_tree.specs.RunningTotals.{AreSmall};
+ghost use Rattle.rope_tree.specs.Tree.{text, IsTree};
+ghost use Rattle.rope_tree.specs.Searched.{HasSearched};
+
+use crate::{Maker, Node, Totals, Unit, char_at, place_of};
+use rope_text::Steps;
+use std::alloc::Global;
+
+/// Makes the nodes of one edit, and counts the nodes that its searches enter and the totals that
+/// they compare. A search counts the node that it finds; the root counts as entered by whoever
+/// starts the edit.
+#[derive(Clone, Copy)]
+pub struct Editor {
+    pub maker: Maker,
+    pub nodes: u64,
+    pub compares: u64,
+}
+
+impl Editor {
+    /// Creates an editor that has made, entered and compared nothing.
+    pub fn new(alloc: Global) -> Editor
+        ensures made { result.maker.made ≡ 0 }
+        ensures nodes { result.nodes ≡ 0 }
+        ensures compares { result.compares ≡ 0 }
+    {
+        Editor {
+            maker: Maker::new(alloc),
+            nodes: 0,
+            compares: 0,
+        }
+    }
+
+    /// Returns the counts of the edit so far.
+    #[inline(always)]
+    pub fn steps(&self) -> Steps
+        ensures nodes { result.nodes ≡ self.now.nodes }
+        ensures compares { result.compares ≡ self.now.compares }
+        ensures made { result.made ≡ self.now.maker.made }
+    {
+        Steps {
+            nodes: self.nodes,
+            compares: self.compares,
+            made: self.maker.made,
+        }
+    }
+
+    /// Counts one entered node. The counts of an editor stop at the largest number.
+    pub fn enter(&mut self)
+        ensures made { self.new.maker.made ≡ self.old.maker.made }
+        ensures entered { self.old.nodes < 1 → 1 ≤ self.new.nodes }
+        ensures searched { HasSearched 1 0 self.old self.new }
+    {
+        self.nodes = self.nodes.saturating_add(1);
+    }
+
+    /// Counts the steps of a search of its own.
+    pub(crate) fn add(&mut self, steps: Steps)
+        ensures made { self.new.maker.made ≡ self.old.maker.made }
+        ensures searched { HasSearched steps.nodes steps.compares self.old self.new }
+    {
+        self.nodes = self.nodes.saturating_add(steps.nodes);
+        self.compares = self.compares.saturating_add(steps.compares);
+    }
+
+    /// Returns the index of the child that holds the character `at`, and enters that child. Halves
+    /// over the totals, in at most five comparisons.
+    #[inline(always)]
+    pub fn child_at(&mut self, totals: &Totals, at: usize) -> usize
+        requires some { 0 < length totals.now }
+        requires few { length totals.now ≤ MAX_CHILDREN }
+        requires small { AreSmall totals.now }
+        requires last { (d : TextInfo)
+            → at < count_of Char (slice_index_or totals.now (length totals.now - 1) d) }
+        ensures within { result < length totals.now }
+        ensures before { (d : TextInfo) → 0 < result
+            → count_of Char (slice_index_or totals.now (result - 1) d) ≤ at }
+        ensures past { (d : TextInfo)
+            → at < count_of Char (slice_index_or totals.now result d) }
+        ensures made { self.new.maker.made ≡ self.old.maker.made }
+        ensures searched { HasSearched 1 5 self.old self.new }
+    {
+        let mut steps = Steps::new();
+        steps.nodes = 1;
+        let place = place_of(totals, Unit::Char, at, &mut steps);
+        self.add(steps);
+        place
+    }
+
+    /// Returns the character at an index, and counts the lookup.
+    pub fn char_at(&mut self, node: &Node, char_idx: usize) -> char
+        requires tree { IsTree node.now }
+        requires within { char_idx < length (text node.now) }
+        ensures value { slice_get (text node.now) char_idx ≡ Some result }
+        ensures made { self.new.maker.made ≡ self.old.maker.made }
+        ensures searched { HasSearched (node.now.height + 1) (5 * node.now.height)
+            self.old self.new }
+    {
+        let mut steps = Steps::new();
+        let found = char_at(node, char_idx, &mut steps);
+        self.add(steps);
+        found
+    }
+}
