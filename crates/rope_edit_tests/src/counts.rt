@@ -103,7 +103,7 @@ fn counts_nothing(alloc: Global, rope: &mut Rope) -> Result<(), Failure> {
     let mut steps = [LEFT_OVER; 3];
     rope.insert_counted(7, "", &mut steps[0])?;
     rope.remove_counted(7..7, &mut steps[1])?;
-    let other = Rope::from_str_with(alloc, LineBreaks::Lf, "b")?;
+    let other = Rope::from_str_with(alloc, "b", LineBreaks::Lf)?;
     let refused = rope.append_counted(other, &mut steps[2]).is_err();
     same!(refused, true);
     same!(steps, [Steps::new(); 3]);
