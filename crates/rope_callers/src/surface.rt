@@ -6,8 +6,8 @@
 //! type, a clause says which is which, and the prover refuses the two exchanged. Add a caller with
 //! every new public item; change a caller only where the public surface is to change.
 //!
-//! Left out is what `ropey` alone takes from `rope_slice`: `RopeSlice::of_node`, and the variants
-//! of `RopeSlice`.
+//! Left out is what `ropey` alone takes from `rope_slice`: `RopeSlice::of_node` and the variants of
+//! `RopeSlice`.
 //!
 //! Modules:
 //! - `texts`: plain texts, sets of line breaks, sizes, counts of steps, index ranges

@@ -89,7 +89,7 @@ fn texts_are_replied_in_quotes(rt: HostRuntime) -> Result<(), Failure> {
     expect(rt.alloc(), &TEXTS)
 }
 
-const REFUSALS: [(&str, &str); 15] = [
+const REFUSALS: [(&str, &str); 19] = [
     ("text abc", "rope 0"),
     (
         "b2l 0 4",
@@ -120,6 +120,13 @@ const REFUSALS: [(&str, &str); 15] = [
         "l2b 0 2",
         "error: Line index out of bounds: line index 2, Rope/RopeSlice line count 1",
     ),
+    (
+        "ins 0 18446744073709551615 x",
+        "error: Char index out of bounds: char index 18446744073709551615, Rope/RopeSlice char length 3",
+    ),
+    ("len 18446744073709551615", "no rope"),
+    ("del 0 - -", "ok"),
+    ("show 0", "\"\""),
 ];
 
 #[test]
@@ -147,7 +154,7 @@ fn sets_of_line_breaks_are_replied(rt: HostRuntime) -> Result<(), Failure> {
     expect(rt.alloc(), &SETS)
 }
 
-const QUERIES: [(&str, &str); 27] = [
+const QUERIES: [(&str, &str); 30] = [
     ("text \u{e9}\u{1f438}\\r\\nb", "rope 0"),
     ("b2c 0 3", "1"),
     ("b2l 0 8", "1"),
@@ -162,6 +169,7 @@ const QUERIES: [(&str, &str); 27] = [
     ("char 0 5", "none"),
     ("chunk 0 b 8", "\"\u{e9}\u{1f438}\\r\\nb\" 0 0 0"),
     ("chunk 0 c 6", "none"),
+    ("chunk 0 l 3", "none"),
     ("chunk 0:2..4 c 1", "\"\\r\\n\" 0 0 0"),
     ("walk 0 bytes 8 npp", "3 98 98 10"),
     ("walk 0 bytes 10 n", "none"),
@@ -171,6 +179,8 @@ const QUERIES: [(&str, &str); 27] = [
         "walk 0 chunks-b 0 nnp",
         "3 \"\u{e9}\u{1f438}\\r\\nb\" - \"\u{e9}\u{1f438}\\r\\nb\"",
     ),
+    ("walk 0 chunks-b 9 p", "1 \"\u{e9}\u{1f438}\\r\\nb\""),
+    ("walk 0 chunks-c 5 n", "1 -"),
     ("walk 0 chunks-l 2 p", "1 \"\u{e9}\u{1f438}\\r\\nb\""),
     ("walk 0 chunks-l 3 p", "none"),
     ("c2p 0 2", "0 3"),

@@ -1,5 +1,6 @@
 //! Ropes: made, built, measured, compared and given out as texts.
 ghost use Rattle.std.specs.Prelude.{◌≡◌, ◌*◌, ◌-◌, ◌^◌, ◌↔◌, ◌++◌, [], length, min, IfOk, IsOk, IsTrue, OnOk};
+ghost use Rattle.std.specs.Cmp.{IsTotalOrder};
 ghost use Rattle.std.specs.Cow.{cow_str_bytes};
 ghost use Rattle.std.specs.Str.{chars};
 ghost use Rattle.std.specs.String.{string_bytes};
@@ -8,7 +9,7 @@ ghost use Rattle.rope_text.specs.Lines.{line_count};
 ghost use Rattle.rope_text.specs.Text.{byte_len, utf16_len};
 ghost use Rattle.rope_slice.specs.Slice.{text_of};
 
-use ropey::{CowStr, LineBreaks, Result, Rope, RopeBuilder, RopeSlice};
+use ropey::{CowStr, LineBreaks, Result, Rope, RopeBuilder, RopeSlice, laws};
 use std::alloc::{AllocError, Global};
 use std::cmp::Ordering;
 use std::fmt::{Debug, Display};
@@ -219,6 +220,13 @@ pub fn compare(rope: &Rope, other: &Rope, slice: &RopeSlice<'_>) -> (bool, bool,
         is_equal(slice, slice),
         is_less(slice, slice),
     )
+}
+
+/// Holds by the law of comparisons.
+pub fn texts_are_compared()
+    ensures { IsTotalOrder ⟦<Rope as Ord>⟧.cmp }
+{
+    laws::texts_are_compared();
 }
 
 /// Hashes a rope and a slice.
