@@ -1,11 +1,13 @@
 #!/usr/bin/env bash
-# Compares bindings/c/ropey.h with the functions, numbers and structs of crates/ropey_c that it declares.
+# Compares bindings/c/ropey.h with the functions, numbers, structs and version of crates/ropey_c that it declares.
 #
 #     scripts/compare_c_header.sh
 #
 # It needs sed, awk and diff alone. A line is made of each exported function with its parameters in order, of each status and
 # set of line breaks with its number, and of each struct with its fields in order: once from the source, once from the
-# header. The status is 0 where the two lists are the same.
+# header. The version is compared wherever it is written: the number that `ropey_version` returns, the four that the header
+# defines and the one that it begins with, the newest of CHANGELOG.md, and those of README.md and the Rust crate. The status
+# is 0 where the two lists are the same and there is one version.
 set -euo pipefail
 
 top=$(cd "$(dirname "$0")/.." && pwd)
@@ -54,7 +56,26 @@ from_header() {
         on { sub(/^ +/, ""); sub(/ +$/, ""); text = text " " $0 }' "$work/plain" | grep -v '^ropey_\(rope\|builder\):'
 }
 
+# Each place where a version is written, with the version: of the source first, whose number is major * 1000000 + minor * 1000
+# + patch.
+versions() {
+    sed -nE 's/^pub const VERSION: u32 = ([0-9_]+);$/\1/p' "$source/version.rt" | tr -d _ |
+        awk '{ print "crates/ropey_c/src/version.rt: " int($1 / 1000000) "." int($1 / 1000) % 1000 "." $1 % 1000 }'
+    awk '$2 ~ /^ROPEY_VERSION_/ { part[$2] = $3 }
+        END { print "bindings/c/ropey.h, its numbers: " part["ROPEY_VERSION_MAJOR"] "." part["ROPEY_VERSION_MINOR"] "." part["ROPEY_VERSION_PATCH"] }' "$header"
+    sed -nE 's/^#define ROPEY_VERSION "(.*)"$/bindings\/c\/ropey.h, its text: \1/p; 1s/^.*Ropey ([0-9.]+[0-9]).*$/bindings\/c\/ropey.h, its first line: \1/p' "$header"
+    sed -nE 's/^## (.*)$/CHANGELOG.md: \1/p' "$top/CHANGELOG.md" | head -n 1
+    sed -nE 's/^Version ([0-9.]+[0-9])\..*$/README.md: \1/p' "$top/README.md"
+    sed -nE 's/^version = "(.*)"$/bindings\/rust\/Cargo.toml: \1/p' "$top/bindings/rust/Cargo.toml"
+}
+
 from_source | sort > "$work/source"
 from_header | sort > "$work/header"
 diff "$work/source" "$work/header"
-echo "C: $(grep -c '(' "$work/header") functions, $(grep -c ' = ' "$work/header") numbers and $(grep -c ':' "$work/header") structs of the header are those of the source"
+versions > "$work/versions"
+if [ "$(wc -l < "$work/versions")" -ne 7 ] || [ "$(sed 's/.*: //' "$work/versions" | sort -u | wc -l)" -ne 1 ]; then
+    echo 'not one version in seven places:'
+    cat "$work/versions"
+    exit 1
+fi
+echo "C: $(grep -c '(' "$work/header") functions, $(grep -c ' = ' "$work/header") numbers and $(grep -c ':' "$work/header") structs of the header are those of the source, and its version is $(sed -n '1s/.*: //p' "$work/versions") everywhere"
