@@ -24,7 +24,9 @@
  * Refusals. A call answers ROPEY_OK, or the first reason for which it was refused, in the order in which its comment gives
  * them. No index, text or number can make a call do anything else, but for the two calls whose names end in _unchecked. A
  * refused call leaves every rope as it was and writes nothing, but where its comment says so. A call on a handle that holds no
- * rope answers ROPEY_NO_ROPE_HELD.
+ * rope answers ROPEY_NO_ROPE_HELD. A call with nothing to change takes no memory, and never answers ROPEY_OUT_OF_MEMORY: an
+ * insert of an empty text, a removal of an empty range, a replacement of an empty range by an empty text, an append of or to an
+ * empty rope, a shrink of an empty rope, an append of no bytes to a builder.
  *
  * Edits are the calls that take a `ropey_rope *` which holds a rope; look-ups are those that take a `const ropey_rope *`.
  * A look-up changes nothing, and gives pointers into the rope's memory. They are good until the handle is passed to an

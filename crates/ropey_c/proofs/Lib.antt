@@ -10,3 +10,4 @@ pub mod Handles
 pub mod Lents
 pub mod Parts
 pub mod Showing
+pub mod Idle

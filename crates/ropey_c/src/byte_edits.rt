@@ -1,11 +1,11 @@
 //! Ropes that are changed at places counted in bytes. Each call finds its characters first, and
 //! takes no memory for it.
-ghost use Rattle.std.specs.Prelude.{◌≡◌, ◌<◌, ◌≤◌, length, Some, None, IfErr, IfOk};
+ghost use Rattle.std.specs.Prelude.{◌≡◌, ◌<◌, ◌≤◌, [], length, Some, None, IfErr, IfOk};
 ghost use Rattle.std.specs.Str.{chars};
 ghost use Rattle.rope_text.specs.Conversions.{byte_to_char};
 ghost use Rattle.rope_text.specs.Edit.{inserted, removed, byte_range_error};
 ghost use Rattle.ropey.specs.View.{IsRope};
-ghost use Rattle.ropey_c.specs.Answers.{Changes};
+ghost use Rattle.ropey_c.specs.Answers.{Changes, Keeps};
 ghost use Rattle.ropey_c.specs.ByteEdits.{byte_place_error, byte_insert_error};
 ghost use Rattle.ropey_c.specs.Handles.{HoldsRope};
 ghost use Rattle.ropey_c.specs.Status.{IsStatus, IsTextStatus};
@@ -54,6 +54,8 @@ fn insert_at_byte(rope: &mut Rope, byte_idx: usize, text: &[u8]) -> u32
         → rope.new.text
         ≡ inserted rope.old.text (byte_to_char rope.old.text byte_idx) (chars text.now) }
     ensures err { 0 < result → rope.new ≡ rope.old }
+    ensures empty { length text.now ≡ 0 → byte_insert_error rope.old.text byte_idx [] ≡ None
+        → (result ≡ OK) × (rope.new ≡ rope.old) }
     ensures breaks { rope.new.breaks ≡ rope.old.breaks }
     ensures kept { IsRope rope.old → IsRope rope.new }
 {
@@ -67,7 +69,9 @@ fn insert_at_byte(rope: &mut Rope, byte_idx: usize, text: &[u8]) -> u32
 }
 
 /// Inserts the text before the byte `byte_idx`, counted from 0; for the number of bytes, at the
-/// end. No text of the rope is walked.
+/// end.
+///
+/// An empty text takes no memory. No text of the rope is walked.
 ///
 /// # Errors
 ///
@@ -85,6 +89,9 @@ pub extern "C" fn ropey_insert_at_byte(
         (λ old. IsTextStatus text.now (byte_insert_error old.text byte_idx (chars text.now)) result)
         (λ old new. (new.text ≡ inserted old.text (byte_to_char old.text byte_idx) (chars text.now))
         × (new.breaks ≡ old.breaks)) }
+    ensures empty { length text.now ≡ 0
+        → Keeps rope.old.rope rope.new.rope result
+        (λ old. byte_insert_error old.text byte_idx [] ≡ None) }
     ensures kept { HoldsRope rope.new.rope }
 {
     let Some(mut held) = rope.take(alloc) else {
@@ -102,6 +109,8 @@ fn remove_bytes(rope: &mut Rope, start: usize, end: usize) -> u32
         ≡ removed rope.old.text (byte_to_char rope.old.text start)
         (byte_to_char rope.old.text end) }
     ensures err { 0 < result → rope.new ≡ rope.old }
+    ensures empty { start ≡ end → byte_range_error rope.old.text (Some start) (Some end) ≡ None
+        → (result ≡ OK) × (rope.new ≡ rope.old) }
     ensures breaks { rope.new.breaks ≡ rope.old.breaks }
     ensures kept { IsRope rope.old → IsRope rope.new }
 {
@@ -111,7 +120,8 @@ fn remove_bytes(rope: &mut Rope, start: usize, end: usize) -> u32
     }
 }
 
-/// Takes the bytes from `start` up to `end` out, counted from 0. No text is walked.
+/// Takes the bytes from `start` up to `end` out, counted from 0. An empty range takes no memory and
+/// changes nothing. No text is walked.
 ///
 /// # Errors
 ///
@@ -129,6 +139,9 @@ pub extern "C" fn ropey_remove_bytes(
         (λ old new. (new.text
         ≡ removed old.text (byte_to_char old.text start) (byte_to_char old.text end))
         × (new.breaks ≡ old.breaks)) }
+    ensures empty { start ≡ end
+        → Keeps rope.old.rope rope.new.rope result
+        (λ old. byte_range_error old.text (Some start) (Some end) ≡ None) }
     ensures kept { HoldsRope rope.new.rope }
 {
     let Some(mut held) = rope.take(alloc) else {

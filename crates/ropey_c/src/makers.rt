@@ -1,12 +1,12 @@
 //! Ropes that are made, cloned and freed.
-ghost use Rattle.std.specs.Prelude.{◌≡◌, ◌<◌, ◌⊎◌, [], None, Some, IfSome, IsSomeAnd, MatchOption, MatchResult};
+ghost use Rattle.std.specs.Prelude.{◌≡◌, ◌<◌, ◌⊎◌, [], length, None, Some, IfSome, IsSomeAnd, MatchOption, MatchResult};
 ghost use Rattle.std.specs.Str.{IsUtf8, chars};
 ghost use Rattle.rope_text.specs.declared.error.Error.TheVariants.{OutOfMemory};
 ghost use Rattle.rope_slice.specs.Slice.{text_of, breaks_of};
 ghost use Rattle.ropey.specs.View.{HasFewChunks, IsBuilt, IsRope};
 ghost use Rattle.ropey_c.specs.Handles.{HoldsRope};
 ghost use Rattle.ropey_c.specs.Status.{given_breaks, IsStatus, IsTextStatus, IsMakerStatus};
-ghost use Rattle.ropey_c.specs.Answers.{Changes, IsBuiltWith, ClonesChars};
+ghost use Rattle.ropey_c.specs.Answers.{Changes, Keeps, IsBuiltWith, ClonesChars};
 
 use crate::handle::Handle;
 use crate::lent::Lent;
@@ -207,7 +207,7 @@ pub extern "C" fn ropey_clone_chars(
 }
 
 /// Cuts the text into as few chunks as `ropey_from_text` does. Takes time and memory in proportion
-/// to the text.
+/// to the text: none for an empty rope.
 ///
 /// # Errors
 ///
@@ -216,11 +216,16 @@ pub extern "C" fn ropey_clone_chars(
 pub extern "C" fn ropey_shrink_to_fit(alloc: Global, rope: &mut Handle) -> u32
     ensures changes { Changes rope.old.rope rope.new.rope result (λ _. IsStatus None result)
         (λ old new. (new.text ≡ old.text) × (new.breaks ≡ old.breaks) × HasFewChunks new) }
+    ensures empty { Keeps rope.old.rope rope.new.rope result (λ old. length old.text ≡ 0) }
     ensures kept { HoldsRope rope.new.rope }
 {
     let Some(mut held) = rope.take(alloc) else {
         return NO_ROPE_HELD;
     };
+    if held.len_chars() == 0 {
+        rope.put(held);
+        return OK;
+    }
     let status = status(held.shrink_to_fit());
     rope.put(held);
     status

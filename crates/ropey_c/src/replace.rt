@@ -1,23 +1,23 @@
 //! Parts of a rope's text that are replaced by another: the whole of it is done, or nothing.
-ghost use Rattle.std.specs.Prelude.{◌≡◌, ◌<◌, ◌≤◌, ◌^◌, length, Some, None, IfErr, IfOk};
+ghost use Rattle.std.specs.Prelude.{◌≡◌, ◌<◌, ◌≤◌, ◌^◌, [], length, Some, None, IfSome};
 ghost use Rattle.std.specs.Bool.{MatchBool};
 ghost use Rattle.std.specs.Str.{chars};
 ghost use Rattle.rope_text.specs.declared.error.Error.TheVariants.{TooLong};
 ghost use Rattle.rope_text.specs.Conversions.{byte_to_char};
-ghost use Rattle.rope_text.specs.Edit.{IsRefusal, removed};
+ghost use Rattle.rope_text.specs.Edit.{removed};
 ghost use Rattle.rope_text.specs.Text.{byte_len};
 ghost use Rattle.ropey.specs.View.{IsRope};
-ghost use Rattle.ropey_c.specs.Answers.{Changes};
+ghost use Rattle.ropey_c.specs.Answers.{Changes, Keeps};
 ghost use Rattle.ropey_c.specs.ByteEdits.{replaced, replaced_size_error, replace_error, byte_replace_error};
 ghost use Rattle.ropey_c.specs.Handles.{HoldsRope};
 ghost use Rattle.ropey_c.specs.Status.{IsStatus, IsTextStatus};
 
 use crate::byte_edits::chars_of_bytes;
 use crate::handle::Handle;
-use crate::status::{INVALID_UTF8, NO_ROPE_HELD, OK, status_of};
+use crate::status::{INVALID_UTF8, NO_ROPE_HELD, OK, OUT_OF_MEMORY, TOO_LONG, status_of};
 use rope_text::range::char_bounds;
 use rope_text::{MAX_TEXT_BYTES, utf8};
-use ropey::{Error, Result, Rope};
+use ropey::Rope;
 use std::alloc::Global;
 
 // The bytes that stay without the characters of a range.
@@ -43,29 +43,24 @@ fn has_room(rope: &Rope, start: usize, end: usize, text: &str) -> bool
 
 // The rope with another text in the place of a range. It is made beside the old one, which shares
 // what stays.
-fn replaced(rope: &Rope, start: usize, end: usize, text: &str) -> Result<Rope>
+fn replaced(rope: &Rope, start: usize, end: usize, text: &str) -> Option<Rope>
     requires ordered { start ≤ end }
     requires within { end ≤ length rope.now.text }
-    ensures ok { IfOk result
-        (λ made. (replaced_size_error rope.now.text start end (chars text.now) ≡ None)
-        × (made.text ≡ replaced rope.now.text start end (chars text.now))
+    ensures { IfSome result
+        (λ made. (made.text ≡ replaced rope.now.text start end (chars text.now))
         × (made.breaks ≡ rope.now.breaks) × IsRope made) }
-    ensures err { IfErr result
-        (IsRefusal (replaced_size_error rope.now.text start end (chars text.now))) }
 {
-    if !has_room(rope, start, end, text) {
-        return Err(Error::TooLong);
-    }
     let Ok(mut made) = rope.clone() else {
-        return Err(Error::OutOfMemory);
+        return None;
     };
     if made.remove(start..end).is_err() || made.insert(start, text).is_err() {
-        return Err(Error::OutOfMemory);
+        return None;
     }
-    Ok(made)
+    Some(made)
 }
 
-// Puts the made rope in the place of the old one.
+// Puts the made rope in the place of the old one. Makes none where there is nothing to replace and
+// nothing to insert.
 fn exchange(rope: &mut Rope, start: usize, end: usize, text: &str) -> u32
     requires ordered { start ≤ end }
     requires within { end ≤ length rope.old.text }
@@ -73,15 +68,24 @@ fn exchange(rope: &mut Rope, start: usize, end: usize, text: &str) -> u32
         result }
     ensures ok { result ≡ OK → rope.new.text ≡ replaced rope.old.text start end (chars text.now) }
     ensures err { 0 < result → rope.new ≡ rope.old }
+    ensures empty { start ≡ end → length text.now ≡ 0
+        → replaced_size_error rope.old.text start end [] ≡ None
+        → (result ≡ OK) × (rope.new ≡ rope.old) }
     ensures breaks { rope.new.breaks ≡ rope.old.breaks }
     ensures kept { IsRope rope.old → IsRope rope.new }
 {
+    if !has_room(rope, start, end, text) {
+        return TOO_LONG;
+    }
+    if start == end && text.is_empty() {
+        return OK;
+    }
     match replaced(rope, start, end, text) {
-        Ok(made) => {
+        Some(made) => {
             *rope = made;
             OK
         }
-        Err(error) => status_of(error),
+        None => OUT_OF_MEMORY,
     }
 }
 
@@ -90,6 +94,9 @@ fn replace_chars(rope: &mut Rope, start: usize, end: usize, text: &[u8]) -> u32
         result }
     ensures ok { result ≡ OK → rope.new.text ≡ replaced rope.old.text start end (chars text.now) }
     ensures err { 0 < result → rope.new ≡ rope.old }
+    ensures empty { start ≡ end → length text.now ≡ 0
+        → replace_error rope.old.text start end [] ≡ None
+        → (result ≡ OK) × (rope.new ≡ rope.old) }
     ensures breaks { rope.new.breaks ≡ rope.old.breaks }
     ensures kept { IsRope rope.old → IsRope rope.new }
 {
@@ -102,8 +109,10 @@ fn replace_chars(rope: &mut Rope, start: usize, end: usize, text: &[u8]) -> u32
     }
 }
 
-/// Puts the text in the place of the characters from `start` up to `end`, counted from 0. No text
-/// of the rope is walked.
+/// Puts the text in the place of the characters from `start` up to `end`, counted from 0.
+///
+/// An empty text in the place of an empty range takes no memory and changes nothing. No text of the
+/// rope is walked.
 ///
 /// # Errors
 ///
@@ -122,6 +131,9 @@ pub extern "C" fn ropey_replace(
         (λ old. IsTextStatus text.now (replace_error old.text start end (chars text.now)) result)
         (λ old new. (new.text ≡ replaced old.text start end (chars text.now))
         × (new.breaks ≡ old.breaks)) }
+    ensures empty { start ≡ end → length text.now ≡ 0
+        → Keeps rope.old.rope rope.new.rope result
+        (λ old. replace_error old.text start end [] ≡ None) }
     ensures kept { HoldsRope rope.new.rope }
 {
     let Some(mut held) = rope.take(alloc) else {
@@ -140,6 +152,9 @@ fn replace_bytes(rope: &mut Rope, start: usize, end: usize, text: &[u8]) -> u32
         ≡ replaced rope.old.text (byte_to_char rope.old.text start)
         (byte_to_char rope.old.text end) (chars text.now) }
     ensures err { 0 < result → rope.new ≡ rope.old }
+    ensures empty { start ≡ end → length text.now ≡ 0
+        → byte_replace_error rope.old.text start end [] ≡ None
+        → (result ≡ OK) × (rope.new ≡ rope.old) }
     ensures breaks { rope.new.breaks ≡ rope.old.breaks }
     ensures kept { IsRope rope.old → IsRope rope.new }
 {
@@ -152,7 +167,9 @@ fn replace_bytes(rope: &mut Rope, start: usize, end: usize, text: &[u8]) -> u32
     }
 }
 
-/// Puts the text in the place of the bytes from `start` up to `end`, counted from 0. No text of the
+/// Puts the text in the place of the bytes from `start` up to `end`, counted from 0.
+///
+/// An empty text in the place of an empty range takes no memory and changes nothing. No text of the
 /// rope is walked.
 ///
 /// # Errors
@@ -175,6 +192,9 @@ pub extern "C" fn ropey_replace_bytes(
         ≡ replaced old.text (byte_to_char old.text start) (byte_to_char old.text end)
         (chars text.now))
         × (new.breaks ≡ old.breaks)) }
+    ensures empty { start ≡ end → length text.now ≡ 0
+        → Keeps rope.old.rope rope.new.rope result
+        (λ old. byte_replace_error old.text start end [] ≡ None) }
     ensures kept { HoldsRope rope.new.rope }
 {
     let Some(mut held) = rope.take(alloc) else {
