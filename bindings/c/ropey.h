@@ -368,14 +368,14 @@ ropey_status ropey_equals_text(const ropey_rope *rope, const uint8_t *text, size
 ropey_status ropey_builder_new(uint32_t break_set, ropey_builder *builder);
 
 /* Gives the builder the bytes that follow. They may end inside a character, which the next bytes go on with.
- * Refused: NO_BUILDER_HELD, INVALID_UTF8 once four bytes follow that are no text, which writes to valid how many bytes of all
- * that was given are text, TOO_LONG, OUT_OF_MEMORY, which may come before the two others. After a refusal every later call is
- * refused for the same reason. */
+ * Refused: NO_BUILDER_HELD, what an earlier append was refused for, which leaves valid as it was, INVALID_UTF8 once four bytes
+ * follow that are no text, which writes to valid how many bytes of all that was given are text, TOO_LONG, OUT_OF_MEMORY. After
+ * a refusal every later call is refused for the same reason. */
 ropey_status ropey_builder_append(ropey_builder *builder, const uint8_t *bytes, size_t len, size_t *valid);
 
 /* Makes the rope, with as few chunks as ropey_from_text. Afterwards the handle holds no builder, refused or not.
- * Refused: NO_BUILDER_HELD, what an append was refused for, INVALID_UTF8 where bytes are left that are no text, which writes
- * to valid how many are, OUT_OF_MEMORY. */
+ * Refused: NO_BUILDER_HELD, what an append was refused for, which leaves valid as it was, INVALID_UTF8 where bytes are left
+ * that are no text, which writes to valid how many are, OUT_OF_MEMORY. */
 ropey_status ropey_builder_finish(ropey_builder *builder, ropey_rope *rope, size_t *valid);
 
 /* Frees the builder, if there is one. Afterwards the handle holds none. */

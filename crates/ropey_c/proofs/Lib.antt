@@ -10,4 +10,6 @@ pub mod Handles
 pub mod Lents
 pub mod Parts
 pub mod Showing
+pub mod Pending
 pub mod Idle
+pub mod Takings

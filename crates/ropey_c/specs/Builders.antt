@@ -35,7 +35,7 @@ TakesAt (Some old) new bytes status valid_old valid_new = IsSomeAnd new (λ taki
 
 -- the rope of all that was given, or why there is none
 pub record FinishesWith (old : Taking) (status valid_old valid_new : ℕ) (rope_old rope_new : Option RopeView) : Type 0 where
-  pub earlier : old.refused ≢ OK → status ≡ old.refused
+  pub earlier : old.refused ≢ OK → (status ≡ old.refused) × (valid_new ≡ valid_old)
   pub faulty : old.refused ≡ OK → 0 < length old.rest → (status ≡ INVALID_UTF8) × (valid_new ≡ byte_len old.text)
   pub fine : old.refused ≡ OK → length old.rest ≡ 0 → IsStatus None status
   pub ok : status ≡ OK → (old.refused ≡ OK) × (old.rest ≡ []) × IsSomeAnd rope_new (λ rope. (rope.text ≡ old.text) × IsBuilt old.breaks rope)

@@ -41,14 +41,14 @@ pub extern "C" fn ropey_builder_new(
 /// Gives the builder the bytes that follow. They may end inside a character, which the next bytes
 /// go on with.
 ///
-/// Takes time and memory in proportion to the bytes.
+/// Takes time and memory in proportion to the bytes. No bytes take no memory.
 ///
 /// # Errors
 ///
-/// `NO_BUILDER_HELD`; else `INVALID_UTF8`, where four or more of the bytes are left behind what is
-/// text, which writes to `valid` how many bytes of all that was given are text; else `TOO_LONG`.
-/// `OUT_OF_MEMORY` may come at any time. After a refusal every later call is refused for the same
-/// reason.
+/// `NO_BUILDER_HELD`; then what an earlier append was refused for; then `INVALID_UTF8`, where four
+/// or more of the bytes are left behind what is text, which writes to `valid` how many bytes of all
+/// that was given are text; then `TOO_LONG`, then `OUT_OF_MEMORY`. After a refusal every later call
+/// is refused for the same reason, and leaves `valid` as it was.
 #[unsafe(no_mangle)]
 pub extern "C" fn ropey_builder_append(
     alloc: Global,
@@ -61,7 +61,7 @@ pub extern "C" fn ropey_builder_append(
     let Some(mut held) = builder.take(alloc) else {
         return NO_BUILDER_HELD;
     };
-    let status = held.append(alloc, bytes, valid);
+    let status = held.append(bytes, valid);
     builder.put(held);
     status
 }
@@ -73,7 +73,8 @@ pub extern "C" fn ropey_builder_append(
 ///
 /// `NO_BUILDER_HELD`; then what an append was refused for; then `INVALID_UTF8`, where the bytes end
 /// behind what is text, which writes to `valid` how many bytes are; then `OUT_OF_MEMORY`. A refused
-/// call leaves `rope` as it was.
+/// call leaves `rope` as it was. Only the `INVALID_UTF8` of this call writes to `valid`: one of an
+/// earlier append leaves it as it was.
 #[unsafe(no_mangle)]
 pub extern "C" fn ropey_builder_finish(
     alloc: Global,

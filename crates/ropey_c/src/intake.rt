@@ -1,15 +1,17 @@
 //! Bytes that come in parts, cut anywhere, of which a rope is made.
-ghost use Rattle.std.specs.Prelude.{◌≡◌, ◌≢◌, ◌+◌, ◌<◌, ◌≤◌, ◌^◌, ◌++◌, List, length, take, None, IfSome, Result, IfOk, IfErr};
+ghost use Rattle.std.specs.Prelude.{◌≡◌, ◌≢◌, ◌+◌, ◌-◌, ◌<◌, ◌≤◌, ◌++◌, length, take, Some, None, IfOk, OnOk};
+ghost use Rattle.std.specs.Bool.{MatchBool};
 ghost use Rattle.std.specs.Str.{chars};
 ghost use Rattle.std.specs.Str.Lossy.{utf8_valid_len};
+ghost use Rattle.rope_text.specs.declared.error.Error.TheVariants.{TooLong};
 ghost use Rattle.rope_text.specs.Edit.{size_error};
 ghost use Rattle.rope_text.specs.Read.{text_front, text_rest};
 ghost use Rattle.rope_text.specs.Text.{byte_len};
 ghost use Rattle.ropey_c.specs.Intake.{nothing_taken, Takes, Finishes};
 ghost use Rattle.ropey_c.specs.Status.{IsStatus};
 
-use crate::status::{INVALID_UTF8, OK, OUT_OF_MEMORY, status_of};
-use rope_text::{LineBreaks, utf8};
+use crate::status::{INVALID_UTF8, OK, OUT_OF_MEMORY, TOO_LONG, status_of};
+use rope_text::{LineBreaks, MAX_TEXT_BYTES, utf8};
 use ropey::{Result, Rope, RopeBuilder};
 use std::alloc::Global;
 use std::marker::Model;
@@ -40,16 +42,18 @@ impl Model for Intake {
       refused = i.refused;
     } };
 
-    ghost invariant = { λ i. IsIntake i.texts i.taken i.rest_len i.refused };
+    ghost invariant = { λ i. IsIntake i.texts i.taken i.rest i.rest_len i.refused };
 }
 
-// Bytes behind others, copied.
-fn joined(alloc: Global, front: &[u8], back: &[u8]) -> Option<Vec<u8>>
-    ensures { IfSome result (λ all. all.items ≡ front.now ++ back.now) }
+// Adds two texts to a builder.
+fn append_both(texts: &mut RopeBuilder, first: &str, second: &str) -> Result<()>
+    ensures ok { OnOk result
+        ((texts.new.text ≡ texts.old.text ++ chars first.now ++ chars second.now)
+        × (texts.new.failed ≡ None)) }
+    ensures breaks { texts.new.breaks ≡ texts.old.breaks }
 {
-    let mut all = Vec::from_slice(alloc, front).ok()?;
-    all.extend_from_slice(back).ok()?;
-    Some(all)
+    texts.append(first)?;
+    texts.append(second)
 }
 
 impl Intake {
@@ -75,59 +79,97 @@ impl Intake {
         status
     }
 
-    // Takes bytes where none wait.
-    fn settle(&mut self, all: &[u8], valid: &mut usize) -> u32
-        requires { self.old.refused ≡ OK }
-        ensures faulty { 4 ≤ length (text_rest all.now) → result ≡ INVALID_UTF8 }
-        ensures fine { length (text_rest all.now) < 4
-            → IsStatus (size_error (byte_len self.old.text + length (text_front all.now))) result }
+    // Whether the text may grow by a number of bytes.
+    fn has_room(&self, len: usize) -> bool
+        requires { self.now.refused ≡ OK }
+        ensures { MatchBool result (size_error (byte_len self.now.text + len) ≡ None)
+            (size_error (byte_len self.now.text + len) ≡ Some TooLong) }
+    {
+        len <= MAX_TEXT_BYTES - self.taken
+    }
+
+    // Takes a text, and bytes behind it, of which the text must be as long as a character at the
+    // most. What is wrong with them is found before memory is taken.
+    fn settle(&mut self, text: &str, bytes: &[u8], valid: &mut usize) -> u32
+        requires open { self.old.refused ≡ OK }
+        requires short { length text.now ≤ 4 }
+        ensures faulty { 4 ≤ length (text_rest bytes.now) → result ≡ INVALID_UTF8 }
+        ensures fine { length (text_rest bytes.now) < 4 → IsStatus (size_error
+            (byte_len self.old.text + (length text.now + length (text_front bytes.now)))) result }
         ensures place { result ≡ INVALID_UTF8
-            → valid.new ≡ byte_len self.old.text + utf8_valid_len all.now }
+            → valid.new ≡ byte_len self.old.text + (length text.now + utf8_valid_len bytes.now) }
         ensures kept { result ≢ INVALID_UTF8 → valid.new ≡ valid.old }
         ensures taken { result ≡ OK
-            → (self.new.text ≡ self.old.text ++ chars (text_front all.now))
-            × (self.new.rest ≡ text_rest all.now) }
+            → (self.new.text ≡ self.old.text ++ chars text.now ++ chars (text_front bytes.now))
+            × (self.new.rest ≡ text_rest bytes.now) }
         ensures refused { self.new.refused ≡ result }
         ensures breaks { self.new.breaks ≡ self.old.breaks }
     {
-        let text = utf8::front(all);
-        let left = &all[text.len()..];
+        let front = utf8::front(bytes);
+        let left = &bytes[front.len()..];
+        let len = text.len() + front.len();
         if left.len() > 3 {
-            *valid = self.taken + text.len();
+            *valid = self.taken + len;
             return self.refuse(INVALID_UTF8);
         }
-        if let Err(error) = self.texts.append(text) {
-            self.refused = status_of(error);
-            return self.refused;
+        if !self.has_room(len) {
+            return self.refuse(TOO_LONG);
         }
-        self.taken += text.len();
+        let Ok(()) = append_both(&mut self.texts, text, front) else {
+            self.refused = OUT_OF_MEMORY;
+            return OUT_OF_MEMORY;
+        };
+        self.taken += len;
         self.rest[..left.len()].copy_from_slice(left);
         self.rest_len = left.len();
         OK
     }
 
-    // Takes bytes behind those that wait.
-    fn join(&mut self, alloc: Global, bytes: &[u8], valid: &mut usize) -> u32
-        requires { self.old.refused ≡ OK }
+    // The bytes that wait and those that follow, up to four, and how many they are.
+    fn four(&self, bytes: &[u8]) -> ([u8; 4], usize)
+        ensures within { result.1 ≤ 4 }
+        ensures waiting { length self.now.rest ≤ 3 }
+        ensures no_text { utf8_valid_len self.now.rest ≡ 0 }
+        ensures bytes { take result.1 result.0
+            ≡ self.now.rest ++ take (4 - length self.now.rest) bytes.now }
+    {
+        let more = bytes.len().min(4 - self.rest_len);
+        let len = self.rest_len + more;
+        let mut four = [0; 4];
+        four[..self.rest_len].copy_from_slice(&self.rest[..self.rest_len]);
+        four[self.rest_len..len].copy_from_slice(&bytes[..more]);
+        (four, len)
+    }
+
+    // Takes bytes behind those that wait. Four bytes show whether these begin a character.
+    fn join(&mut self, bytes: &[u8], valid: &mut usize) -> u32
+        requires open { self.old.refused ≡ OK }
+        requires some { 0 < length bytes.now }
         ensures { Takes self.old bytes.now result valid.old valid.new self.new }
     {
-        match joined(alloc, &self.rest[..self.rest_len], bytes) {
-            Some(all) => self.settle(&all, valid),
-            None => self.refuse(OUT_OF_MEMORY),
+        let (four, len) = self.four(bytes);
+        let head = &four[..len];
+        let first = utf8::front(head);
+        if first.is_empty() {
+            return self.settle("", head, valid);
         }
+        self.settle(first, &bytes[first.len() - self.rest_len..], valid)
     }
 
     // Takes the bytes that follow, and writes where the first is that can't be text.
-    pub(crate) fn append(&mut self, alloc: Global, bytes: &[u8], valid: &mut usize) -> u32
+    pub(crate) fn append(&mut self, bytes: &[u8], valid: &mut usize) -> u32
         ensures { Takes self.old bytes.now result valid.old valid.new self.new }
     {
         if self.refused != OK {
             return self.refused;
         }
-        if self.rest_len > 0 {
-            return self.join(alloc, bytes, valid);
+        if bytes.is_empty() {
+            return OK;
         }
-        self.settle(bytes, valid)
+        if self.rest_len > 0 {
+            return self.join(bytes, valid);
+        }
+        self.settle("", bytes, valid)
     }
 
     // The rope of all that was taken.
