@@ -56,13 +56,27 @@ echo 'C: the checksums of rope_bench'
 "$work/differential" "$calls" 1
 "$cc" $strict -O2 "$here/look_ups_write_nothing.c" "$library" $refusals -Wl,--wrap=free -o "$work/look_ups"
 "$work/look_ups"
+
+# Every block is given back; and each call that is made to forget what it was to free is found out.
+given_back="$here/leaks.c $library $refusals -Wl,--wrap=free"
+"$cc" $strict -O2 $given_back -o "$work/leaks"
+"$work/leaks"
+for call in $("$work/leaks" --calls); do
+    if "$work/leaks" "$call" 2> /dev/null; then
+        echo "C: no test sees that $call frees nothing"
+        exit 1
+    fi
+done
+
 # A program that does nothing shows whether the address checker, and its leak finder, work here.
 checker="-g -O1 -fsanitize=address,undefined"
 echo 'int main(void) { return 0; }' > "$work/nothing.c"
 if "$cc" $checker "$work/nothing.c" -o "$work/nothing" 2> /dev/null && "$work/nothing" 2> /dev/null; then
     "$cc" $strict $checker "$here/differential.c" "$library" $refusals -o "$work/checked"
     "$work/checked" "$calls" 2
-    echo 'C: the same under the address checker'
+    "$cc" $strict $checker $given_back -o "$work/checked_leaks"
+    "$work/checked_leaks" > /dev/null
+    echo 'C: the same under the address checker and its leak finder'
 else
     echo 'C: not run under the address checker, which does not work here'
 fi

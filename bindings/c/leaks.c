@@ -1,0 +1,204 @@
+/* The library gives back every block that it takes: ropey_free and ropey_builder_free free what the handle holds, a call that
+ * makes a rope or a builder frees what its handle held, and a refused call keeps nothing.
+ *
+ *     leaks          # runs each case, and runs it again with each of its allocations refused in turn
+ *     leaks CALL     # the same, where CALL forgets what it was to free: has to fail
+ *     leaks --calls  # lists the calls that can be made to forget
+ *
+ * No contract says that memory is given back. So the prover lets these mutants through, and this test alone refuses them:
+ *   - `drop` of the rope, or of the builder, left out of ropey_free and of ropey_builder_free;
+ *   - `drop` of what was replaced left out of `put` (handle.rt, builder_handle.rt), which every call that makes a rope or a
+ *     builder ends with.
+ *
+ * The program counts the blocks that are taken and not given back: it is linked with --wrap=malloc, --wrap=realloc and
+ * --wrap=free. */
+#include "ropey.h"
+#include <stdio.h>
+#include <stdlib.h>
+#include <string.h>
+
+void *__real_malloc(size_t size);
+void *__real_realloc(void *block, size_t size);
+void __real_free(void *block);
+
+static long blocks = 0, refuse_at = -1;
+static bool refused = false;
+
+static bool is_refused(void) {
+    if (refuse_at < 0 || refuse_at-- != 0) {
+        return false;
+    }
+    refused = true;
+    return true;
+}
+
+void *__wrap_malloc(size_t size) {
+    void *block = is_refused() ? NULL : __real_malloc(size);
+    blocks += block != NULL;
+    return block;
+}
+
+void *__wrap_realloc(void *block, size_t size) {
+    void *moved = is_refused() ? NULL : __real_realloc(block, size);
+    blocks += block == NULL && moved != NULL;
+    return moved;
+}
+
+void __wrap_free(void *block) {
+    blocks -= block != NULL;
+    __real_free(block);
+}
+
+/* The call that forgets, and how it does: its handle is empty before it runs. */
+static const char *forgetful = "";
+
+static void forget(const char *call, void **held) {
+    if (strcmp(call, forgetful) == 0) {
+        *held = NULL;
+    }
+}
+
+static const char *const calls[] = {"ropey_free", "ropey_from_text", "ropey_from_text_unchecked", "ropey_clone", "ropey_clone_chars",
+    "ropey_split_off", "ropey_builder_new", "ropey_builder_finish", "ropey_builder_free"};
+
+#define ropey_free(rope) (forget("ropey_free", &(rope)->ptr), ropey_free(rope))
+#define ropey_from_text(text, len, set, rope) (forget("ropey_from_text", &(rope)->ptr), ropey_from_text(text, len, set, rope))
+#define ropey_from_text_unchecked(text, len, set, rope) \
+    (forget("ropey_from_text_unchecked", &(rope)->ptr), ropey_from_text_unchecked(text, len, set, rope))
+#define ropey_clone(rope, copy) (forget("ropey_clone", &(copy)->ptr), ropey_clone(rope, copy))
+#define ropey_clone_chars(rope, start, end, copy) (forget("ropey_clone_chars", &(copy)->ptr), ropey_clone_chars(rope, start, end, copy))
+#define ropey_split_off(rope, char_idx, tail) (forget("ropey_split_off", &(tail)->ptr), ropey_split_off(rope, char_idx, tail))
+#define ropey_builder_new(set, builder) (forget("ropey_builder_new", &(builder)->ptr), ropey_builder_new(set, builder))
+#define ropey_builder_finish(builder, rope, valid) (forget("ropey_builder_finish", &(rope)->ptr), ropey_builder_finish(builder, rope, valid))
+#define ropey_builder_free(builder) (forget("ropey_builder_free", &(builder)->ptr), ropey_builder_free(builder))
+
+/* What the cases work on. Each case leaves what it likes in them. */
+static ropey_rope rope = ROPEY_NO_ROPE, other = ROPEY_NO_ROPE;
+static ropey_builder builder = ROPEY_NO_BUILDER;
+static size_t valid = 0;
+static uint8_t text[30000];
+
+static ropey_status make(ropey_rope *made, size_t len) { return ropey_from_text(text, len, ROPEY_UNICODE, made); }
+
+static void frees(void) {
+    make(&rope, sizeof text);
+    ropey_free(&rope);
+    ropey_free(&rope);
+}
+
+static void makes_over(void) {
+    make(&rope, sizeof text);
+    make(&rope, sizeof text / 2);
+    ropey_from_text_unchecked(text, 10, ROPEY_LF, &rope);
+}
+
+static void makes_nothing(void) {
+    static const uint8_t broken[] = {'a', 0xFF};
+    make(&rope, 5000);
+    ropey_from_text(broken, sizeof broken, ROPEY_UNICODE, &rope);
+    ropey_from_text(text, 10, 77, &rope);
+}
+
+static void clones_over(void) {
+    make(&rope, sizeof text);
+    make(&other, 5000);
+    ropey_clone(&rope, &other);
+    ropey_insert(&other, 100, text, 2000);
+    ropey_clone_chars(&other, 50, 9000, &rope);
+    ropey_clone_chars(&other, 2, 1, &rope);
+}
+
+static void splits_over(void) {
+    make(&rope, sizeof text);
+    make(&other, 5000);
+    ropey_split_off(&rope, 7000, &other);
+    ropey_split_off(&rope, sizeof text + 1, &other);
+}
+
+static void appends(void) {
+    make(&rope, sizeof text);
+    make(&other, 5000);
+    ropey_append(&rope, &other);
+    ropey_append(&rope, &other);
+    ropey_from_text(text, 100, ROPEY_LF, &other);
+    ropey_append(&rope, &other);
+}
+
+static void edits(void) {
+    make(&rope, sizeof text);
+    ropey_clone(&rope, &other);
+    ropey_insert(&rope, 10, text, 100);
+    ropey_insert_char(&rope, 20, 'c');
+    ropey_insert_at_byte(&rope, 30, text, sizeof text);
+    ropey_remove(&rope, 1000, 12000);
+    ropey_remove_bytes(&rope, 40, 1500);
+    ropey_replace(&rope, 50, 9000, text, 3000);
+    ropey_replace_bytes(&rope, 60, 70, text, 1);
+    ropey_shrink_to_fit(&rope);
+    ropey_remove(&rope, 0, ropey_len_chars(&rope));
+}
+
+static void builds_over(void) {
+    make(&rope, 5000);
+    ropey_builder_new(ROPEY_UNICODE, &builder);
+    ropey_builder_append(&builder, text, 5000, &valid);
+    ropey_builder_new(ROPEY_UNICODE, &builder);
+    ropey_builder_append(&builder, text, sizeof text, &valid);
+    ropey_builder_append(&builder, (const uint8_t *)"\xE4", 1, &valid);
+    ropey_builder_append(&builder, (const uint8_t *)"\xB8\xAD and more", 11, &valid);
+    ropey_builder_finish(&builder, &rope, &valid);
+}
+
+static void builds_nothing(void) {
+    make(&rope, 5000);
+    ropey_builder_new(ROPEY_UNICODE, &builder);
+    ropey_builder_append(&builder, text, 5000, &valid);
+    ropey_builder_append(&builder, (const uint8_t *)"\xFF\xFF\xFF\xFF", 4, &valid);
+    ropey_builder_finish(&builder, &rope, &valid);
+    ropey_builder_new(ROPEY_UNICODE, &builder);
+    ropey_builder_append(&builder, text, 5000, &valid);
+    ropey_builder_free(&builder);
+}
+
+static void (*const cases[])(void) = {
+    frees, makes_over, makes_nothing, clones_over, splits_over, appends, edits, builds_over, builds_nothing};
+
+/* Runs a case with one allocation refused, frees what it left, and returns whether every block was given back. */
+static bool gives_back(void (*run)(void), long at) {
+    long before = blocks;
+    refused = false;
+    refuse_at = at;
+    run();
+    refuse_at = -1;
+    ropey_free(&rope);
+    ropey_free(&other);
+    ropey_builder_free(&builder);
+    return blocks == before;
+}
+
+int main(int argc, char **argv) {
+    long runs = 0;
+    if (argc > 1 && strcmp(argv[1], "--calls") == 0) {
+        for (size_t k = 0; k < sizeof calls / sizeof *calls; k++) {
+            puts(calls[k]);
+        }
+        return 0;
+    }
+    forgetful = argc > 1 ? argv[1] : "";
+    for (size_t i = 0; i < sizeof text; i++) {
+        text[i] = i % 40 == 39 ? '\n' : (uint8_t)('a' + i % 23);
+    }
+    for (size_t k = 0; k < sizeof cases / sizeof *cases; k++) {
+        long at = -1;
+        do {
+            if (!gives_back(cases[k], at)) {
+                fprintf(stderr, "leaks: case %zu, allocation %ld refused: %ld blocks are not given back\n", k, at, blocks);
+                return 1;
+            }
+            at++;
+            runs++;
+        } while (at == 0 || refused);
+    }
+    printf("C: every block is given back, in %ld runs with one allocation refused in each\n", runs);
+    return 0;
+}
