@@ -88,8 +88,8 @@ impl Intake {
         len <= MAX_TEXT_BYTES - self.taken
     }
 
-    // Appends `text`, at most four bytes, and then `bytes`. Finds bytes that are no text, and a text
-    // that grows too long, before it takes memory.
+    // Appends `text`, at most four bytes, and then `bytes`. Finds bytes that are no text, and a
+    // text that grows too long, before it takes memory.
     fn settle(&mut self, text: &str, bytes: &[u8], valid: &mut usize) -> u32
         requires open { self.old.refused ≡ OK }
         requires short { length text.now ≤ 4 }
