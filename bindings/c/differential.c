@@ -207,7 +207,11 @@ static void release(pair *p) {
     held_all(p);
 }
 
-static void shrink(pair *p) { settle(p, CALL(ropey_shrink_to_fit(&p->rope)), p->held ? ROPEY_OK : ROPEY_NO_ROPE_HELD); }
+static void shrink(pair *p) {
+    ropey_status status = CALL(ropey_shrink_to_fit(&p->rope)), wanted = p->held ? ROPEY_OK : ROPEY_NO_ROPE_HELD;
+    CHECK(p->text.len > 0 || status == wanted);
+    settle(p, status, wanted);
+}
 
 /* A range in the units of len, sometimes past it or the wrong way round. */
 static ropey_range drawn_range(size_t len) {
@@ -286,6 +290,7 @@ static void put_text(pair *p) {
         wanted = by_byte ? byte_place_fault(&p->text, r.start) : r.start > p->text.len ? ROPEY_CHAR_INDEX_OUT_OF_BOUNDS : ROPEY_OK;
     }
     wanted = !p->held ? ROPEY_NO_ROPE_HELD : broken ? ROPEY_INVALID_UTF8 : wanted;
+    CHECK(len > 0 || r.start < r.end || status == wanted);
     if (status == ROPEY_OK && wanted == ROPEY_OK) {
         ropey_range chars = by_byte ? (ropey_range){char_at_byte(&p->text, r.start), char_at_byte(&p->text, r.end)} : r;
         model_replace(&p->text, chars.start, chars.end, text.chars, text.len);
@@ -312,6 +317,7 @@ static void cut(pair *p) {
     ropey_range r = drawn_range(by_byte ? counts_of(&p->text).bytes : p->text.len);
     ropey_status status = by_byte ? CALL(ropey_remove_bytes(&p->rope, r.start, r.end)) : CALL(ropey_remove(&p->rope, r.start, r.end));
     ropey_status wanted = !p->held ? ROPEY_NO_ROPE_HELD : by_byte ? byte_range_fault(&p->text, r) : char_range_fault(&p->text, r);
+    CHECK(r.start < r.end || status == wanted);
     if (status == ROPEY_OK && wanted == ROPEY_OK) {
         ropey_range chars = by_byte ? (ropey_range){char_at_byte(&p->text, r.start), char_at_byte(&p->text, r.end)} : r;
         model_replace(&p->text, chars.start, chars.end, NULL, 0);
@@ -743,19 +749,21 @@ static void build(pair *p) {
     while (status == ROPEY_OK && at < len) {
         size_t part = 1 + below(below(2) ? 5 : len - at);
         part = part < len - at ? part : len - at;
-        status = CALL(ropey_builder_append(&builder, below(2) ? bytes + at : NULL, 0, &valid));
-        status = status == ROPEY_OK ? CALL(ropey_builder_append(&builder, bytes + at, part, &valid)) : status;
+        CHECK(CALL(ropey_builder_append(&builder, below(2) ? bytes + at : NULL, 0, &valid)) == ROPEY_OK);
+        status = CALL(ropey_builder_append(&builder, bytes + at, part, &valid));
         at += part;
         wanted = at >= whole + 4 && bad < len ? ROPEY_INVALID_UTF8 : ROPEY_OK;
-        CHECK(status == wanted || status == ROPEY_OUT_OF_MEMORY);
+        CHECK(status == wanted || (wanted == ROPEY_OK && status == ROPEY_OUT_OF_MEMORY));
     }
+    CHECK(valid == (status == ROPEY_INVALID_UTF8 ? whole : 77));
     if (builder.ptr != NULL) {
         ropey_status said = status;
+        valid = 77;
         status = said == ROPEY_OK ? CALL(ropey_builder_finish(&builder, &p->rope, &valid)) : ropey_builder_finish(&builder, &p->rope, &valid);
         CHECK(said == ROPEY_OK || status == said);
         CHECK(status == ROPEY_OUT_OF_MEMORY || status == (whole < len ? ROPEY_INVALID_UTF8 : ROPEY_OK));
+        CHECK(valid == (said == ROPEY_OK && status == ROPEY_INVALID_UTF8 ? whole : 77));
     }
-    CHECK(valid == (status == ROPEY_INVALID_UTF8 ? whole : 77));
     ropey_builder_free(&builder);
     free(bytes);
     if (status == ROPEY_OK) {

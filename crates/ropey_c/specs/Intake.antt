@@ -28,7 +28,7 @@ abbrev pub pending : Taking → List ℕ → List ℕ
 pending old bytes = old.rest ++ bytes
 
 -- bytes follow: the longest front that is text goes behind the text, and up to 3 bytes behind it wait. Where more are left
--- they are no text, and the place of the first is told. These bytes come first, then the size, then memory
+-- they are no text, and the place of the first is told. Refusals come in this order: bytes that are no text, size, memory
 pub record Takes (old : Taking) (bytes : List ℕ) (status : ℕ) (valid_old valid_new : ℕ) (new : Taking) : Type 0 where
   pub earlier : old.refused ≢ OK → (status ≡ old.refused) × (new ≡ old) × (valid_new ≡ valid_old)
   pub faulty : old.refused ≡ OK → 4 ≤ length (text_rest (pending old bytes)) → status ≡ INVALID_UTF8

@@ -66,7 +66,7 @@ impl BuilderHandle {
         replace(self, BuilderHandle::none(alloc)).into_box()
     }
 
-    // Puts a builder in, and drops the one before.
+    // Puts a builder in, and drops the one before, as `bindings/c/leaks.c` tests.
     pub(crate) fn put(&mut self, held: Box<Intake>)
         ensures { self.new.held ≡ Some held.value }
     {

@@ -95,7 +95,8 @@ pub extern "C" fn ropey_builder_finish(
     }
 }
 
-/// Frees the builder, if there is one. Afterwards the handle holds none.
+/// Frees the builder, if there is one. Afterwards the handle holds none. The contract doesn't say
+/// that memory is given back: `bindings/c/leaks.c` tests it.
 #[unsafe(no_mangle)]
 pub extern "C" fn ropey_builder_free(alloc: Global, builder: &mut BuilderHandle)
     ensures { builder.new.held ≡ None }

@@ -70,7 +70,7 @@ impl Handle {
         Some(rope)
     }
 
-    // Puts a rope in, and drops the one before.
+    // Puts a rope in, and drops the one before, as `bindings/c/leaks.c` tests.
     pub(crate) fn put(&mut self, rope: Box<Rope>)
         ensures { self.new.rope ≡ Some rope.value }
     {

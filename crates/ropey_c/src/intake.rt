@@ -45,7 +45,7 @@ impl Model for Intake {
     ghost invariant = { λ i. IsIntake i.texts i.taken i.rest i.rest_len i.refused };
 }
 
-// Adds two texts to a builder.
+// Appends two texts to a builder.
 fn append_both(texts: &mut RopeBuilder, first: &str, second: &str) -> Result<()>
     ensures ok { OnOk result
         ((texts.new.text ≡ texts.old.text ++ chars first.now ++ chars second.now)
@@ -79,7 +79,7 @@ impl Intake {
         status
     }
 
-    // Whether the text may grow by a number of bytes.
+    // Returns whether the text may grow by `len` bytes.
     fn has_room(&self, len: usize) -> bool
         requires { self.now.refused ≡ OK }
         ensures { MatchBool result (size_error (byte_len self.now.text + len) ≡ None)
@@ -88,8 +88,8 @@ impl Intake {
         len <= MAX_TEXT_BYTES - self.taken
     }
 
-    // Takes a text, and bytes behind it, of which the text must be as long as a character at the
-    // most. What is wrong with them is found before memory is taken.
+    // Appends `text`, at most four bytes, and then `bytes`. Finds bytes that are no text, and a
+    // text that grows too long, before it takes memory.
     fn settle(&mut self, text: &str, bytes: &[u8], valid: &mut usize) -> u32
         requires open { self.old.refused ≡ OK }
         requires short { length text.now ≤ 4 }
@@ -125,7 +125,7 @@ impl Intake {
         OK
     }
 
-    // The bytes that wait and those that follow, up to four, and how many they are.
+    // Returns the bytes that wait, followed by `bytes`, four in all at most; and their number.
     fn four(&self, bytes: &[u8]) -> ([u8; 4], usize)
         ensures within { result.1 ≤ 4 }
         ensures waiting { length self.now.rest ≤ 3 }
@@ -141,7 +141,7 @@ impl Intake {
         (four, len)
     }
 
-    // Takes bytes behind those that wait. Four bytes show whether these begin a character.
+    // Appends bytes after those that wait. Four bytes show whether these begin a character.
     fn join(&mut self, bytes: &[u8], valid: &mut usize) -> u32
         requires open { self.old.refused ≡ OK }
         requires some { 0 < length bytes.now }

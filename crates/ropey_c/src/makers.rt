@@ -115,7 +115,8 @@ pub extern "C" fn ropey_from_text_unchecked(
     }
 }
 
-/// Frees the rope, if there is one. The nodes that it shares with its clones stay.
+/// Frees the rope, if there is one. The nodes that it shares with its clones stay. The contract
+/// doesn't say that memory is given back: `bindings/c/leaks.c` tests it.
 ///
 /// Afterwards the handle holds no rope. Takes time in proportion to the nodes that are freed.
 #[unsafe(no_mangle)]

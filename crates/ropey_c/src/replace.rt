@@ -59,8 +59,8 @@ fn replaced(rope: &Rope, start: usize, end: usize, text: &str) -> Option<Rope>
     Some(made)
 }
 
-// Puts the made rope in the place of the old one. Makes none where there is nothing to replace and
-// nothing to insert.
+// Puts the made rope in the place of the old one. Makes none where the range and the text are
+// empty.
 fn exchange(rope: &mut Rope, start: usize, end: usize, text: &str) -> u32
     requires ordered { start ≤ end }
     requires within { end ≤ length rope.old.text }
