@@ -23,7 +23,7 @@ pub enum Error {
     LineIndexOutOfBounds(usize, usize),
     /// A UTF-16 index past the end: the index, and the length in code units.
     Utf16IndexOutOfBounds(usize, usize),
-    /// A byte index inside a character. Kept from ropey; no call returns it.
+    /// A byte index inside a character. No call of `ropey` returns it; the library for C does.
     ByteIndexNotCharBoundary(usize),
     /// A byte range that starts or ends inside a character: its bounds as they were given.
     ByteRangeNotCharBoundary(Option<usize>, Option<usize>),
