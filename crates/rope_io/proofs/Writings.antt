@@ -6,12 +6,12 @@ use Rattle.std.specs.Str.{chars, encode_utf8_all, IsUtf8}
 use Rattle.std.proofs.lemmas.Bool.{cond-false, ne_eqb}
 use Rattle.std.proofs.lemmas.Str.{encodes-append, encodes-chars}
 use Rattle.std.proofs.lemmas.List.{append-nil}
-use Rattle.std.specs.declared.io.ErrorKind.{ErrorKind}
+use Rattle.rope_io.specs.declared.device.Failure.{Failure}
 use Rattle.rope_io.specs.Failing.{write_failure}
 use Rattle.rope_io.specs.Writing.{AppendsFront}
 
 -- no call has failed since the writing began
-pub record NoneFailed (marked : Bool) (failure : Option ErrorKind) (start now : ℕ) : Type 0 where
+pub record NoneFailed (marked : Bool) (failure : Option Failure) (start now : ℕ) : Type 0 where
   pub clear : marked ≡ false
   pub none : failure ≡ None
   pub same : now ≡ start

@@ -1,6 +1,6 @@
 -- What a clause reads of a watched device.
 use Rattle.std.specs.Prelude.{ℕ, Bool, false, Option, None}
-use Rattle.std.specs.declared.io.ErrorKind.{ErrorKind}
+use Rattle.rope_io.specs.declared.device.Failure.{Failure}
 use Rattle.rope_io.specs.declared.device.Watched.{Watched}
 
 -- the device
@@ -12,7 +12,7 @@ abbrev pub watched_failed : {T : Type 0} → Watched T → Bool
 watched_failed w = w.failed
 
 -- how the last call failed
-abbrev pub watched_failure : {T : Type 0} → Watched T → Option ErrorKind
+abbrev pub watched_failure : {T : Type 0} → Watched T → Option Failure
 watched_failure w = w.failure
 
 -- how many calls have failed

@@ -2,11 +2,20 @@
 ghost use Rattle.std.specs.Prelude.{◌≡◌, ℕ, ◌<◌, ◌⊎◌, Bool, true, false, List, length, OnOk, OnErr, IfOk, Option, None, Some, refl};
 ghost use Rattle.std.specs.Io.{ReadsAtMost, WritesAtMost};
 ghost use Rattle.std.specs.Io.KnownBytes.{ReadConsumes, WriteAppends};
-ghost use Rattle.std.specs.declared.io.ErrorKind.{ErrorKind};
+ghost use Rattle.rope_io.specs.declared.device.Failure.{Failure};
 ghost use Rattle.rope_io.specs.Failing.{failure_of, write_failure, count_failure};
 ghost use Rattle.rope_io.specs.Watching.{watched_inner, watched_failed, watched_failure, watched_failures, unmarked};
 
-use std::io::{self, ErrorKind, Read, Write};
+use std::io::{self, Read, Write};
+
+/// How a read or a write failed.
+#[derive(Clone, Copy, Debug)]
+pub enum Failure {
+    /// It returned this error.
+    Returned(io::Error),
+    /// It was given bytes to write, and took none of them.
+    TookNone,
+}
 
 /// A device that can be asked whether it has failed: it carries a mark. Clauses also know how its
 /// last call failed, and how many have.
@@ -14,10 +23,10 @@ pub trait Mark {
     /// Whether the mark is set.
     ghost marked: { Self → Bool };
 
-    /// How the last read or write failed since the mark was last cleared, as the kind of its error.
-    /// There is none where it didn't fail, and none where nothing was read or written since. A
-    /// write that is given bytes and takes none fails as `WriteZero`.
-    ghost failure: { Self → Option ErrorKind };
+    /// How the last read or write failed: with the error that it returned, or by taking none of
+    /// the bytes that it was given. `None` where it did not fail, and where nothing was read or
+    /// written since the mark was last cleared.
+    ghost failure: { Self → Option Failure };
 
     /// How many reads and writes have failed. It is never cleared, and stops at `u64::MAX`.
     ghost failures: { Self → ℕ };
@@ -86,7 +95,7 @@ pub trait Sink: Mark {
 pub struct Watched<T> {
     inner: T,
     failed: bool,
-    failure: Option<ErrorKind>,
+    failure: Option<Failure>,
     failures: u64,
 }
 
@@ -113,16 +122,16 @@ impl<T> Watched<T> {
         self.inner
     }
 
-    // Marks a failure of this kind.
-    fn fail(&mut self, kind: ErrorKind)
+    // Marks this failure.
+    fn fail(&mut self, failure: Failure)
         ensures inner { watched_inner self.new ≡ watched_inner self.old }
         ensures failed { watched_failed self.new ≡ true }
-        ensures failure { watched_failure self.new ≡ Some kind }
+        ensures failure { watched_failure self.new ≡ Some failure }
         ensures failures { watched_failures self.new
-            ≡ count_failure (Some kind) (watched_failures self.old) }
+            ≡ count_failure (Some failure) (watched_failures self.old) }
     {
         self.failed = true;
-        self.failure = Some(kind);
+        self.failure = Some(failure);
         self.failures = self.failures.saturating_add(1);
     }
 }
@@ -158,12 +167,12 @@ impl<T: Read> Source for Watched<T> {
     ghost cleared_remaining = { λ _. refl };
 
     fn take(&mut self, buf: &mut [u8]) -> io::Result<usize> {
-        let result = self.inner.read(buf);
-        match &result {
+        let taken = self.inner.read(buf);
+        match &taken {
             Ok(_) => self.failure = None,
-            Err(error) => self.fail(error.kind()),
+            Err(error) => self.fail(Failure::Returned(*error)),
         }
-        result
+        taken
     }
 }
 
@@ -173,12 +182,12 @@ impl<T: Write> Sink for Watched<T> {
     ghost cleared_contents = { λ _. refl };
 
     fn give(&mut self, buf: &[u8]) -> io::Result<usize> {
-        let result = self.inner.write(buf);
-        match &result {
-            Ok(0) if !buf.is_empty() => self.fail(ErrorKind::WriteZero),
+        let given = self.inner.write(buf);
+        match &given {
+            Ok(0) if !buf.is_empty() => self.fail(Failure::TookNone),
             Ok(_) => self.failure = None,
-            Err(error) => self.fail(error.kind()),
+            Err(error) => self.fail(Failure::Returned(*error)),
         }
-        result
+        given
     }
 }

@@ -15,5 +15,5 @@ pub mod laws;
 pub mod reading;
 pub mod writing;
 
-pub use device::{Mark, Sink, Source, Watched};
+pub use device::{Failure, Mark, Sink, Source, Watched};
 pub use error::{ReadError, ReadResult};

@@ -3,7 +3,7 @@ ghost use Rattle.std.specs.Prelude.{◌≡◌, ◌↔◌, true, false, OnOk, OnE
 ghost use Rattle.std.specs.Io.KnownBytes.{Appends};
 ghost use Rattle.std.specs.Str.{encode_utf8_all};
 ghost use Rattle.rope_slice.specs.Slice.{text_of};
-ghost use Rattle.rope_io.specs.Failing.{failure_of, IsCounted};
+ghost use Rattle.rope_io.specs.Failing.{IsWriteCounted};
 ghost use Rattle.rope_io.specs.Writing.{AppendsFront};
 
 use crate::device::Sink;
@@ -18,7 +18,7 @@ fn write_bytes<S: Sink>(sink: &mut S, bytes: &[u8]) -> io::Result<()>
     ensures clear { OnOk result (S.marked sink.new ≡ false) }
     ensures err { OnErr result (S.marked sink.new ≡ true) }
     ensures front { AppendsFront (S.contents sink.old) (S.contents sink.new) bytes.now }
-    ensures failure { IsCounted (failure_of result) (S.failure sink.new)
+    ensures failure { IsWriteCounted result (S.failure sink.new)
         (S.failures sink.old) (S.failures sink.new) }
 {
     let mut rest = bytes;
@@ -47,7 +47,7 @@ pub fn write_slice<S: Sink>(slice: &RopeSlice<'_>, sink: &mut S) -> io::Result<(
     ensures front { AppendsFront (S.contents sink.old) (S.contents sink.new)
         (encode_utf8_all (text_of slice.now)) }
     ensures failed { IsErr result ↔ (S.marked sink.new ≡ true) }
-    ensures failure { IsCounted (failure_of result) (S.failure sink.new)
+    ensures failure { IsWriteCounted result (S.failure sink.new)
         (S.failures sink.old) (S.failures sink.new) }
 {
     sink.clear();

@@ -10,7 +10,7 @@ ghost use Rattle.std.specs.Prelude.{◌≡◌, ℕ, List, Bool, Option, true, �
 ghost use Rattle.std.specs.Io.KnownBytes.{Appends};
 ghost use Rattle.std.specs.Str.{encode_utf8_all};
 ghost use Rattle.rope_text.specs.declared.line_breaks.LineBreaks.TheVariants.{Unicode};
-ghost use Rattle.rope_io.specs.Failing.{failure_of, reader_failure, IsCounted};
+ghost use Rattle.rope_io.specs.Failing.{reader_failure, IsCounted, IsWriteCounted};
 ghost use Rattle.rope_io.specs.Reading.{Reads, IsReadFailure};
 ghost use Rattle.rope_io.specs.Writing.{AppendsFront};
 ghost use Rattle.ropey.specs.Texts.{AreUtf8Of};
@@ -20,7 +20,7 @@ use crate::rope::Rope;
 use rope_io::ReadResult;
 use rope_io::reading::read_tree;
 use rope_io::writing::write_slice;
-pub use rope_io::{Mark, ReadError, Sink, Source, Watched};
+pub use rope_io::{Failure, Mark, ReadError, Sink, Source, Watched};
 use rope_slice::RopeSlice;
 use rope_text::LineBreaks;
 use std::alloc::Global;
@@ -51,8 +51,8 @@ impl Rope {
     /// # Errors
     ///
     /// `Read`, `InvalidData` and `Rope`, as for `from_reader`; the mark is set afterwards exactly
-    /// where the answer is `Read`. Then one read has failed, with the kind of the error that is
-    /// returned, and the source was not called again.
+    /// where the answer is `Read`. Then one read has failed, with the very error that is returned,
+    /// and the source was not called again.
     pub fn from_watched<S: Source>(alloc: Global, source: &mut S) -> ReadResult<Rope>
         // The bytes that were given decide the answer,
         ensures answer { Reads text_of (S.remaining source.old) (S.remaining source.new)
@@ -91,8 +91,8 @@ impl Rope {
     /// # Errors
     ///
     /// `Read`, `InvalidData` and `Rope`, as for `from_reader`; the mark is set afterwards exactly
-    /// where the answer is `Read`. Then one read has failed, with the kind of the error that is
-    /// returned, and the source was not called again.
+    /// where the answer is `Read`. Then one read has failed, with the very error that is returned,
+    /// and the source was not called again.
     pub fn from_watched_with<S: Source>(
         alloc: Global,
         source: &mut S,
@@ -127,15 +127,16 @@ impl Rope {
     ///
     /// A write's error, at once, an interrupted one too; of the kind `WriteZero` where the writer
     /// takes none of the bytes that it is given. Then a beginning of the text has been written. The
-    /// mark is set afterwards exactly where an error is returned; then one write has failed, with
-    /// that error's kind, and the sink was not called again.
+    /// mark is set afterwards exactly where an error is returned. Then one write has failed, with
+    /// that very error or, for `WriteZero`, by taking none of its bytes, and the sink was not
+    /// called again.
     pub fn write_watched<S: Sink>(&self, sink: &mut S) -> io::Result<()>
         ensures ok { OnOk result
             (Appends (S.contents sink.old) (S.contents sink.new) (encode_utf8_all self.now.text)) }
         ensures front { AppendsFront (S.contents sink.old) (S.contents sink.new)
             (encode_utf8_all self.now.text) }
         ensures failed { IsErr result ↔ (S.marked sink.new ≡ true) }
-        ensures failure { IsCounted (failure_of result) (S.failure sink.new)
+        ensures failure { IsWriteCounted result (S.failure sink.new)
             (S.failures sink.old) (S.failures sink.new) }
     {
         write_slice(&RopeSlice::of_node(&self.root), sink)

@@ -4,6 +4,7 @@ use Rattle.std.specs.Str.{chars}
 use Rattle.rope_text.specs.Sides.{ahead}
 use Rattle.rope_slice.specs.Slice.{text_of}
 use Rattle.rope_slice.proofs.Kept.{chunks_join}
+use Rattle.rope_io.specs.Failing.{count_failure}
 use Rattle.rope_io.proofs.Writings.{Appends-none, chunk_written, chunk_begun, all_written, front_all}
 use Rattle.rope_io.proofs.writing.write_slice.Goals as goal
 
@@ -28,6 +29,7 @@ loop-chunk-preserved g c =
     let i = c.loop-chunk.invariant.written in
     let s = c.as_bytes.result.now in
     let more = ahead c.next.new.self in
+    let w = c.in_ok-write_bytes.ensures.failure in
     record {
       written = record {
         before = i.before ++ chars s;
@@ -36,8 +38,8 @@ loop-chunk-preserved g c =
       };
       none_failed = record {
         clear = c.in_ok-write_bytes.ensures.clear;
-        none = c.in_ok-write_bytes.ensures.failure.0;
-        same = c.in_ok-write_bytes.ensures.failure.1 ∙ c.loop-chunk.invariant.none_failed.same;
+        none = w.0;
+        same = w.1 ∙ ap (λ k. count_failure k (g.S.Mark.failures c.loop-chunk.sink)) w.0 ∙ c.loop-chunk.invariant.none_failed.same;
       };
     }
 
