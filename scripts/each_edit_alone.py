@@ -14,7 +14,8 @@ A line of docs/refusals.tsv has the body, as the name of its edit and its number
 prover could not show, as its function and its name; why it could not; and a checksum of the body and of its function with its
 contract, but for what stands elsewhere: a trait's clauses, and the definitions that a contract cites. The reason is `name` where
 all that `rt` shows are names that a written proof cites and the body took away, `limit` where the prover gave no verdict, and
-`value` for any other body. With --stale the status is 0 where each body has a line with its checksum, and each line a body.
+`value` for any other body. With --stale the status is 0 where each body has a line with its checksum, each line a body, and each
+goal is one of the body's function.
 """
 import hashlib
 import os
@@ -27,62 +28,15 @@ import tempfile
 import time
 
 sys.dont_write_bytecode = True
-from wrong_bodies import CRATES, changes  # noqa: E402
+from functions import CRATES, FUNCTION, function_at, owner_of, path_at  # noqa: E402
+from wrong_bodies import changes  # noqa: E402
 
 TOP = CRATES.parent
 TABLE = TOP / "docs" / "refusals.tsv"
 HEADS = ["body", "crate", "function", "goal", "refused by", "checksum"]
-FUNCTION = re.compile(r'( *)(?:pub(?:\([^)]*\))? )?(?:(?:const|final|unsafe|extern "C") )*fn (\w+)')
-OWNER = re.compile(r"( *)(?:pub(?:\([^)]*\))? )?(?:unsafe )?(?:impl|trait)\b(.*)")
-ITEM = re.compile(r"(?:pub(?:\([^)]*\))? )?(\S+ \w+|.*)")
 REFUSED = re.compile(r"rt: must-fail (?P<crate>\w+)/(?P<edit>\S+)\.(?P<number>\d+)\.edit: refused, as it must be"
                      r"(?: \(only (?P<only>because|by)[^)]*\))?(?:: (?P<said>.*))?")
 KINDS = {None: "value", "because": "name", "by": "limit"}
-
-
-def end_of(lines, first):
-    """The last line of a function, by the layout of `rt fmt`: its brace stands below its head, unless it has no body or a short one."""
-    indent = FUNCTION.match(lines[first])[1]
-    has_body = False
-    for number in range(first, len(lines)):
-        line = lines[number]
-        has_body = has_body or line.endswith("{")
-        if line == indent + "}" or not has_body and line.endswith((";", "{}")):
-            return number
-    return first
-
-
-def function_at(lines, place):
-    """The first and the last line of the function around a line; of the constant, macro or import where it stands in none."""
-    for first in range(place, -1, -1):
-        if FUNCTION.match(lines[first]) and end_of(lines, first) >= place:
-            return first, end_of(lines, first)
-    first = next((number for number in range(place, -1, -1) if lines[number][:1].isalpha()), place)
-    return first, next((number for number in range(place, len(lines)) if not lines[number].startswith(" ")), place)
-
-
-def owner_of(lines, first):
-    """The line where the impl or trait begins that a function stands in."""
-    indent = len(lines[first]) - len(lines[first].lstrip())
-    heads = ((number, OWNER.match(lines[number])) for number in range(first, -1, -1))
-    return next((number for number, head in heads if head and len(head[1]) < indent), None)
-
-
-def owner_name(head):
-    """A type's name, with a trait's behind it in an impl of one."""
-    while head != (shorter := re.sub(r"<[^<>]*>", "", head)):
-        head = shorter
-    trait, _, kind = head.partition(" where ")[0].partition(" for ")
-    return "".join(re.findall(r"\w+", part)[-1] for part in (kind, trait) if re.search(r"\w", part))
-
-
-def path_at(crate, file, lines, place):
-    """The path of the function around a line: its module, its type and its name."""
-    first, _ = function_at(lines, place)
-    owner, head = owner_of(lines, first), FUNCTION.match(lines[first])
-    names = [*file.relative_to(CRATES / crate / "src").with_suffix("").parts]
-    names += [owner_name(OWNER.match(lines[owner])[2])] if owner is not None else []
-    return "::".join([*names, head[2] if head else ITEM.match(lines[first])[1]])
 
 
 def contract_at(lines, place):
@@ -216,8 +170,16 @@ def try_all(edits, bodies):
     return not lost
 
 
+def is_of_another(function, goal):
+    """Whether a goal is of another function than the one that a body changes.
+
+    A cycle's goals are of its folder, and a constant, a macro or an import, whose names have a space, may be refused anywhere."""
+    path, name = goal.split(" ")[0], function.split("::")[-1]
+    return " " not in name and path.split("::")[-1] != name and "+" not in path and not path.endswith(".antt")
+
+
 def stale():
-    """The bodies that have no line or one of another state, and the lines that have no body."""
+    """The bodies that have no line or one of another state, the lines that have no body, and those with a goal of another function."""
     rows, bodies = table(), bodies_of(CRATES.glob("*/must-fail/*.edit"))
     for key, (function, checksum) in bodies.items():
         if key not in rows:
@@ -225,6 +187,8 @@ def stale():
         elif rows[key][5] != checksum:
             yield f"changed: {key[1]}/{key[0]}, {function}"
     yield from (f"no body: {key[1]}/{key[0]}, {rows[key][2]}" for key in rows if key not in bodies)
+    others = [row for row in rows.values() if is_of_another(row[2], row[3])]
+    yield from (f"another's goal: {row[1]}/{row[0]}, {row[2]}: {row[3]}" for row in others)
 
 
 def main(words):
