@@ -1,17 +1,25 @@
 #!/usr/bin/env python3
-"""Counts the wrong bodies in crates/*/must-fail, and says which of them stand for which public call.
+"""Counts the mutants in crates/*/must-fail, and lists those that cover a public call.
 
-    scripts/wrong_bodies.py            # how many each edit has; fails where an old text doesn't stand once in its file
-    scripts/wrong_bodies.py CALL ..    # which wrong bodies stand for these calls, from crates/stands_for.tsv
+    scripts/wrong_bodies.py            # how many mutants each edit has
+    scripts/wrong_bodies.py CALL ..    # the mutants that cover these calls, from crates/stands_for.tsv
+
+It fails if an old text does not stand exactly once in its file, and if a public function of the crates below has neither a mutant
+nor a line in crates/stands_for.tsv. It also fails if a line there names no public function, or a name that several types have, and
+if the line names a mutant that does not exist. The third column of a line has `CRATE/EDIT: FUNCTION`, several of them separated by
+`; `, or `none: REASON`.
 """
-import pathlib
 import sys
 
-CRATES = pathlib.Path(__file__).resolve().parent.parent / "crates"
+sys.dont_write_bytecode = True
+from functions import CRATES, function_at, names_at, public_functions  # noqa: E402
+
+# The crates whose public functions users call.
+SURFACE = "rope_text rope_slice rope_io ropey rope_position rope_script rope_language ropey_c".split()
 
 
 def changes(edit):
-    """The changes of an edit, each a wrong body: a file, and the pairs of what stands there and what is put in its place."""
+    """The changes of an edit, each a mutant: a file, and the pairs of what stands there and what is put in its place."""
     found = []
     for line in edit.read_text(encoding="utf-8").splitlines():
         word, _, rest = line.partition(":")
@@ -37,24 +45,77 @@ def faults(edit):
 
 
 def rows():
+    """The lines of stands_for.tsv: a crate, its calls, and their mutants."""
     lines = (CRATES / "stands_for.tsv").read_text(encoding="utf-8").splitlines()[1:]
     return [line.split("\t") for line in lines]
 
 
+def lines_of(file):
+    return file.read_text(encoding="utf-8").splitlines()
+
+
+def changed(edit):
+    """The functions that an edit changes: the file and the first line of each. A change of a comment changes no function."""
+    for file, pairs in changes(edit):
+        lines = lines_of(file)
+        code = [(at, line) for at, line in enumerate(lines) if not line.lstrip().startswith("//")]
+        yield from ((file, function_at(lines, at)[0]) for old, _ in pairs for at, line in code if old in line)
+
+
+def named(functions):
+    """These functions by their names, each with its type."""
+    found = {}
+    for file, first in functions:
+        kind, names = names_at(lines_of(file), first)
+        for name in names:
+            found.setdefault(name, set()).add((kind, file, first))
+    return found
+
+
+def unclear(name, functions):
+    """Why a name does not identify a function, or None if it does."""
+    kinds = sorted({kind for kind, _, _ in functions.get(name, ())})
+    if not kinds:
+        return f"no such function: {name}"
+    return f"{name} of {' or '.join(kinds)}" if len(kinds) > 1 else None
+
+
+def uncovered(edits):
+    """The lines that name no public function, and the public functions with neither a mutant nor a line."""
+    for crate in SURFACE:
+        public = set(public_functions(crate))
+        names = named(public)
+        own = {place for name, edit in edits.items() if name.startswith(f"{crate}/") for place in changed(edit)}
+        calls = [call for of, several, _ in rows() if of == crate for call in several.split()]
+        listed = {(file, first) for call in calls for _, file, first in names.get(call, ())}
+        yield from (f"stands_for.tsv, {crate}: {fault}" for fault in (unclear(call, names) for call in calls) if fault)
+        for file, first in sorted(public - own - listed):
+            yield f"no mutant and no line: {crate}/src/{file.name}:{first + 1}: {names_at(lines_of(file), first)[1][0]}"
+
+
+def unfounded(edits):
+    """The lines that name a mutant that does not exist."""
+    functions = {name: named(changed(edit)) for name, edit in edits.items()}
+    for crate, calls, cover in rows():
+        for part in [] if cover.startswith("none: ") else cover.split("; "):
+            edit, _, name = part.partition(": ")
+            fault = unclear(name, functions[edit]) if edit in functions else f"no such edit: {edit}"
+            if fault:
+                yield f"stands_for.tsv, {crate}, {calls}: {fault}"
+
+
 def main(calls):
     if calls:
-        for crate, names, stand in rows():
+        for crate, names, cover in rows():
             for call in sorted(set(names.split()) & set(calls)):
-                print(f"{crate}: {call}: {stand}")
+                print(f"{crate}: {call}: {cover}")
         return 0
-    edits = sorted(CRATES.glob("*/must-fail/*.edit"))
-    named = {f"{edit.parent.parent.name}/{edit.stem}": edit for edit in edits}
-    wrong = [fault for edit in edits for fault in faults(edit)]
-    for name, edit in named.items():
+    edits = {f"{edit.parent.parent.name}/{edit.stem}": edit for edit in sorted(CRATES.glob("*/must-fail/*.edit"))}
+    for name, edit in edits.items():
         print(f"{len(changes(edit)):4} {name}")
-    print(f"{sum(len(changes(edit)) for edit in edits):4} wrong bodies in {len(edits)} edits")
-    for _, _, stand in rows():
-        wrong += [f"no edit: {part}" for part in stand.split("; ") if part.split(":")[0] not in named]
+    print(f"{sum(len(changes(edit)) for edit in edits.values()):4} mutants in {len(edits)} edits")
+    wrong = [fault for edit in edits.values() for fault in faults(edit)]
+    wrong += [*uncovered(edits), *unfounded(edits)]
     print("\n".join(wrong), end="\n" if wrong else "")
     return 1 if wrong else 0
 
