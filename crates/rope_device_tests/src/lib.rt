@@ -18,6 +18,8 @@ mod commands;
 #[cfg(test)]
 mod devices;
 #[cfg(test)]
+mod devices_errors;
+#[cfg(test)]
 mod draw;
 #[cfg(test)]
 mod ends;

@@ -1,0 +1,218 @@
+//! The errors of devices, which come through with their message and their number, and how often a
+//! device is called.
+use rope_plain::failure::{Failure, within};
+use rope_plain::{holds, same};
+use ropey::Rope;
+use ropey::io::{Mark, ReadError, Sink, Source, Watched};
+use std::alloc::Global;
+use std::cell::Cell;
+use std::io::{self, ErrorKind, Read, Write};
+
+/// Moves one byte a call, so many times, and fails from then on with its error.
+#[derive(Drop)]
+struct Broken<'a> {
+    good: usize,
+    error: io::Error,
+    calls: &'a Cell<usize>,
+}
+
+impl<'a> Broken<'a> {
+    /// It counts its calls, those that fail among them.
+    fn new(good: usize, error: io::Error, calls: &'a Cell<usize>) -> Broken<'a> {
+        Broken { good, error, calls }
+    }
+
+    /// Counts a call, and fails if it is to.
+    fn call(&self) -> io::Result<()> {
+        let calls = self.calls.get();
+        self.calls.set(calls.saturating_add(1));
+        if calls >= self.good {
+            return Err(self.error);
+        }
+        Ok(())
+    }
+}
+
+impl Read for Broken<'_> {
+    fn read(&mut self, buf: &mut [u8]) -> io::Result<usize> {
+        self.call()?;
+        let Some(first) = buf.first_mut() else {
+            return Ok(0);
+        };
+        *first = b'a';
+        Ok(1)
+    }
+}
+
+impl Write for Broken<'_> {
+    fn write(&mut self, buf: &[u8]) -> io::Result<usize> {
+        self.call()?;
+        Ok(buf.len().min(1))
+    }
+
+    /// No flush is asked for.
+    fn flush(&mut self) -> io::Result<()> {
+        Err(self.error)
+    }
+}
+
+/// An error, and what shows that it is this one: its number, and the text that it prints.
+#[derive(Clone, Copy)]
+struct Known {
+    error: io::Error,
+    code: Option<i32>,
+    text: &'static str,
+}
+
+/// Errors of a program, with a message, and of the system, with a number. Two are of one kind.
+fn known_errors() -> [Known; 4] {
+    let told = |error, text| Known {
+        error,
+        code: None,
+        text,
+    };
+    let numbered = |code, text| Known {
+        error: io::Error::from_raw_os_error(code),
+        code: Some(code),
+        text,
+    };
+    [
+        told(
+            io::Error::new(ErrorKind::Other, "the tape is torn"),
+            "the tape is torn",
+        ),
+        told(
+            io::Error::new(ErrorKind::WriteZero, "the tape is full"),
+            "the tape is full",
+        ),
+        numbered(5, "Input/output error (os error 5)"),
+        numbered(6, "No such device or address (os error 6)"),
+    ]
+}
+
+/// Fails unless an error is the known one.
+fn expect_error(alloc: Global, found: io::Error, known: &Known) -> Result<(), Failure> {
+    let text = format!(in alloc; "{found}")?;
+    same!(text.as_str(), known.text);
+    same!(found.raw_os_error(), known.code);
+    same!(found.kind(), known.error.kind());
+    Ok(())
+}
+
+/// Fails unless a call moved one byte.
+fn expect_moved(answer: io::Result<usize>) -> Result<(), Failure> {
+    let count = answer?;
+    same!(count, 1);
+    Ok(())
+}
+
+/// Fails unless a call failed with the known error.
+fn expect_refused<T: Drop>(
+    alloc: Global,
+    answer: io::Result<T>,
+    known: &Known,
+) -> Result<(), Failure> {
+    match answer {
+        Ok(_) => Err(Failure::new("not refused")),
+        Err(error) => expect_error(alloc, error, known),
+    }
+}
+
+/// Fails unless each read of a watched device is one of the device's, and its error comes through.
+fn expect_taken(alloc: Global, known: &Known) -> Result<(), Failure> {
+    let calls = Cell::new(0usize);
+    let mut source = Watched::new(Broken::new(1, known.error, &calls));
+    let buffer = &mut [0u8; 2];
+    expect_moved(source.take(buffer))?;
+    same!(calls.get(), 1);
+    holds!(!source.failed());
+    for count in 2..4usize {
+        expect_refused(alloc, source.take(buffer), known)?;
+        same!(calls.get(), count);
+        holds!(source.failed());
+    }
+    Ok(())
+}
+
+/// Fails unless each write to a watched device is one of the device's, and its error comes through.
+fn expect_given(alloc: Global, known: &Known) -> Result<(), Failure> {
+    let calls = Cell::new(0usize);
+    let mut sink = Watched::new(Broken::new(1, known.error, &calls));
+    expect_moved(sink.give(b"ab"))?;
+    same!(calls.get(), 1);
+    holds!(!sink.failed());
+    for count in 2..4usize {
+        expect_refused(alloc, sink.give(b"ab"), known)?;
+        same!(calls.get(), count);
+        holds!(sink.failed());
+    }
+    Ok(())
+}
+
+/// Fails unless a reading returned the reader's known error.
+fn expect_read_error(
+    alloc: Global,
+    answer: Result<Rope, ReadError>,
+    known: &Known,
+) -> Result<(), Failure> {
+    match answer {
+        Err(ReadError::Read(error)) => expect_error(alloc, error, known),
+        Err(error) => Err(error.into()),
+        Ok(_) => Err(Failure::new("read, though the reader failed")),
+    }
+}
+
+/// Fails unless a reading returns the reader's error, and calls the reader no more.
+fn expect_reading(alloc: Global, good: usize, known: &Known) -> Result<(), Failure> {
+    let calls = Cell::new(0usize);
+    let reader = Broken::new(good, known.error, &calls);
+    expect_read_error(alloc, Rope::from_reader(alloc, reader), known)?;
+    same!(calls.get(), good.saturating_add(1));
+    let calls = Cell::new(0usize);
+    let mut source = Watched::new(Broken::new(good, known.error, &calls));
+    expect_read_error(alloc, Rope::from_watched(alloc, &mut source), known)?;
+    same!(calls.get(), good.saturating_add(1));
+    Ok(())
+}
+
+/// Fails unless a writing of five bytes returns the writer's error, and calls the writer no more.
+fn expect_writing(alloc: Global, rope: &Rope, good: usize, known: &Known) -> Result<(), Failure> {
+    let calls = Cell::new(0usize);
+    let writer = Broken::new(good, known.error, &calls);
+    expect_refused(alloc, rope.write_to(writer), known)?;
+    same!(calls.get(), good.saturating_add(1));
+    let calls = Cell::new(0usize);
+    let mut sink = Watched::new(Broken::new(good, known.error, &calls));
+    expect_refused(alloc, rope.write_watched(&mut sink), known)?;
+    same!(calls.get(), good.saturating_add(1));
+    Ok(())
+}
+
+/// Fails unless the error comes through a watched device, a reading and a writing.
+fn expect_through(alloc: Global, rope: &Rope, known: &Known) -> Result<(), Failure> {
+    expect_taken(alloc, known)?;
+    expect_given(alloc, known)?;
+    for good in 0..5usize {
+        expect_reading(alloc, good, known)?;
+        expect_writing(alloc, rope, good, known)?;
+    }
+    Ok(())
+}
+
+fn expect_all_through(alloc: Global, rope: &Rope) -> Result<(), Failure> {
+    for known in &known_errors() {
+        within(
+            format_args!("the error {}", known.text),
+            expect_through(alloc, rope, known),
+        )?;
+    }
+    Ok(())
+}
+
+#[test]
+fn a_device_is_called_once_a_call_and_its_error_comes_through(
+    rt: HostRuntime,
+) -> Result<(), Failure> {
+    let rope = Rope::from_str(rt.alloc(), "Hello")?;
+    expect_all_through(rt.alloc(), &rope)
+}
