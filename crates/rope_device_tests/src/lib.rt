@@ -3,6 +3,7 @@
 //! No contract shows these:
 //! - a device that failed is not asked again, and its error is the one that is answered;
 //! - which command a line stands for, and at which line and how a run ends;
+//! - a run of commands does all of them where memory is ample;
 //! - replies are flushed before the next read.
 //!
 //! The proofs show these too, and they are run for the compiler's sake: 500 random sessions of 60
