@@ -1,7 +1,5 @@
 //! Examples: small callers of ropes, each but the first with a contract that says what it did. They
 //! are proved from public contracts alone. docs/CALLING.md shows them, and `rope_tests` runs them.
-//!
-//! `surface` holds no examples: it uses every public item, so that none can be renamed unseen.
 #![tactic(auto)]
 
 pub mod copies;
@@ -13,5 +11,4 @@ pub mod lines;
 pub mod places;
 pub mod positions;
 pub mod search;
-pub mod surface;
 pub mod twins;

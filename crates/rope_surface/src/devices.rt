@@ -5,7 +5,7 @@ ghost use Rattle.std.specs.Io.KnownBytes.{Appends};
 ghost use Rattle.std.specs.Str.{encode_utf8_all};
 ghost use Rattle.ropey.specs.Texts.{AreUtf8Of};
 
-use ropey::io::{Mark, ReadError, Sink, Source, Watched};
+use ropey::io::{Failure, Mark, ReadError, Sink, Source, Watched};
 use ropey::{Error, LineBreaks, Rope};
 use std::alloc::Global;
 use std::io::{self, Read, Write};
@@ -22,6 +22,14 @@ pub fn failed<M: Mark>(device: &M) -> bool
     ensures { result ≡ M.marked device.now }
 {
     device.failed()
+}
+
+/// Returns the error with which a device failed, if it returned one.
+pub fn returned_error(failure: Failure) -> Option<io::Error> {
+    match failure {
+        Failure::Returned(error) => Some(error),
+        Failure::TookNone => None,
+    }
 }
 
 /// Reads from a source.

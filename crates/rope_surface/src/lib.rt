@@ -1,10 +1,10 @@
 //! Every public item of `ropey`, `rope_position`, `rope_script` and `rope_language`, used under its
 //! name, with its arguments in their order and with its types.
 //!
-//! This file fails to compile if an item is renamed or dropped, if a call takes an argument more or
-//! less, or if an argument, a field or a result has another type. Where two of them have the same
-//! type, a clause says which is which, and the prover refuses the two exchanged. Add a caller with
-//! every new public item; change a caller only where the public surface is to change.
+//! This crate fails to compile if an item is renamed or dropped, if a call takes an argument more
+//! or less, or if an argument, a field or a result has another type. Where two of them have the
+//! same type, a clause says which is which, and the prover refuses the two exchanged. Add a caller
+//! with every new public item; change a caller only where the public surface is to change.
 //!
 //! Left out is what `ropey` alone takes from `rope_slice`: `RopeSlice::of_node` and the variants of
 //! `RopeSlice`.
@@ -19,6 +19,7 @@
 //! - `devices`: readers and writers
 //! - `positions`: positions in lines
 //! - `commands`: commands, replies, and the line language
+#![tactic(auto)]
 
 pub mod commands;
 pub mod cursors;
