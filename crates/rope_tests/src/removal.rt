@@ -3,13 +3,13 @@ use rope_plain::failure::Failure;
 use rope_plain::same;
 use rope_text::LineBreaks;
 use rope_tree::build::build;
-use rope_tree::{Made, Maker, Node, remove_at};
+use rope_tree::{Editor, Made, Maker, Node, remove_at};
 use std::alloc::Global;
 
 /// Removes where the characters are there.
-fn remove(maker: &mut Maker, root: &mut Node, start: usize, end: usize) -> Made<bool> {
+fn remove(editor: &mut Editor, root: &mut Node, start: usize, end: usize) -> Made<bool> {
     if start < end && end <= root.info().chars {
-        return remove_at(maker, root, start, end);
+        return remove_at(editor, root, start, end);
     }
     Ok(false)
 }
@@ -40,18 +40,18 @@ fn becomes_of_lines<F: FnOnce(&mut Node) -> Result<(), Failure>>(
 }
 
 fn removes_in_place(alloc: Global, root: &mut Node) -> Result<(), Failure> {
-    let mut maker = Maker::new(alloc);
-    same!(remove(&mut maker, root, 4000, 4008), Ok(true));
-    same!(maker.made, 0);
+    let mut editor = Editor::new(alloc);
+    same!(remove(&mut editor, root, 4000, 4008), Ok(true));
+    same!(editor.maker.made, 0);
     same!([root.info().bytes, root.info().break_count], [7992, 999]);
     Ok(())
 }
 
 fn removes_by_copies(alloc: Global, root: &mut Node) -> Result<(), Failure> {
-    let mut maker = Maker::new(alloc);
+    let mut editor = Editor::new(alloc);
     let other = root.share()?;
-    same!(remove(&mut maker, root, 4003, 4005), Ok(true));
-    same!(maker.made, 2);
+    same!(remove(&mut editor, root, 4003, 4005), Ok(true));
+    same!(editor.maker.made, 2);
     same!([root.info().chars, other.info().chars], [7990, 7992]);
     Ok(())
 }
@@ -66,28 +66,28 @@ fn removes_in_place_or_by_copies(rt: HostRuntime) -> Result<(), Failure> {
 }
 
 fn removes_in_no_two_leaves(alloc: Global, root: &mut Node) -> Result<(), Failure> {
-    let mut maker = Maker::new(alloc);
-    same!(remove(&mut maker, root, 0, 2000), Ok(false));
+    let mut editor = Editor::new(alloc);
+    same!(remove(&mut editor, root, 0, 2000), Ok(false));
     same!(root.info().chars, 8000);
     Ok(())
 }
 
 fn removes_no_whole_leaf(alloc: Global, leaf: &mut Node) -> Result<(), Failure> {
-    let mut maker = Maker::new(alloc);
-    same!(remove(&mut maker, leaf, 0, 6), Ok(false));
-    same!(remove(&mut maker, leaf, 1, 6), Ok(true));
+    let mut editor = Editor::new(alloc);
+    same!(remove(&mut editor, leaf, 0, 6), Ok(false));
+    same!(remove(&mut editor, leaf, 1, 6), Ok(true));
     same!(leaf.info().bytes, 1);
     Ok(())
 }
 
 // Leaves of 984 bytes: at a leaf's ends no LF may come first and no CR last; inside they may meet.
 fn bares_no_end(alloc: Global, root: &mut Node) -> Result<(), Failure> {
-    let mut maker = Maker::new(alloc);
-    same!(remove(&mut maker, root, 983, 984), Ok(false));
-    same!(remove(&mut maker, root, 984, 991), Ok(false));
-    same!(remove(&mut maker, root, 982, 984), Ok(true));
+    let mut editor = Editor::new(alloc);
+    same!(remove(&mut editor, root, 983, 984), Ok(false));
+    same!(remove(&mut editor, root, 984, 991), Ok(false));
+    same!(remove(&mut editor, root, 982, 984), Ok(true));
     same!(root.info().break_count, 999);
-    same!(remove(&mut maker, root, 7, 15), Ok(true));
+    same!(remove(&mut editor, root, 7, 15), Ok(true));
     same!([root.info().break_count, root.info().chars], [998, 7990]);
     Ok(())
 }
