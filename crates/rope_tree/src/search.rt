@@ -363,7 +363,7 @@ pub(crate) fn try_place(
 {
     let are_few = totals.len() < MIN_CHILDREN;
     if follows && !are_few && likely < totals.len() {
-        editor.compares = editor.compares.saturating_add(2);
+        editor.compare_two();
         // Both comparisons are made, so that there is one branch to predict.
         let is_before = at < count(totals.get(likely), Unit::Char);
         let is_behind = likely == 0 || count(totals.get(likely - 1), Unit::Char) <= at;

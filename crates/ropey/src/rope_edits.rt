@@ -4,7 +4,7 @@
 //! With the text `"held"`, `insert(3, "lo worl")` makes `"hello world"`. From there `remove(5..)`
 //! leaves `"hello"`; `split_off(6)` leaves `"hello "` and returns a rope of `"world"`, and an
 //! `append` of that puts it back.
-ghost use Rattle.std.specs.Prelude.{◌≡◌, ◌+◌, ◌*◌, ◌<◌, ◌≤◌, ◌^◌, [], ◌∷◌, length, None, Some, IsOk, IfErr, OnOk, max, IfOk};
+ghost use Rattle.std.specs.Prelude.{true, ◌≡◌, ◌+◌, ◌*◌, ◌<◌, ◌≤◌, ◌^◌, [], ◌∷◌, length, None, Some, IsOk, IfErr, OnOk, max, IfOk};
 ghost use Rattle.std.specs.Str.{chars};
 ghost use Rattle.rope_text.specs.declared.TheConstants.{MAX_SHORT_BYTES};
 ghost use Rattle.rope_text.specs.Text.{byte_len};
@@ -46,7 +46,7 @@ impl Rope {
         ensures outside { length (chars text.now) ≡ 0 → editor.new ≡ editor.old }
         ensures too_long { 2 ^ 63 ≤ byte_len self.old.text + length text.now
             → editor.new ≡ editor.old }
-        ensures inside { 1 ≤ length text.now
+        ensures inside { editor.old.is_counting ≡ true → 1 ≤ length text.now
             → byte_len self.old.text + length text.now < 2 ^ 63 → 1 ≤ editor.new.nodes }
     {
         let bytes = self.len_bytes();
@@ -103,7 +103,7 @@ impl Rope {
             → CanInsert self.old.text char_idx (chars text.now) → IsIdle result self.old self.new }
         ensures kept { IsEdit result self.old self.new }
     {
-        self.insert_counted(char_idx, text, &mut Steps::new())
+        self.insert_by(&mut Editor::uncounted(self.alloc), char_idx, text)
     }
 
     /// Inserts `text` as [`insert`](Rope::insert) does, and sets all counts of `steps` to those of
@@ -176,7 +176,7 @@ impl Rope {
         ensures refused { IfErr result (IsInsertRefusal self.old.text char_idx (c ∷ [])) }
         ensures kept { IsEdit result self.old self.new }
     {
-        self.insert_char_counted(char_idx, c, &mut Steps::new())
+        self.insert(char_idx, c.encode_utf8(&mut [0; 4]))
     }
 
     /// Inserts the character `c` as [`insert_char`](Rope::insert_char) does, and sets all counts of
@@ -271,6 +271,34 @@ impl Rope {
         })
     }
 
+    // Removes a range, and counts what that takes.
+    #[inline(always)]
+    fn remove_by<R: IndexRange>(&mut self, editor: &mut Editor, range: R) -> Result<()>
+        requires { HasCharRange self.old.text (R.given_start range) (R.given_end range) }
+        ensures ok { OnOk result
+            (IsRemoval self.old.text (R.given_start range) (R.given_end range) self.new.text) }
+        ensures refused { IfErr result (λ e. e ≡ OutOfMemory) }
+        ensures empty { IsEmptyRange self.old.text (R.given_start range) (R.given_end range)
+            → IsIdle result self.old self.new }
+        ensures kept { IsEdit result self.old self.new }
+        ensures made { editor.new.maker.made
+            ≤ editor.old.maker.made + removal_nodes self.old.depth }
+        ensures searched { HasSearched (7 * self.old.depth + 5) (37 * self.old.depth)
+            editor.old editor.new }
+        ensures outside { IsEmptyRange self.old.text (R.given_start range) (R.given_end range)
+            → editor.new ≡ editor.old }
+        ensures inside { editor.old.is_counting ≡ true → editor.new.nodes < 1
+            → IsEmptyRange self.old.text (R.given_start range) (R.given_end range) }
+    {
+        let (start, end) = char_bounds(&range, self.len_chars()).unwrap();
+        if start == end {
+            return Ok(());
+        }
+        editor.enter();
+        let removed = remove(editor, &mut self.root, start, end);
+        Ok(removed?)
+    }
+
     /// As `remove`, for any range.
     ///
     /// # Errors
@@ -313,7 +341,7 @@ impl Rope {
             → IsIdle result self.old self.new }
         ensures kept { IsEdit result self.old self.new }
     {
-        self.remove_counted(range, &mut Steps::new())
+        self.remove_by(&mut Editor::uncounted(self.alloc), range)
     }
 
     /// Removes a range as [`remove`](Rope::remove) does, and sets all counts of `steps` to those of
@@ -341,16 +369,10 @@ impl Rope {
         ensures steps_inside { steps.new.nodes < 1
             → IsEmptyRange self.old.text (R.given_start range) (R.given_end range) }
     {
-        *steps = Steps::new();
-        let (start, end) = char_bounds(&range, self.len_chars()).unwrap();
-        if start == end {
-            return Ok(());
-        }
         let mut editor = Editor::new(self.alloc);
-        editor.enter();
-        let removed = remove(&mut editor, &mut self.root, start, end);
+        let removed = self.remove_by(&mut editor, range);
         *steps = editor.steps();
-        Ok(removed?)
+        removed
     }
 
     // Refuses a rope by its set of line breaks, or by the length that the text would have.
