@@ -1,0 +1,4 @@
+pub mod Ops
+pub mod Combined
+pub mod Moved
+pub mod Laws
