@@ -1,2 +1,7 @@
 pub mod ChangeLaws
 pub mod MovedLaws
+pub mod Prefixes
+pub mod Edits
+pub mod Steps
+pub mod Appended
+pub mod Lasts

@@ -6,7 +6,7 @@ use Rattle.rope_changes.specs.Moved.{moved_before, moved_after, moved}
 use Rattle.rope_changes.specs.declared.side.Side.{Side}
 use Rattle.rope_changes.specs.declared.side.Side.TheVariants.{Before, After}
 
-moved_zero : (a : List Op) → moved_before a zero ≡ zero
+pub moved_zero : (a : List Op) → moved_before a zero ≡ zero
 moved_zero [] = refl
 moved_zero (keep ∷ a) = refl
 moved_zero (delete ∷ a) = refl

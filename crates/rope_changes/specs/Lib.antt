@@ -1,4 +1,5 @@
 pub mod Ops
 pub mod Combined
 pub mod Moved
+pub mod Change
 pub mod Laws

@@ -5,10 +5,16 @@
 //!
 //! Modules, lowest first:
 //! - `side`: on which side of inserted text an index stays
+//! - `error`: why a call fails
+//! - `change_set`: changes as replacements in order
 //! - `laws`: what compositions, inverses and rebased changes do
 #![tactic(auto)]
 
+mod change_set;
+mod error;
 pub mod laws;
 mod side;
 
+pub use change_set::ChangeSet;
+pub use error::ChangeError;
 pub use side::Side;
