@@ -5,3 +5,5 @@ pub mod Edits
 pub mod Steps
 pub mod Appended
 pub mod Lasts
+pub mod Runs
+pub mod Spliced

@@ -1,14 +1,21 @@
 //! Change sets: the replacements of a change, in order.
-ghost use Rattle.std.specs.Prelude.{◌≡◌, ◌+◌, [], ◌<◌, ◌≤◌, ◌^◌, ◌↔◌, IsTrue, IfOk, IfErr, IsOk, OnOk, OnErr, length, map};
+ghost use Rattle.std.specs.Prelude.{◌≡◌, ◌+◌, [], ◌≢◌, ◌<◌, ◌≤◌, ◌^◌, ◌↔◌, IsTrue, IfOk, IfErr, IsOk, OnOk, OnErr, length, map};
 ghost use Rattle.std.specs.List.{All};
 ghost use Rattle.std.specs.Str.{chars};
-ghost use Rattle.rope_changes.specs.declared.error.ChangeError.TheVariants.{RangeInvalid, RangeOutOfBounds, OutOfOrder, TooLong, OutOfMemory};
+ghost use Rattle.rope_changes.specs.declared.error.ChangeError.TheVariants.{RangeInvalid, RangeOutOfBounds, LengthDiffers, OutOfOrder, TooLong, OutOfMemory};
 ghost use Rattle.rope_changes.specs.Change.{before, after, ops, last_end, IsNormal, IsInOrder, replaced, replaced_len, extended, appended, edit_of, IsCounted, LastFits};
+ghost use Rattle.rope_changes.specs.Ops.{run};
+ghost use Rattle.rope_changes.specs.Applied.{inserted_bytes};
+ghost use Rattle.rope_text.specs.Text.{byte_len};
 ghost use Rattle.rope_changes.specs.Moved.{moved};
+ghost use Rattle.ropey.specs.View.{IsRope};
 
 use crate::error::ChangeError;
 use crate::side::Side;
+use crate::splice::splice;
+use rope_text::MAX_TEXT_BYTES;
 use rope_text::str_utils::count_chars;
+use ropey::Rope;
 use std::alloc::Global;
 use std::marker::Model;
 
@@ -101,6 +108,19 @@ fn add(
         return Err(ChangeError::OutOfMemory);
     }
     Ok(())
+}
+
+// Whether the texts of the replacements have at most `room` bytes.
+fn has_room(edits: &Vec<Replacement>, mut room: usize) -> bool
+    ensures { IsTrue result ↔ (inserted_bytes (map edit_of edits.now.items) ≤ room) }
+{
+    for edit in edits {
+        if edit.text.len() > room {
+            return false;
+        }
+        room -= edit.text.len();
+    }
+    true
 }
 
 impl ChangeSet {
@@ -197,6 +217,53 @@ impl ChangeSet {
         add(self.alloc, &mut self.edits, kept, text, inserted, deleted)?;
         self.rest = self.len_before - end;
         self.len_after = others + inserted;
+        Ok(())
+    }
+
+    /// Applies the change to the text of a rope, whose set of line breaks stays. An empty change
+    /// takes no memory and leaves the rope as it was.
+    ///
+    /// # Errors
+    ///
+    /// First `LengthDiffers`, with both lengths, if the rope's length isn't `len_before()`; then
+    /// `TooLong`, if its text and the texts that the change inserts have more than `isize::MAX`
+    /// bytes together; then `OutOfMemory`. A call that fails leaves the rope as it was.
+    pub fn apply(&self, rope: &mut Rope) -> Result<(), ChangeError>
+        ensures differs { length rope.old.text ≢ before self.now
+            → result ≡ Err (LengthDiffers (before self.now) (length rope.old.text)) }
+        ensures too_long { length rope.old.text ≡ before self.now
+            → 2 ^ 63 ≤ byte_len rope.old.text + inserted_bytes self.now.edits
+            → result ≡ Err TooLong }
+        ensures memory { length rope.old.text ≡ before self.now
+            → byte_len rope.old.text + inserted_bytes self.now.edits < 2 ^ 63
+            → IfErr result (λ e. e ≡ OutOfMemory) }
+        ensures empty { length rope.old.text ≡ before self.now → self.now.edits ≡ []
+            → IsOk result × (rope.new ≡ rope.old) }
+        ensures ok { OnOk result (rope.new.text ≡ run (ops self.now) rope.old.text) }
+        ensures err { OnErr result (rope.new ≡ rope.old) }
+        ensures breaks { rope.new.breaks ≡ rope.old.breaks }
+        ensures kept { IsRope rope.new }
+    {
+        let len = rope.len_chars();
+        if len != self.len_before {
+            return Err(ChangeError::LengthDiffers(self.len_before, len));
+        }
+        if self.is_empty() {
+            return Ok(());
+        }
+        if !has_room(&self.edits, MAX_TEXT_BYTES - rope.len_bytes()) {
+            return Err(ChangeError::TooLong);
+        }
+        let Ok(mut edited) = rope.clone() else {
+            return Err(ChangeError::OutOfMemory);
+        };
+        let mut at = 0;
+        for edit in &self.edits {
+            let start = at + edit.kept;
+            splice(&mut edited, start, start + edit.deleted, edit.text.as_str())?;
+            at = start + edit.inserted;
+        }
+        *rope = edited;
         Ok(())
     }
 

@@ -14,6 +14,7 @@ mod change_set;
 mod error;
 pub mod laws;
 mod side;
+mod splice;
 
 pub use change_set::ChangeSet;
 pub use error::ChangeError;
