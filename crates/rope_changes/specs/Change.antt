@@ -1,0 +1,121 @@
+-- A change as its replacements.
+use Rattle.std.specs.Prelude.{◌≡◌, ℕ, zero, suc, ◌+◌, ◌-◌, ◌<◌, ◌≤◌, ◌^◌, List, [], ◌∷◌, ◌++◌, length, map}
+use Rattle.std.specs.List.{All}
+use Rattle.std.specs.Str.{chars}
+use Rattle.std.specs.String.{string_bytes}
+use Rattle.rope_changes.specs.Ops.{Op, keep, delete, insert, len_before, len_after}
+use Rattle.rope_changes.specs.declared.change_set.Replacement.{Replacement}
+use Rattle.rope_changes.specs.declared.change_set.ChangeSet.TheInside.{Inside}
+
+-- a replacement: so many characters are kept, then a text is inserted, and then so many characters are deleted
+pub record Edit : Type 0 where
+  pub kept : ℕ
+  pub text : List ℕ
+  pub deleted : ℕ
+
+-- replacements in order, and the number of characters kept after the last one
+pub record Change : Type 0 where
+  pub edits : List Edit
+  pub rest : ℕ
+
+-- operations that keep n characters, delete n, or insert a text, and then others
+abbrev pub keeping : ℕ → List Op → List Op
+keeping zero ops = ops
+keeping (suc n) ops = keep ∷ keeping n ops
+
+abbrev pub deleting : ℕ → List Op → List Op
+deleting zero ops = ops
+deleting (suc n) ops = delete ∷ deleting n ops
+
+abbrev pub inserting : List ℕ → List Op → List Op
+inserting [] ops = ops
+inserting (c ∷ text) ops = insert c ∷ inserting text ops
+
+abbrev pub ops_of : List Edit → ℕ → List Op
+ops_of [] rest = keeping rest []
+ops_of (e ∷ edits) rest = keeping e.kept (inserting e.text (deleting e.deleted (ops_of edits rest)))
+
+-- a change as a list of operations
+abbrev pub ops : Change → List Op
+ops c = ops_of c.edits c.rest
+
+-- the length of a text that it is a change of, and of the text after it
+abbrev pub before : Change → ℕ
+before c = len_before (ops c)
+
+abbrev pub after : Change → ℕ
+after c = len_after (ops c)
+
+-- the end of the last replacement, as an index of the text before
+abbrev pub last_end : Change → ℕ
+last_end c = before c - c.rest
+
+-- normal form: each replacement changes something, and each but the first keeps a character before it
+abbrev pub AreApart : List Edit → Type 0
+AreApart [] = Unit {0}
+AreApart (e ∷ edits) = (1 ≤ e.kept) × (1 ≤ length e.text + e.deleted) × AreApart edits
+
+abbrev pub AreNormal : List Edit → Type 0
+AreNormal [] = Unit {0}
+AreNormal (e ∷ edits) = (1 ≤ length e.text + e.deleted) × AreApart edits
+
+abbrev pub IsNormal : Change → Type 0
+IsNormal c = AreNormal c.edits
+
+-- a replacement that inserts and deletes more at its end
+abbrev pub extended : Edit → List ℕ → ℕ → Edit
+extended e text deleted = record { kept = e.kept; text = e.text ++ text; deleted = e.deleted + deleted }
+
+-- a replacement and then one of what comes after it, which extends it if no character is kept between them
+abbrev pub joined : Edit → ℕ → List ℕ → ℕ → List Edit
+joined e zero text deleted = extended e text deleted ∷ []
+joined e (suc kept) text deleted = e ∷ record { kept = suc kept; text = text; deleted = deleted } ∷ []
+
+abbrev pub appended : List Edit → ℕ → List ℕ → ℕ → List Edit
+appended [] kept text deleted = record { kept = kept; text = text; deleted = deleted } ∷ []
+appended (e ∷ []) kept text deleted = joined e kept text deleted
+appended (e ∷ f ∷ edits) kept text deleted = e ∷ appended (f ∷ edits) kept text deleted
+
+-- a change, or another one if that inserts or deletes so many characters, and some
+abbrev pub if_some : ℕ → Change → Change → Change
+if_some zero c new = c
+if_some (suc n) c new = new
+
+-- a change that also replaces the characters from `start` up to `end` of the text before, after its last replacement
+abbrev pub replaced : Change → ℕ → ℕ → List ℕ → Change
+replaced c start end text =
+    if_some (length text + (end - start)) c (record { edits = appended c.edits (start - last_end c) text (end - start); rest = before c - end })
+
+-- the range is one of the text before, after the last replacement
+pub record IsInOrder (c : Change) (start end : ℕ) : Type 0 where
+  pub valid : start ≤ end
+  pub within : end ≤ before c
+  pub later : last_end c ≤ start
+
+-- the length of the text after such a replacement
+abbrev pub replaced_len : Change → ℕ → ℕ → List ℕ → ℕ
+replaced_len c start end text = after c - (end - start) + length text
+
+abbrev pub edit_of : Replacement → Edit
+edit_of r = record { kept = r.kept; text = chars (string_bytes r.text); deleted = r.deleted }
+
+abbrev pub change_of : Inside → Change
+change_of a = record { edits = map edit_of a.edits.items; rest = a.rest }
+
+-- the number of characters of its text is the one that it holds
+abbrev pub IsCounted : Replacement → Type 0
+IsCounted r = r.inserted ≡ length (chars (string_bytes r.text))
+
+-- the last of the replacements can insert and delete so many characters more
+abbrev pub LastFits : List Replacement → ℕ → ℕ → Type 0
+LastFits items inserted deleted = (front : List Replacement) (last : Replacement) → items ≡ front ++ last ∷ []
+    → (last.inserted + inserted < 2 ^ 64) × (last.deleted + deleted < 2 ^ 64)
+
+-- each text is counted, both lengths are those of texts, and the replacements are in normal form
+pub record IsChangeSet (a : Inside) : Type 0 where
+  pub counted : All IsCounted a.edits.items
+  pub before_is : a.len_before ≡ before (change_of a)
+  pub after_is : a.len_after ≡ after (change_of a)
+  pub before_fits : a.len_before < 2 ^ 63
+  pub after_fits : a.len_after < 2 ^ 63
+  pub normal : IsNormal (change_of a)

@@ -1,0 +1,31 @@
+-- What changes have in common.
+use Rattle.std.specs.Prelude.{◌≡◌, ℕ, ◌≤◌, List, length}
+use Rattle.rope_changes.specs.Ops.{Op, run, len_before, len_after}
+use Rattle.rope_changes.specs.Combined.{compose, inverse, rebase_first, rebase_second}
+use Rattle.rope_changes.specs.Moved.{moved, moved_before}
+use Rattle.rope_changes.specs.declared.side.Side.{Side}
+
+-- the text after a change of a text of the length before has the length after
+abbrev pub LengthsAgree : Type 0
+LengthsAgree = (a : List Op) (text : List ℕ) → len_before a ≡ length text → length (run a text) ≡ len_after a
+
+-- a composition does what its two changes do in a row
+abbrev pub ComposeApplies : Type 0
+ComposeApplies = (a b : List Op) (text : List ℕ) → len_before a ≤ length text → run (compose a b) text ≡ run b (run a text)
+
+-- an inverse leads back
+abbrev pub InverseApplies : Type 0
+InverseApplies = (a : List Op) (text : List ℕ) → len_before a ≤ length text → run (inverse a text) (run a text) ≡ text
+
+-- two changes of one text lead to the same text, whichever comes first
+abbrev pub Converges : Type 0
+Converges = (a b : List Op) (text : List ℕ) → len_before a ≤ length text → len_before b ≤ length text
+    → run (rebase_second a b) (run a text) ≡ run (rebase_first a b) (run b text)
+
+-- an index moves through a composition as through its two changes, if it stays before inserted text
+abbrev pub MovesCompose : Type 0
+MovesCompose = (a b : List Op) (index : ℕ) → moved_before (compose a b) index ≡ moved_before b (moved_before a index)
+
+-- indices keep their order
+abbrev pub MovesKeepOrder : Type 0
+MovesKeepOrder = (side : Side) (a : List Op) (i j : ℕ) → i ≤ j → moved side a i ≤ moved side a j

@@ -1,0 +1,6 @@
+pub mod Ops
+pub mod Combined
+pub mod Moved
+pub mod Change
+pub mod Applied
+pub mod Laws

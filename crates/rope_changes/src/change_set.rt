@@ -1,0 +1,293 @@
+//! Change sets: the replacements of a change, in order.
+ghost use Rattle.std.specs.Prelude.{◌≡◌, ◌+◌, [], ◌≢◌, ◌<◌, ◌≤◌, ◌^◌, ◌↔◌, IsTrue, IfOk, IfErr, IsOk, OnOk, OnErr, length, map};
+ghost use Rattle.std.specs.List.{All};
+ghost use Rattle.std.specs.Str.{chars};
+ghost use Rattle.rope_changes.specs.declared.error.ChangeError.TheVariants.{RangeInvalid, RangeOutOfBounds, LengthDiffers, OutOfOrder, TooLong, OutOfMemory};
+ghost use Rattle.rope_changes.specs.Change.{before, after, ops, last_end, IsNormal, IsInOrder, replaced, replaced_len, extended, appended, edit_of, IsCounted, LastFits};
+ghost use Rattle.rope_changes.specs.Ops.{run};
+ghost use Rattle.rope_changes.specs.Applied.{inserted_bytes};
+ghost use Rattle.rope_text.specs.Text.{byte_len};
+ghost use Rattle.rope_changes.specs.Moved.{moved};
+ghost use Rattle.ropey.specs.View.{IsRope};
+
+use crate::error::ChangeError;
+use crate::side::Side;
+use crate::splice::splice;
+use rope_text::MAX_TEXT_BYTES;
+use rope_text::str_utils::count_chars;
+use ropey::Rope;
+use std::alloc::Global;
+use std::marker::Model;
+
+/// The longest text of a change, in characters.
+const MAX_LEN: usize = 9_223_372_036_854_775_807;
+
+/// Characters that are kept, then a text that is inserted, then characters that are deleted.
+#[derive(Drop)]
+struct Replacement {
+    kept: usize,
+    text: String,
+    /// The number of characters of the text.
+    inserted: usize,
+    deleted: usize,
+}
+
+/// A change of a text of a given length: replacements of ranges, in order. Contracts see it as its
+/// replacements.
+#[derive(Drop)]
+pub struct ChangeSet {
+    edits: Vec<Replacement>,
+    rest: usize,
+    len_before: usize,
+    len_after: usize,
+    alloc: Global,
+}
+
+impl Model for ChangeSet {
+    ghost use Rattle.rope_changes.specs.Change.{Change, change_of, IsChangeSet};
+
+    ghost Value = { Change };
+
+    ghost view = { change_of };
+
+    ghost invariant = { IsChangeSet };
+}
+
+impl Replacement {
+    // Inserts and deletes more at the end.
+    fn extend(&mut self, text: &str, inserted: usize, deleted: usize) -> Result<(), ChangeError>
+        requires counted { inserted ≡ length (chars text.now) }
+        requires inserts { self.old.inserted + inserted < 2 ^ 64 }
+        requires deletes { self.old.deleted + deleted < 2 ^ 64 }
+        ensures ok { OnOk result
+            (edit_of self.new ≡ extended (edit_of self.old) (chars text.now) deleted) }
+        ensures refused { IfErr result (λ e. e ≡ OutOfMemory) }
+        ensures kept { OnErr result (edit_of self.new ≡ edit_of self.old) }
+        ensures counts { IsCounted self.old → IsCounted self.new }
+    {
+        if self.text.push_str(text).is_err() {
+            return Err(ChangeError::OutOfMemory);
+        }
+        self.inserted += inserted;
+        self.deleted += deleted;
+        Ok(())
+    }
+}
+
+// Adds a replacement after the last one, or extends that one if no character is kept between them.
+fn add(
+    alloc: Global,
+    edits: &mut Vec<Replacement>,
+    kept: usize,
+    text: &str,
+    inserted: usize,
+    deleted: usize,
+) -> Result<(), ChangeError>
+    requires counted { inserted ≡ length (chars text.now) }
+    requires fits { LastFits edits.old.items inserted deleted }
+    ensures ok { OnOk result (map edit_of edits.new.items
+        ≡ appended (map edit_of edits.old.items) kept (chars text.now) deleted) }
+    ensures refused { IfErr result (λ e. e ≡ OutOfMemory) }
+    ensures kept { OnErr result (map edit_of edits.new.items ≡ map edit_of edits.old.items) }
+    ensures counts { All IsCounted edits.old.items → All IsCounted edits.new.items }
+{
+    let count = edits.len();
+    if kept == 0 && count > 0 {
+        return edits[count - 1].extend(text, inserted, deleted);
+    }
+    let Ok(text) = String::from_str(alloc, text) else {
+        return Err(ChangeError::OutOfMemory);
+    };
+    let added = Replacement {
+        kept,
+        text,
+        inserted,
+        deleted,
+    };
+    if edits.push(added).is_err() {
+        return Err(ChangeError::OutOfMemory);
+    }
+    Ok(())
+}
+
+// Whether the texts of the replacements have at most `room` bytes.
+fn has_room(edits: &Vec<Replacement>, mut room: usize) -> bool
+    ensures { IsTrue result ↔ (inserted_bytes (map edit_of edits.now.items) ≤ room) }
+{
+    for edit in edits {
+        if edit.text.len() > room {
+            return false;
+        }
+        room -= edit.text.len();
+    }
+    true
+}
+
+impl ChangeSet {
+    /// Creates a change that keeps all of a text of `len` characters. Takes no memory.
+    ///
+    /// # Errors
+    ///
+    /// `TooLong`, exactly if `len` is above `isize::MAX`.
+    pub fn new(alloc: Global, len: usize) -> Result<ChangeSet, ChangeError>
+        ensures ok { len < 2 ^ 63 → IsOk result }
+        ensures keeps { IfOk result (λ change. change ≡ record { edits = []; rest = len }) }
+        ensures too_long { IfErr result (λ e. e ≡ TooLong) }
+    {
+        if len > MAX_LEN {
+            return Err(ChangeError::TooLong);
+        }
+        Ok(ChangeSet {
+            edits: Vec::new(alloc),
+            rest: len,
+            len_before: len,
+            len_after: len,
+            alloc,
+        })
+    }
+
+    /// Returns the number of characters of the texts that it is a change of.
+    pub fn len_before(&self) -> usize
+        ensures { result ≡ before self.now }
+    {
+        self.len_before
+    }
+
+    /// Returns the number of characters of a text after the change.
+    pub fn len_after(&self) -> usize
+        ensures { result ≡ after self.now }
+    {
+        self.len_after
+    }
+
+    /// Returns whether the change inserts and deletes nothing.
+    pub fn is_empty(&self) -> bool
+        ensures empty { IsTrue result ↔ (self.now.edits ≡ []) }
+        ensures normal { IsNormal self.now }
+    {
+        self.edits.is_empty()
+    }
+
+    /// Replaces the characters from `start` up to `end` by `text`. The indices are those of the
+    /// text before the change, and the range comes after the last one that the change replaces. If
+    /// it begins at the end of that one, the two become one replacement. An empty range that is
+    /// replaced by an empty text changes nothing and takes no memory.
+    ///
+    /// # Errors
+    ///
+    /// First `RangeInvalid`, then `RangeOutOfBounds`, then `OutOfOrder`, each with both numbers;
+    /// then `TooLong`, if the text after the change would have more than `isize::MAX` characters;
+    /// then `OutOfMemory`. A call that fails leaves the change as it was.
+    pub fn replace(&mut self, start: usize, end: usize, text: &str) -> Result<(), ChangeError>
+        ensures invalid { end < start → result ≡ Err (RangeInvalid start end) }
+        ensures outside { start ≤ end → before self.old < end
+            → result ≡ Err (RangeOutOfBounds end (before self.old)) }
+        ensures out_of_order { start ≤ end → end ≤ before self.old → start < last_end self.old
+            → result ≡ Err (OutOfOrder start (last_end self.old)) }
+        ensures too_long { IsInOrder self.old start end
+            → 2 ^ 63 ≤ replaced_len self.old start end (chars text.now) → result ≡ Err TooLong }
+        ensures memory { IsInOrder self.old start end
+            → replaced_len self.old start end (chars text.now) < 2 ^ 63
+            → IfErr result (λ e. e ≡ OutOfMemory) }
+        ensures empty { IsInOrder self.old start end → start ≡ end → length (chars text.now) ≡ 0
+            → IsOk result }
+        ensures ok { OnOk result (self.new ≡ replaced self.old start end (chars text.now)) }
+        ensures kept { OnErr result (self.new ≡ self.old) }
+    {
+        if start > end {
+            return Err(ChangeError::RangeInvalid(start, end));
+        }
+        if end > self.len_before {
+            return Err(ChangeError::RangeOutOfBounds(end, self.len_before));
+        }
+        let last_end = self.len_before - self.rest;
+        if start < last_end {
+            return Err(ChangeError::OutOfOrder(start, last_end));
+        }
+        let inserted = count_chars(text);
+        let deleted = end - start;
+        if inserted == 0 && deleted == 0 {
+            return Ok(());
+        }
+        let others = self.len_after - deleted;
+        if inserted > MAX_LEN - others {
+            return Err(ChangeError::TooLong);
+        }
+        let kept = start - last_end;
+        add(self.alloc, &mut self.edits, kept, text, inserted, deleted)?;
+        self.rest = self.len_before - end;
+        self.len_after = others + inserted;
+        Ok(())
+    }
+
+    /// Applies the change to the text of a rope, whose set of line breaks stays. An empty change
+    /// takes no memory and leaves the rope as it was.
+    ///
+    /// # Errors
+    ///
+    /// First `LengthDiffers`, with both lengths, if the rope's length isn't `len_before()`; then
+    /// `TooLong`, if its text and the texts that the change inserts have more than `isize::MAX`
+    /// bytes together; then `OutOfMemory`. A call that fails leaves the rope as it was.
+    pub fn apply(&self, rope: &mut Rope) -> Result<(), ChangeError>
+        ensures differs { length rope.old.text ≢ before self.now
+            → result ≡ Err (LengthDiffers (before self.now) (length rope.old.text)) }
+        ensures too_long { length rope.old.text ≡ before self.now
+            → 2 ^ 63 ≤ byte_len rope.old.text + inserted_bytes self.now.edits
+            → result ≡ Err TooLong }
+        ensures memory { length rope.old.text ≡ before self.now
+            → byte_len rope.old.text + inserted_bytes self.now.edits < 2 ^ 63
+            → IfErr result (λ e. e ≡ OutOfMemory) }
+        ensures empty { length rope.old.text ≡ before self.now → self.now.edits ≡ []
+            → IsOk result × (rope.new ≡ rope.old) }
+        ensures ok { OnOk result (rope.new.text ≡ run (ops self.now) rope.old.text) }
+        ensures err { OnErr result (rope.new ≡ rope.old) }
+        ensures breaks { rope.new.breaks ≡ rope.old.breaks }
+        ensures kept { IsRope rope.new }
+    {
+        let len = rope.len_chars();
+        if len != self.len_before {
+            return Err(ChangeError::LengthDiffers(self.len_before, len));
+        }
+        if self.is_empty() {
+            return Ok(());
+        }
+        if !has_room(&self.edits, MAX_TEXT_BYTES - rope.len_bytes()) {
+            return Err(ChangeError::TooLong);
+        }
+        let Ok(mut edited) = rope.clone() else {
+            return Err(ChangeError::OutOfMemory);
+        };
+        let mut at = 0;
+        for edit in &self.edits {
+            let start = at + edit.kept;
+            splice(&mut edited, start, start + edit.deleted, edit.text.as_str())?;
+            at = start + edit.inserted;
+        }
+        *rope = edited;
+        Ok(())
+    }
+
+    /// Returns the index in the text after the change of a character, or of the end, of the text
+    /// before. If text is inserted at the index, it stays on the given side of that text; if its
+    /// character is deleted, it goes to where that was. An index past the end moves with the end.
+    pub fn map(&self, char_idx: usize, side: Side) -> usize
+        requires { char_idx ≤ before self.now }
+        ensures { result ≡ moved side (ops self.now) char_idx }
+    {
+        let mut left = char_idx;
+        let mut moved = 0;
+        for edit in &self.edits {
+            if left < edit.kept {
+                return moved + left;
+            }
+            left -= edit.kept;
+            moved += edit.kept;
+            if side.stays(left) {
+                return moved;
+            }
+            moved += edit.inserted;
+            left = left.saturating_sub(edit.deleted);
+        }
+        moved + left
+    }
+}

@@ -1,0 +1,20 @@
+//! Laws: what compositions, inverses and rebased changes do to a text, and how indices move.
+ghost use Rattle.rope_changes.specs.Laws.{LengthsAgree, ComposeApplies, InverseApplies, Converges, MovesCompose, MovesKeepOrder};
+
+/// It does nothing; its contract is the laws of changes. A composition does what its two changes do
+/// in a row, and an inverse leads back to the text before. Of two changes of one text each can be
+/// rebased over the other, and both ways lead to the same text.
+pub fn changes_agree()
+    ensures lengths { LengthsAgree }
+    ensures compose { ComposeApplies }
+    ensures inverse { InverseApplies }
+    ensures converge { Converges }
+{}
+
+/// It does nothing; its contract is the laws of moved indices. They keep their order, and before
+/// inserted text they move through a composition as through its two changes. After inserted text
+/// they need not: an insert that a later change deletes leaves no trace in the composition.
+pub fn indices_move()
+    ensures compose { MovesCompose }
+    ensures order { MovesKeepOrder }
+{}

@@ -1,0 +1,31 @@
+//! A range of a rope's characters replaced by a text.
+ghost use Rattle.std.specs.Prelude.{◌≡◌, ◌≤◌, length, IfErr, OnOk};
+ghost use Rattle.std.specs.Str.{chars};
+ghost use Rattle.std.specs.List.{replace_range};
+ghost use Rattle.ropey.specs.View.{IsRope};
+ghost use Rattle.rope_changes.specs.declared.error.ChangeError.TheVariants.{OutOfMemory};
+
+use crate::error::ChangeError;
+use ropey::Rope;
+
+/// Replaces the characters from `start` up to `end` by a text that the rope has room for. A call
+/// that fails may leave the range removed.
+pub(crate) fn splice(
+    rope: &mut Rope,
+    start: usize,
+    end: usize,
+    text: &str,
+) -> Result<(), ChangeError>
+    requires ordered { start ≤ end }
+    requires within { end ≤ length rope.old.text }
+    ensures ok { OnOk result
+        (rope.new.text ≡ replace_range rope.old.text start end (chars text.now)) }
+    ensures refused { IfErr result (λ e. e ≡ OutOfMemory) }
+    ensures breaks { rope.new.breaks ≡ rope.old.breaks }
+    ensures kept { IsRope rope.new }
+{
+    if rope.remove(start..end).is_err() || rope.insert(start, text).is_err() {
+        return Err(ChangeError::OutOfMemory);
+    }
+    Ok(())
+}
