@@ -7,3 +7,4 @@ pub mod Appended
 pub mod Lasts
 pub mod Runs
 pub mod Spliced
+pub mod ReplacedLaws

@@ -192,6 +192,10 @@ impl ChangeSet {
         ensures empty { IsInOrder self.old start end → start ≡ end → length (chars text.now) ≡ 0
             → IsOk result }
         ensures ok { OnOk result (self.new ≡ replaced self.old start end (chars text.now)) }
+        ensures in_order { OnOk result (IsInOrder self.old start end) }
+        ensures len_before { before self.new ≡ before self.old }
+        ensures len_after { OnOk result
+            (after self.new ≡ replaced_len self.old start end (chars text.now)) }
         ensures kept { OnErr result (self.new ≡ self.old) }
     {
         if start > end {
@@ -268,8 +272,9 @@ impl ChangeSet {
     }
 
     /// Returns the index in the text after the change of a character, or of the end, of the text
-    /// before. If text is inserted at the index, it stays on the given side of that text; if its
-    /// character is deleted, it goes to where that was. An index past the end moves with the end.
+    /// before. Where text is inserted at the index, the result is on the given side of that text.
+    /// An index inside a replaced range, past its start, goes to the end of the new text. The index
+    /// is at most `len_before()`.
     pub fn map(&self, char_idx: usize, side: Side) -> usize
         requires { char_idx ≤ before self.now }
         ensures { result ≡ moved side (ops self.now) char_idx }

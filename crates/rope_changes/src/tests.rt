@@ -1,0 +1,50 @@
+//! Each public call once, against numbers by hand.
+use crate::{ChangeError, ChangeSet, Side};
+use ropey::Rope;
+use std::test::Fail;
+
+#[test]
+fn a_change_is_built_applied_and_mapped(rt: HostRuntime) -> Result<(), Fail> {
+    let mut rope = Rope::from_str(rt.alloc(), "one two")?;
+    let mut change = ChangeSet::new(rt.alloc(), 7)?;
+    assert!(rt; change.is_empty());
+    change.replace(0, 3, "1")?;
+    change.replace(4, 4, "and ")?;
+    change.replace(4, 7, "2")?;
+    assert!(rt; !change.is_empty());
+    assert_eq!(rt; change.len_before(), 7);
+    assert_eq!(rt; change.len_after(), 7);
+    assert_eq!(rt; change.map(0, Side::Before), 0);
+    assert_eq!(rt; change.map(1, Side::Before), 1);
+    assert_eq!(rt; change.map(3, Side::Before), 1);
+    assert_eq!(rt; change.map(4, Side::Before), 2);
+    assert_eq!(rt; change.map(4, Side::After), 7);
+    change.apply(&mut rope)?;
+    assert!(rt; rope.eq_str("1 and 2"));
+    Ok(())
+}
+
+#[test]
+fn errors_name_both_numbers(rt: HostRuntime) -> Result<(), Fail> {
+    let mut change = ChangeSet::new(rt.alloc(), 7)?;
+    change.replace(2, 5, "x")?;
+    assert_eq!(rt;
+        change.replace(6, 5, ""),
+        Err(ChangeError::RangeInvalid(6, 5))
+    );
+    assert_eq!(rt;
+        change.replace(6, 8, ""),
+        Err(ChangeError::RangeOutOfBounds(8, 7))
+    );
+    assert_eq!(rt;
+        change.replace(4, 6, ""),
+        Err(ChangeError::OutOfOrder(4, 5))
+    );
+    let mut rope = Rope::from_str(rt.alloc(), "one")?;
+    assert_eq!(rt;
+        change.apply(&mut rope),
+        Err(ChangeError::LengthDiffers(7, 3))
+    );
+    assert!(rt; rope.eq_str("one"));
+    Ok(())
+}
