@@ -8,3 +8,4 @@ pub mod Lasts
 pub mod Runs
 pub mod Spliced
 pub mod ReplacedLaws
+pub mod InvertedLaws

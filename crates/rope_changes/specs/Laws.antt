@@ -4,6 +4,7 @@ use Rattle.std.specs.List.{replace_range}
 use Rattle.rope_changes.specs.Ops.{Op, run, len_before, len_after}
 use Rattle.rope_changes.specs.Combined.{compose, inverse, rebase_first, rebase_second}
 use Rattle.rope_changes.specs.Change.{Change, ops, before, after, replaced, IsInOrder}
+use Rattle.rope_changes.specs.Inverted.{inverted}
 use Rattle.rope_changes.specs.Moved.{moved, moved_before}
 use Rattle.rope_changes.specs.declared.side.Side.{Side}
 
@@ -38,3 +39,7 @@ abbrev pub ReplacesRange : Type 0
 ReplacesRange = (c : Change) (start end : ℕ) (new text : List ℕ) → IsInOrder c start end → before c ≡ length text
     → run (ops (replaced c start end new)) text
     ≡ replace_range (run (ops c) text) (after c - (before c - start)) (after c - (before c - end)) new
+
+-- the inverse of a change leads back to the text that it was made for
+abbrev pub InvertsBack : Type 0
+InvertsBack = (c : Change) (text : List ℕ) → before c ≡ length text → run (ops (inverted c text)) (run (ops c) text) ≡ text

@@ -3,4 +3,5 @@ pub mod Combined
 pub mod Moved
 pub mod Change
 pub mod Applied
+pub mod Inverted
 pub mod Laws

@@ -7,12 +7,13 @@ ghost use Rattle.rope_changes.specs.Change.{before, after, ops, last_end, IsNorm
 ghost use Rattle.rope_changes.specs.Ops.{run};
 ghost use Rattle.rope_changes.specs.Applied.{inserted_bytes};
 ghost use Rattle.rope_text.specs.Text.{byte_len};
+ghost use Rattle.rope_changes.specs.Inverted.{inverted};
 ghost use Rattle.rope_changes.specs.Moved.{moved};
 ghost use Rattle.ropey.specs.View.{IsRope};
 
 use crate::error::ChangeError;
 use crate::side::Side;
-use crate::splice::splice;
+use crate::splice::{splice, text_of};
 use rope_text::MAX_TEXT_BYTES;
 use rope_text::str_utils::count_chars;
 use ropey::Rope;
@@ -269,6 +270,50 @@ impl ChangeSet {
         }
         *rope = edited;
         Ok(())
+    }
+
+    /// Returns the change that leads from the text after this change back to the text of `rope`,
+    /// which is the text before. Takes memory for the texts that this change deletes.
+    ///
+    /// # Errors
+    ///
+    /// First `LengthDiffers`, with both lengths, if the rope's length isn't `len_before()`; then
+    /// `OutOfMemory`.
+    pub fn invert(&self, rope: &Rope) -> Result<ChangeSet, ChangeError>
+        ensures differs { length rope.now.text ≢ before self.now
+            → result ≡ Err (LengthDiffers (before self.now) (length rope.now.text)) }
+        ensures memory { length rope.now.text ≡ before self.now
+            → IfErr result (λ e. e ≡ OutOfMemory) }
+        ensures ok { IfOk result (λ inverse. inverse ≡ inverted self.now rope.now.text) }
+        ensures len_before { IfOk result (λ inverse. before inverse ≡ after self.now) }
+        ensures len_after { IfOk result (λ inverse. after inverse ≡ before self.now) }
+    {
+        let chars = rope.len_chars();
+        if chars != self.len_before {
+            return Err(ChangeError::LengthDiffers(self.len_before, chars));
+        }
+        let mut inverse = Vec::new(self.alloc);
+        let mut at = 0;
+        for edit in &self.edits {
+            let from = at + edit.kept;
+            at = from + edit.deleted;
+            let added = Replacement {
+                kept: edit.kept,
+                text: text_of(self.alloc, rope, from, at)?,
+                inserted: edit.deleted,
+                deleted: edit.inserted,
+            };
+            if inverse.push(added).is_err() {
+                return Err(ChangeError::OutOfMemory);
+            }
+        }
+        Ok(ChangeSet {
+            edits: inverse,
+            rest: self.rest,
+            len_before: self.len_after,
+            len_after: self.len_before,
+            alloc: self.alloc,
+        })
     }
 
     /// Returns the index in the text after the change of a character, or of the end, of the text

@@ -1,4 +1,5 @@
-//! Changes of a text as values: built in order, applied at once, positions moved through them.
+//! Changes of a text as values: built in order, applied at once, inverted, positions moved through
+//! them.
 //!
 //! A change set is a list of replacements of ranges of one text, in order and apart. An editor
 //! makes one for all its carets, applies it to a rope, and moves its bookmarks through it. For the
@@ -10,12 +11,13 @@
 //!
 //! A change takes memory for its replacements and for the texts that it inserts, not for the text
 //! that it is a change of. `replace` takes time for its own text, `map` for the replacements up to
-//! its index, and `apply` for two edits of the rope per replacement.
+//! its index, `apply` for two edits of the rope per replacement, and `invert` for the texts that
+//! the change deletes.
 //!
 //! Modules, lowest first:
 //! - `side`: on which side of inserted text an index stays
 //! - `error`: why a call fails
-//! - `splice`: a range of a rope replaced by a text
+//! - `splice`: a range of a rope replaced by a text, or copied
 //! - `change_set`: changes as replacements in order
 //! - `laws`: what replacements, compositions, inverses and rebased changes do to a text
 #![tactic(auto)]

@@ -4,7 +4,7 @@ use ropey::Rope;
 use std::test::Fail;
 
 #[test]
-fn a_change_is_built_applied_and_mapped(rt: HostRuntime) -> Result<(), Fail> {
+fn a_change_is_built_mapped_applied_and_undone(rt: HostRuntime) -> Result<(), Fail> {
     let mut rope = Rope::from_str(rt.alloc(), "one two")?;
     let mut change = ChangeSet::new(rt.alloc(), 7)?;
     assert!(rt; change.is_empty());
@@ -19,8 +19,11 @@ fn a_change_is_built_applied_and_mapped(rt: HostRuntime) -> Result<(), Fail> {
     assert_eq!(rt; change.map(3, Side::Before), 1);
     assert_eq!(rt; change.map(4, Side::Before), 2);
     assert_eq!(rt; change.map(4, Side::After), 7);
+    let back = change.invert(&rope)?;
     change.apply(&mut rope)?;
     assert!(rt; rope.eq_str("1 and 2"));
+    back.apply(&mut rope)?;
+    assert!(rt; rope.eq_str("one two"));
     Ok(())
 }
 
