@@ -1,7 +1,7 @@
 pub mod ChangeLaws
 pub mod MovedLaws
 pub mod Prefixes
-pub mod Edits
+pub mod NextEdits
 pub mod Steps
 pub mod Appended
 pub mod Lasts

@@ -4,4 +4,5 @@ pub mod Moved
 pub mod Change
 pub mod Applied
 pub mod Inverted
+pub mod Listed
 pub mod Laws

@@ -1,5 +1,5 @@
 //! Change sets: the replacements of a change, in order.
-ghost use Rattle.std.specs.Prelude.{◌≡◌, ◌+◌, [], ◌≢◌, ◌<◌, ◌≤◌, ◌^◌, ◌↔◌, IsTrue, IfOk, IfErr, IsOk, OnOk, OnErr, length, map};
+ghost use Rattle.std.specs.Prelude.{◌≡◌, ◌+◌, [], ◌≢◌, ◌<◌, ◌≤◌, ◌^◌, ◌↔◌, IsTrue, IfOk, IfErr, IsOk, OnOk, OnErr, MatchOption, length, map};
 ghost use Rattle.std.specs.List.{All};
 ghost use Rattle.std.specs.Str.{chars};
 ghost use Rattle.rope_changes.specs.declared.error.ChangeError.TheVariants.{RangeInvalid, RangeOutOfBounds, LengthDiffers, OutOfOrder, TooLong, OutOfMemory};
@@ -52,6 +52,69 @@ impl Model for ChangeSet {
     ghost view = { change_of };
 
     ghost invariant = { IsChangeSet };
+}
+
+/// A replacement of a change, with its ranges in characters.
+#[derive(Clone, Copy)]
+pub struct EditRange<'a> {
+    /// The start of the range that it replaces, in the text before.
+    pub start: usize,
+    /// The end of the range that it replaces, in the text before.
+    pub end: usize,
+    /// The start of its text, in the text after.
+    pub new_start: usize,
+    /// The end of its text, in the text after.
+    pub new_end: usize,
+    /// The text that it inserts.
+    pub text: &'a str,
+}
+
+/// A cursor over the replacements of a change, in order. Contracts see it as those that are left,
+/// and where the one before them ends in both texts.
+#[derive(Drop)]
+pub struct Edits<'a> {
+    items: &'a [Replacement],
+    index: usize,
+    end: usize,
+    new_end: usize,
+}
+
+impl<'a> Model for Edits<'a> {
+    ghost use Rattle.rope_changes.specs.Listed.{Remaining, remaining_of, IsReading};
+
+    ghost Value = { Remaining };
+
+    ghost view = { remaining_of };
+
+    ghost invariant = { IsReading };
+}
+
+impl<'a> Edits<'a> {
+    ghost use Rattle.rope_changes.specs.Listed.{IsNext};
+
+    /// Returns the next replacement, or `None` after the last one.
+    pub fn next(&mut self) -> Option<EditRange<'a>>
+        ensures { MatchOption result ((self.old.edits ≡ []) × (self.new ≡ self.old))
+            (λ e. IsNext self.old e self.new) }
+    {
+        let items = self.items;
+        if self.index == items.len() {
+            return None;
+        }
+        let edit = &items[self.index];
+        let start = self.end + edit.kept;
+        let new_start = self.new_end + edit.kept;
+        self.index += 1;
+        self.end = start + edit.deleted;
+        self.new_end = new_start + edit.inserted;
+        Some(EditRange {
+            start,
+            end: self.end,
+            new_start,
+            new_end: self.new_end,
+            text: edit.text.as_str(),
+        })
+    }
 }
 
 impl Replacement {
@@ -133,7 +196,7 @@ impl ChangeSet {
     pub fn new(alloc: Global, len: usize) -> Result<ChangeSet, ChangeError>
         ensures ok { len < 2 ^ 63 → IsOk result }
         ensures keeps { IfOk result (λ change. change ≡ record { edits = []; rest = len }) }
-        ensures too_long { IfErr result (λ e. e ≡ TooLong) }
+        ensures too_long { 2 ^ 63 ≤ len → result ≡ Err TooLong }
     {
         if len > MAX_LEN {
             return Err(ChangeError::TooLong);
@@ -167,6 +230,18 @@ impl ChangeSet {
         ensures normal { IsNormal self.now }
     {
         self.edits.is_empty()
+    }
+
+    /// Returns a cursor over the replacements, from the first one on.
+    pub fn edits(&self) -> Edits<'_>
+        ensures { result ≡ record { edits = self.now.edits; end = 0; new_end = 0 } }
+    {
+        Edits {
+            items: self.edits.as_slice(),
+            index: 0,
+            end: 0,
+            new_end: 0,
+        }
     }
 
     /// Replaces the characters from `start` up to `end` by `text`. The indices are those of the

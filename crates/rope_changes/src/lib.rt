@@ -30,6 +30,6 @@ mod splice;
 #[cfg(test)]
 mod tests;
 
-pub use change_set::ChangeSet;
+pub use change_set::{ChangeSet, EditRange, Edits};
 pub use error::ChangeError;
 pub use side::Side;

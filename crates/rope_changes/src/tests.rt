@@ -28,6 +28,28 @@ fn a_change_is_built_mapped_applied_and_undone(rt: HostRuntime) -> Result<(), Fa
 }
 
 #[test]
+fn edits_have_their_ranges_in_both_texts(rt: HostRuntime) -> Result<(), Fail> {
+    let mut change = ChangeSet::new(rt.alloc(), 7)?;
+    change.replace(0, 3, "1")?;
+    change.replace(4, 4, "and ")?;
+    let mut edits = change.edits();
+    let first = edits.next().ok_or("no edit")?;
+    assert_eq!(rt;
+        [first.start, first.end, first.new_start, first.new_end],
+        [0, 3, 0, 1]
+    );
+    assert_eq!(rt; first.text, "1");
+    let second = edits.next().ok_or("one edit")?;
+    assert_eq!(rt;
+        [second.start, second.end, second.new_start, second.new_end],
+        [4, 4, 2, 6]
+    );
+    assert_eq!(rt; second.text, "and ");
+    assert!(rt; edits.next().is_none());
+    Ok(())
+}
+
+#[test]
 fn errors_name_both_numbers(rt: HostRuntime) -> Result<(), Fail> {
     let mut change = ChangeSet::new(rt.alloc(), 7)?;
     change.replace(2, 5, "x")?;

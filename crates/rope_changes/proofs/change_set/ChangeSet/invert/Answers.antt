@@ -10,7 +10,7 @@ use Rattle.rope_changes.specs.declared.change_set.Replacement.{Replacement}
 use Rattle.rope_changes.specs.Ops.{Op, len_before, len_after}
 use Rattle.rope_changes.specs.Change.{Edit, Change, keeping, inserting, deleting, ops_of, edit_of, before, after, IsCounted}
 use Rattle.rope_changes.specs.Inverted.{inverted_edits}
-use Rattle.rope_changes.proofs.Edits.{next_ops, next_inverted}
+use Rattle.rope_changes.proofs.NextEdits.{next_ops, next_inverted}
 use Rattle.rope_changes.proofs.Steps.{step_before}
 use Rattle.rope_changes.proofs.InvertedLaws.{deleted_len, inverted_before, inverted_after, inverted_normal}
 use Rattle.rope_changes.proofs.change_set.ChangeSet.invert.Goals.{After-edit-item, After-loop-edit}
