@@ -67,3 +67,14 @@ last_deletes (f ∷ front) e rest = omega (arith, step_before f.kept f.text f.de
 pub last_inserts : (front : List Edit) (e : Edit) (rest : ℕ) → length e.text + rest ≤ len_after (ops_of (front ++ e ∷ []) rest)
 last_inserts [] e rest = omega (arith, step_after e.kept e.text e.deleted (keeping rest []), keeping_after rest [])
 last_inserts (f ∷ front) e rest = omega (arith, step_after f.kept f.text f.deleted (ops_of (front ++ e ∷ []) rest), last_inserts front e rest)
+
+-- the rest counts in both texts
+pub before_with_rest : (edits : List Edit) (rest : ℕ) → len_before (ops_of edits rest) ≡ len_before (ops_of edits 0) + rest
+before_with_rest [] rest = omega (arith, keeping_before rest [])
+before_with_rest (e ∷ edits) rest =
+    omega (arith, step_before e.kept e.text e.deleted (ops_of edits rest), step_before e.kept e.text e.deleted (ops_of edits 0), before_with_rest edits rest)
+
+pub after_with_rest : (edits : List Edit) (rest : ℕ) → len_after (ops_of edits rest) ≡ len_after (ops_of edits 0) + rest
+after_with_rest [] rest = omega (arith, keeping_after rest [])
+after_with_rest (e ∷ edits) rest =
+    omega (arith, step_after e.kept e.text e.deleted (ops_of edits rest), step_after e.kept e.text e.deleted (ops_of edits 0), after_with_rest edits rest)

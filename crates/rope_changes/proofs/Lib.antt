@@ -1,9 +1,11 @@
 pub mod ChangeLaws
 pub mod MovedLaws
 pub mod Prefixes
-pub mod Edits
+pub mod NextEdits
 pub mod Steps
 pub mod Appended
 pub mod Lasts
 pub mod Runs
 pub mod Spliced
+pub mod ReplacedLaws
+pub mod InvertedLaws

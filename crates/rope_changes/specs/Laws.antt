@@ -1,7 +1,10 @@
 -- What changes have in common.
-use Rattle.std.specs.Prelude.{◌≡◌, ℕ, ◌≤◌, List, length}
+use Rattle.std.specs.Prelude.{◌≡◌, ℕ, ◌-◌, ◌≤◌, List, length}
+use Rattle.std.specs.List.{replace_range}
 use Rattle.rope_changes.specs.Ops.{Op, run, len_before, len_after}
 use Rattle.rope_changes.specs.Combined.{compose, inverse, rebase_first, rebase_second}
+use Rattle.rope_changes.specs.Change.{Change, ops, before, after, replaced, IsInOrder}
+use Rattle.rope_changes.specs.Inverted.{inverted}
 use Rattle.rope_changes.specs.Moved.{moved, moved_before}
 use Rattle.rope_changes.specs.declared.side.Side.{Side}
 
@@ -29,3 +32,14 @@ MovesCompose = (a b : List Op) (index : ℕ) → moved_before (compose a b) inde
 -- indices keep their order
 abbrev pub MovesKeepOrder : Type 0
 MovesKeepOrder = (side : Side) (a : List Op) (i j : ℕ) → i ≤ j → moved side a i ≤ moved side a j
+
+-- a range that is replaced after the last replacement is replaced in the text after the change, as far from its end as
+-- in the text before
+abbrev pub ReplacesRange : Type 0
+ReplacesRange = (c : Change) (start end : ℕ) (new text : List ℕ) → IsInOrder c start end → before c ≡ length text
+    → run (ops (replaced c start end new)) text
+    ≡ replace_range (run (ops c) text) (after c - (before c - start)) (after c - (before c - end)) new
+
+-- the inverse of a change leads back to the text that it was made for
+abbrev pub InvertsBack : Type 0
+InvertsBack = (c : Change) (text : List ℕ) → before c ≡ length text → run (ops (inverted c text)) (run (ops c) text) ≡ text

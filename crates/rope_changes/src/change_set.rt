@@ -1,5 +1,5 @@
 //! Change sets: the replacements of a change, in order.
-ghost use Rattle.std.specs.Prelude.{◌≡◌, ◌+◌, [], ◌≢◌, ◌<◌, ◌≤◌, ◌^◌, ◌↔◌, IsTrue, IfOk, IfErr, IsOk, OnOk, OnErr, length, map};
+ghost use Rattle.std.specs.Prelude.{◌≡◌, ◌+◌, [], ◌≢◌, ◌<◌, ◌≤◌, ◌^◌, ◌↔◌, IsTrue, IfOk, IfErr, IsOk, OnOk, OnErr, MatchOption, length, map};
 ghost use Rattle.std.specs.List.{All};
 ghost use Rattle.std.specs.Str.{chars};
 ghost use Rattle.rope_changes.specs.declared.error.ChangeError.TheVariants.{RangeInvalid, RangeOutOfBounds, LengthDiffers, OutOfOrder, TooLong, OutOfMemory};
@@ -7,12 +7,13 @@ ghost use Rattle.rope_changes.specs.Change.{before, after, ops, last_end, IsNorm
 ghost use Rattle.rope_changes.specs.Ops.{run};
 ghost use Rattle.rope_changes.specs.Applied.{inserted_bytes};
 ghost use Rattle.rope_text.specs.Text.{byte_len};
+ghost use Rattle.rope_changes.specs.Inverted.{inverted};
 ghost use Rattle.rope_changes.specs.Moved.{moved};
 ghost use Rattle.ropey.specs.View.{IsRope};
 
 use crate::error::ChangeError;
 use crate::side::Side;
-use crate::splice::splice;
+use crate::splice::{splice, text_of};
 use rope_text::MAX_TEXT_BYTES;
 use rope_text::str_utils::count_chars;
 use ropey::Rope;
@@ -51,6 +52,69 @@ impl Model for ChangeSet {
     ghost view = { change_of };
 
     ghost invariant = { IsChangeSet };
+}
+
+/// A replacement of a change, with its ranges in characters.
+#[derive(Clone, Copy)]
+pub struct EditRange<'a> {
+    /// The start of the range that it replaces, in the text before.
+    pub start: usize,
+    /// The end of the range that it replaces, in the text before.
+    pub end: usize,
+    /// The start of its text, in the text after.
+    pub new_start: usize,
+    /// The end of its text, in the text after.
+    pub new_end: usize,
+    /// The text that it inserts.
+    pub text: &'a str,
+}
+
+/// A cursor over the replacements of a change, in order. Contracts see it as those that are left,
+/// and where the one before them ends in both texts.
+#[derive(Drop)]
+pub struct Edits<'a> {
+    items: &'a [Replacement],
+    index: usize,
+    end: usize,
+    new_end: usize,
+}
+
+impl<'a> Model for Edits<'a> {
+    ghost use Rattle.rope_changes.specs.Listed.{Remaining, remaining_of, IsReading};
+
+    ghost Value = { Remaining };
+
+    ghost view = { remaining_of };
+
+    ghost invariant = { IsReading };
+}
+
+impl<'a> Edits<'a> {
+    ghost use Rattle.rope_changes.specs.Listed.{IsNext};
+
+    /// Returns the next replacement, or `None` after the last one.
+    pub fn next(&mut self) -> Option<EditRange<'a>>
+        ensures { MatchOption result ((self.old.edits ≡ []) × (self.new ≡ self.old))
+            (λ e. IsNext self.old e self.new) }
+    {
+        let items = self.items;
+        if self.index == items.len() {
+            return None;
+        }
+        let edit = &items[self.index];
+        let start = self.end + edit.kept;
+        let new_start = self.new_end + edit.kept;
+        self.index += 1;
+        self.end = start + edit.deleted;
+        self.new_end = new_start + edit.inserted;
+        Some(EditRange {
+            start,
+            end: self.end,
+            new_start,
+            new_end: self.new_end,
+            text: edit.text.as_str(),
+        })
+    }
 }
 
 impl Replacement {
@@ -132,7 +196,7 @@ impl ChangeSet {
     pub fn new(alloc: Global, len: usize) -> Result<ChangeSet, ChangeError>
         ensures ok { len < 2 ^ 63 → IsOk result }
         ensures keeps { IfOk result (λ change. change ≡ record { edits = []; rest = len }) }
-        ensures too_long { IfErr result (λ e. e ≡ TooLong) }
+        ensures too_long { 2 ^ 63 ≤ len → result ≡ Err TooLong }
     {
         if len > MAX_LEN {
             return Err(ChangeError::TooLong);
@@ -168,6 +232,18 @@ impl ChangeSet {
         self.edits.is_empty()
     }
 
+    /// Returns a cursor over the replacements, from the first one on.
+    pub fn edits(&self) -> Edits<'_>
+        ensures { result ≡ record { edits = self.now.edits; end = 0; new_end = 0 } }
+    {
+        Edits {
+            items: self.edits.as_slice(),
+            index: 0,
+            end: 0,
+            new_end: 0,
+        }
+    }
+
     /// Replaces the characters from `start` up to `end` by `text`. The indices are those of the
     /// text before the change, and the range comes after the last one that the change replaces. If
     /// it begins at the end of that one, the two become one replacement. An empty range that is
@@ -192,6 +268,10 @@ impl ChangeSet {
         ensures empty { IsInOrder self.old start end → start ≡ end → length (chars text.now) ≡ 0
             → IsOk result }
         ensures ok { OnOk result (self.new ≡ replaced self.old start end (chars text.now)) }
+        ensures in_order { OnOk result (IsInOrder self.old start end) }
+        ensures len_before { before self.new ≡ before self.old }
+        ensures len_after { OnOk result
+            (after self.new ≡ replaced_len self.old start end (chars text.now)) }
         ensures kept { OnErr result (self.new ≡ self.old) }
     {
         if start > end {
@@ -267,9 +347,54 @@ impl ChangeSet {
         Ok(())
     }
 
+    /// Returns the change that leads from the text after this change back to the text of `rope`,
+    /// which is the text before. Takes memory for the texts that this change deletes.
+    ///
+    /// # Errors
+    ///
+    /// First `LengthDiffers`, with both lengths, if the rope's length isn't `len_before()`; then
+    /// `OutOfMemory`.
+    pub fn invert(&self, rope: &Rope) -> Result<ChangeSet, ChangeError>
+        ensures differs { length rope.now.text ≢ before self.now
+            → result ≡ Err (LengthDiffers (before self.now) (length rope.now.text)) }
+        ensures memory { length rope.now.text ≡ before self.now
+            → IfErr result (λ e. e ≡ OutOfMemory) }
+        ensures ok { IfOk result (λ inverse. inverse ≡ inverted self.now rope.now.text) }
+        ensures len_before { IfOk result (λ inverse. before inverse ≡ after self.now) }
+        ensures len_after { IfOk result (λ inverse. after inverse ≡ before self.now) }
+    {
+        let chars = rope.len_chars();
+        if chars != self.len_before {
+            return Err(ChangeError::LengthDiffers(self.len_before, chars));
+        }
+        let mut inverse = Vec::new(self.alloc);
+        let mut at = 0;
+        for edit in &self.edits {
+            let from = at + edit.kept;
+            at = from + edit.deleted;
+            let added = Replacement {
+                kept: edit.kept,
+                text: text_of(self.alloc, rope, from, at)?,
+                inserted: edit.deleted,
+                deleted: edit.inserted,
+            };
+            if inverse.push(added).is_err() {
+                return Err(ChangeError::OutOfMemory);
+            }
+        }
+        Ok(ChangeSet {
+            edits: inverse,
+            rest: self.rest,
+            len_before: self.len_after,
+            len_after: self.len_before,
+            alloc: self.alloc,
+        })
+    }
+
     /// Returns the index in the text after the change of a character, or of the end, of the text
-    /// before. If text is inserted at the index, it stays on the given side of that text; if its
-    /// character is deleted, it goes to where that was. An index past the end moves with the end.
+    /// before. Where text is inserted at the index, the result is on the given side of that text.
+    /// An index inside a replaced range, past its start, goes to the end of the new text. The index
+    /// is at most `len_before()`.
     pub fn map(&self, char_idx: usize, side: Side) -> usize
         requires { char_idx ≤ before self.now }
         ensures { result ≡ moved side (ops self.now) char_idx }

@@ -1,5 +1,5 @@
 //! Laws: what compositions, inverses and rebased changes do to a text, and how indices move.
-ghost use Rattle.rope_changes.specs.Laws.{LengthsAgree, ComposeApplies, InverseApplies, Converges, MovesCompose, MovesKeepOrder};
+ghost use Rattle.rope_changes.specs.Laws.{LengthsAgree, ComposeApplies, InverseApplies, Converges, MovesCompose, MovesKeepOrder, ReplacesRange, InvertsBack};
 
 /// It does nothing; its contract is the laws of changes. A composition does what its two changes do
 /// in a row, and an inverse leads back to the text before. Of two changes of one text each can be
@@ -17,4 +17,17 @@ pub fn changes_agree()
 pub fn indices_move()
     ensures compose { MovesCompose }
     ensures order { MovesKeepOrder }
+{}
+
+/// It does nothing; its contract is the law of `ChangeSet::replace`. What the longer change makes
+/// of a text is what the shorter one makes of it, with the range replaced: it lies as far from the
+/// end of that text as from the end of the text before.
+pub fn ranges_are_replaced()
+    ensures { ReplacesRange }
+{}
+
+/// It does nothing; its contract is the law of `ChangeSet::invert`: the inverse of a change leads
+/// back to the text that it was made for.
+pub fn inverses_lead_back()
+    ensures { InvertsBack }
 {}

@@ -1,12 +1,14 @@
-//! A range of a rope's characters replaced by a text.
-ghost use Rattle.std.specs.Prelude.{◌≡◌, ◌≤◌, length, IfErr, OnOk};
+//! A range of a rope's characters: replaced by a text, and copied.
+ghost use Rattle.std.specs.Prelude.{◌≡◌, ◌-◌, ◌≤◌, length, take, drop, IfOk, IfErr, OnOk};
 ghost use Rattle.std.specs.Str.{chars};
+ghost use Rattle.std.specs.String.{string_bytes};
 ghost use Rattle.std.specs.List.{replace_range};
 ghost use Rattle.ropey.specs.View.{IsRope};
 ghost use Rattle.rope_changes.specs.declared.error.ChangeError.TheVariants.{OutOfMemory};
 
 use crate::error::ChangeError;
 use ropey::Rope;
+use std::alloc::Global;
 
 /// Replaces the characters from `start` up to `end` by a text that the rope has room for. A call
 /// that fails may leave the range removed.
@@ -28,4 +30,23 @@ pub(crate) fn splice(
         return Err(ChangeError::OutOfMemory);
     }
     Ok(())
+}
+
+/// Returns a copy of the characters from `start` up to `end`.
+pub(crate) fn text_of(
+    alloc: Global,
+    rope: &Rope,
+    start: usize,
+    end: usize,
+) -> Result<String, ChangeError>
+    requires ordered { start ≤ end }
+    requires within { end ≤ length rope.now.text }
+    ensures ok { IfOk result (λ text.
+        chars (string_bytes text) ≡ take (end - start) (drop start rope.now.text)) }
+    ensures refused { IfErr result (λ e. e ≡ OutOfMemory) }
+{
+    match rope.slice(start..end).try_to_string(alloc) {
+        Ok(text) => Ok(text),
+        Err(_) => Err(ChangeError::OutOfMemory),
+    }
 }

@@ -5,7 +5,7 @@ use Rattle.std.proofs.lemmas.Str.{IsUtf8-string_bytes}
 use Rattle.rope_text.proofs.Walks.{byte_len-chars}
 use Rattle.rope_changes.specs.Change.{edit_of}
 use Rattle.rope_changes.specs.Applied.{inserted_bytes}
-use Rattle.rope_changes.proofs.Edits.{next_bytes}
+use Rattle.rope_changes.proofs.NextEdits.{next_bytes}
 use Rattle.rope_changes.proofs.change_set.has_room.Goals.{After-edit-item}
 use Rattle.rope_changes.proofs.change_set.has_room.Goals as goal
 

@@ -9,7 +9,7 @@ use Rattle.std.proofs.lemmas.Str.{length-le-encodes}
 use Rattle.rope_changes.specs.declared.change_set.Replacement.{Replacement}
 use Rattle.rope_changes.specs.Ops.{Op, run, len_before, len_after}
 use Rattle.rope_changes.specs.Change.{Change, keeping, inserting, deleting, ops_of, edit_of, ops, after}
-use Rattle.rope_changes.proofs.Edits.{next_ops}
+use Rattle.rope_changes.proofs.NextEdits.{next_ops}
 use Rattle.rope_changes.proofs.Steps.{step_before, step_after}
 use Rattle.rope_changes.proofs.Runs.{run_kept}
 use Rattle.rope_changes.proofs.Spliced.{spliced_runs, spliced_len}

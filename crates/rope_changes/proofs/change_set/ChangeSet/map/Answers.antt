@@ -9,7 +9,7 @@ use Rattle.rope_changes.specs.Ops.{Op, len_before, len_after}
 use Rattle.rope_changes.specs.Moved.{moved}
 use Rattle.rope_changes.specs.Change.{Change, keeping, inserting, deleting, ops_of, edit_of, ops, after}
 use Rattle.rope_changes.proofs.Prefixes.{kept_stays, kept_passed, rest_stays, keeping_before, keeping_after}
-use Rattle.rope_changes.proofs.Edits.{next_ops}
+use Rattle.rope_changes.proofs.NextEdits.{next_ops}
 use Rattle.rope_changes.proofs.Steps.{step_before, step_after, step_moved}
 use Rattle.rope_changes.proofs.change_set.ChangeSet.map.Goals.{After-edit-item}
 use Rattle.rope_changes.proofs.change_set.ChangeSet.map.Goals as goal
