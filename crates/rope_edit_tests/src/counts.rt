@@ -5,8 +5,8 @@
 //! children for the eleventh takes five comparisons. An edit first tries the child of the edit
 //! before, the first one of a fresh list, by two comparisons.
 use rope_plain::failure::Failure;
-use rope_plain::same;
 use rope_plain::texts::{repeated, rope_of};
+use rope_plain::{holds, same};
 use ropey::{LineBreaks, Rope, Steps};
 use std::alloc::Global;
 
@@ -25,6 +25,7 @@ fn counts(steps: Steps) -> [u64; 3] {
 /// cut in two.
 fn counts_a_cut_leaf(rope: &mut Rope) -> Result<(), Failure> {
     let mut steps = LEFT_OVER;
+    holds!(rope.len_chars() == 20_000);
     rope.insert_char_counted(10_000, 'x', &mut steps)?;
     same!(counts(steps), [3, 12, 1]);
     Ok(())
@@ -39,6 +40,7 @@ fn an_insert_that_cuts_a_leaf_counts_the_new_leaf(rt: HostRuntime) -> Result<(),
 /// The list and the last leaf are copied; two comparisons find the last of 21 children.
 fn counts_copies(rope: &mut Rope) -> Result<(), Failure> {
     let mut steps = LEFT_OVER;
+    holds!(rope.len_chars() == 20_000);
     rope.insert_counted(20_000, "x", &mut steps)?;
     same!(counts(steps), [2, 4, 2]);
     Ok(())
@@ -55,6 +57,7 @@ fn an_insert_beside_a_clone_counts_the_copies(rt: HostRuntime) -> Result<(), Fai
 fn counts_a_long_text(alloc: Global, rope: &mut Rope) -> Result<(), Failure> {
     let text = repeated(alloc, "z", 6_000)?;
     let mut steps = LEFT_OVER;
+    holds!(rope.len_chars() == 500);
     rope.insert_counted(250, text.as_str(), &mut steps)?;
     same!(counts(steps), [1, 0, 8]);
     Ok(())
@@ -68,6 +71,7 @@ fn a_long_insert_counts_its_leaves_and_their_list(rt: HostRuntime) -> Result<(),
 
 fn counts_a_short_removal(rope: &mut Rope) -> Result<(), Failure> {
     let mut steps = LEFT_OVER;
+    holds!(rope.len_chars() == 20_000);
     rope.remove_counted(10_000..10_010, &mut steps)?;
     same!(counts(steps), [2, 7, 0]);
     Ok(())
@@ -85,6 +89,7 @@ fn a_removal_in_place_makes_no_node(rt: HostRuntime) -> Result<(), Failure> {
 fn counts_a_split_and_its_append(rope: &mut Rope) -> Result<(), Failure> {
     let mut split = LEFT_OVER;
     let mut joined = LEFT_OVER;
+    holds!(rope.len_chars() == 20_000);
     let back = rope.split_off_counted(10_000, &mut split)?;
     rope.append_counted(back, &mut joined)?;
     same!([counts(split), counts(joined)], [[3, 10, 4], [3, 2, 1]]);
@@ -101,7 +106,9 @@ fn a_split_counts_both_sides_and_an_append_its_list(rt: HostRuntime) -> Result<(
 /// Calls that enter no node set all counts to 0.
 fn counts_nothing(alloc: Global, rope: &mut Rope) -> Result<(), Failure> {
     let mut steps = [LEFT_OVER; 3];
+    holds!(rope.len_chars() == 20_000);
     rope.insert_counted(7, "", &mut steps[0])?;
+    holds!(rope.len_chars() == 20_000);
     rope.remove_counted(7..7, &mut steps[1])?;
     let other = Rope::from_str_with(alloc, "b", LineBreaks::Lf)?;
     let refused = rope.append_counted(other, &mut steps[2]).is_err();
