@@ -7,7 +7,7 @@ use Rattle.rope_changes.specs.Ops.{Op, keep, delete, insert, len_before, len_aft
 use Rattle.rope_changes.specs.declared.change_set.Replacement.{Replacement}
 use Rattle.rope_changes.specs.declared.change_set.ChangeSet.TheInside.{Inside}
 
--- a replacement: so many characters are kept, then a text is inserted, and then so many characters are deleted
+-- a replacement: keeps `kept` characters, then inserts `text`, then deletes `deleted` characters
 pub record Edit : Type 0 where
   pub kept : ℕ
   pub text : List ℕ
@@ -76,7 +76,7 @@ appended [] kept text deleted = record { kept = kept; text = text; deleted = del
 appended (e ∷ []) kept text deleted = joined e kept text deleted
 appended (e ∷ f ∷ edits) kept text deleted = e ∷ appended (f ∷ edits) kept text deleted
 
--- a change, or another one if that inserts or deletes so many characters, and some
+-- the change `c` if n is 0, else `new`; n counts the characters that `new` inserts and deletes more
 abbrev pub if_some : ℕ → Change → Change → Change
 if_some zero c new = c
 if_some (suc n) c new = new
@@ -106,7 +106,7 @@ change_of a = record { edits = map edit_of a.edits.items; rest = a.rest }
 abbrev pub IsCounted : Replacement → Type 0
 IsCounted r = r.inserted ≡ length (chars (string_bytes r.text))
 
--- the last of the replacements can insert and delete so many characters more
+-- both counts of the last replacement stay below 2^64 with `inserted` and `deleted` added
 abbrev pub LastFits : List Replacement → ℕ → ℕ → Type 0
 LastFits items inserted deleted = (front : List Replacement) (last : Replacement) → items ≡ front ++ last ∷ []
     → (last.inserted + inserted < 2 ^ 64) × (last.deleted + deleted < 2 ^ 64)

@@ -2,15 +2,14 @@
 use Rattle.std.specs.Prelude.{ℕ, List, [], ◌∷◌}
 use Rattle.rope_changes.specs.Ops.{Op, keep, delete, insert}
 
--- what a later change does to a character that an earlier one keeps, where `rest` composes what is left of the earlier
--- one with what is left of the later one
+-- a later change at a character that an earlier one keeps; `rest` composes the remaining operations of both
 abbrev pub onto_kept : (List Op → List Op) → List Op → List Op
 onto_kept rest [] = keep ∷ rest []
 onto_kept rest (keep ∷ later) = keep ∷ rest later
 onto_kept rest (delete ∷ later) = delete ∷ rest later
 onto_kept rest (insert c ∷ later) = insert c ∷ onto_kept rest later
 
--- what a later change does to a character that an earlier one inserts
+-- a later change at a character that an earlier one inserts
 abbrev pub onto_inserted : ℕ → (List Op → List Op) → List Op → List Op
 onto_inserted c rest [] = insert c ∷ rest []
 onto_inserted c rest (keep ∷ later) = insert c ∷ rest later
@@ -33,7 +32,8 @@ inverse (delete ∷ ops) [] = inverse ops []
 inverse (delete ∷ ops) (c ∷ text) = insert c ∷ inverse ops text
 inverse (insert c ∷ ops) text = delete ∷ inverse ops text
 
--- a change of the text in which another change kept a character, or deleted it, where `rest` rebases what is left
+-- a change of the text after another one, which kept the next character, or deleted it; `rest` rebases the remaining
+-- operations
 abbrev pub past_kept : (List Op → List Op) → List Op → List Op
 past_kept rest [] = []
 past_kept rest (keep ∷ ops) = keep ∷ rest ops

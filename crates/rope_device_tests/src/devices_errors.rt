@@ -8,7 +8,7 @@ use std::alloc::Global;
 use std::cell::Cell;
 use std::io::{self, ErrorKind, Read, Write};
 
-/// Moves one byte a call, so many times, and fails from then on with its error.
+/// Moves one byte per call for a number of calls, and then fails with its error.
 #[derive(Drop)]
 struct Broken<'a> {
     good: usize,
