@@ -12,7 +12,7 @@ ghost use Rattle.rope_tree.specs.RunningTotals.{AreSmall, HavePart, FitFrom, Sam
 
 use crate::{Editor, Made};
 use arrayvec::ArrayVec;
-use rope_text::{MAX_CHILDREN, MIN_CHILDREN, Steps, TextInfo};
+use rope_text::{MAX_CHILDREN, Steps, TextInfo};
 use std::alloc::{AllocError, Global};
 use std::marker::Model;
 
@@ -138,6 +138,15 @@ fn copied(info: TextInfo) -> TextInfo
 /// A text of so many bytes may have counts that don't fit in 32 bits.
 const TOO_WIDE: usize = 4_294_967_296;
 
+/// Returns whether totals of `all` bytes keep their width if the text grows by `bytes` bytes.
+#[inline(always)]
+fn keeps_width(all: usize, bytes: usize) -> bool
+    ensures room { result ≡ true → all < 2 ^ 32 → all + bytes < 2 ^ 32 }
+    ensures none { result ≡ false → 2 ^ 32 ≤ all + bytes }
+{
+    all >= TOO_WIDE || bytes < TOO_WIDE - all
+}
+
 impl Totals {
     /// The totals of no children.
     pub(crate) fn new() -> Totals
@@ -168,6 +177,22 @@ impl Totals {
         }
     }
 
+    /// Returns whether the child at this index is known to hold the character `at`. Returns false if
+    /// there is no such child, and for wide totals.
+    #[inline(always)]
+    fn holds(&self, place: usize, at: usize) -> bool
+        ensures within { result ≡ true → place < length self.now }
+        ensures before { result ≡ true → (d : TextInfo) → 0 < place
+            → (slice_index_or self.now (place - 1) d).chars ≤ at }
+        ensures past { result ≡ true → (d : TextInfo)
+            → at < (slice_index_or self.now place d).chars }
+    {
+        match &self.width {
+            Width::Narrow(totals) => totals.holds(place, at),
+            Width::Wide(_) => false,
+        }
+    }
+
     /// Whether the totals keep their width if the text grows by so many bytes.
     pub(crate) fn has_room_for(&self, bytes: usize) -> bool
         requires { 1 ≤ length self.now }
@@ -176,8 +201,10 @@ impl Totals {
         ensures none { result ≡ false → (d : TextInfo)
             → 2 ^ 32 ≤ (slice_index_or self.now (length self.now - 1) d).bytes + bytes }
     {
-        let all = self.get(self.len() - 1).bytes;
-        all >= TOO_WIDE || bytes < TOO_WIDE - all
+        match &self.width {
+            Width::Narrow(totals) => keeps_width(totals.get(totals.len() - 1).bytes, bytes),
+            Width::Wide(totals) => keeps_width(totals[totals.len() - 1].bytes, bytes),
+        }
     }
 
     /// Appends the total of one child more.
@@ -339,8 +366,8 @@ pub fn place_of(totals: &Totals, unit: Unit, at: usize, steps: &mut Steps) -> us
 }
 
 /// Returns the index of the child that holds the character `at`, and whether the path still follows
-/// that of the last edit. While it does, that edit's child is tried before the search, unless there
-/// are few children: then the branch would be mispredicted too often. The child is entered.
+/// that of the last edit. While it does, that edit's child is tried before the search. The child is
+/// entered.
 #[inline(always)]
 pub(crate) fn try_place(
     editor: &mut Editor,
@@ -361,19 +388,16 @@ pub(crate) fn try_place(
     ensures made { editor.new.maker.made ≡ editor.old.maker.made }
     ensures searched { HasSearched 1 7 editor.old editor.new }
 {
-    let are_few = totals.len() < MIN_CHILDREN;
-    if follows && !are_few && likely < totals.len() {
-        editor.compare_two();
-        // Both comparisons are made, so that there is one branch to predict.
-        let is_before = at < count(totals.get(likely), Unit::Char);
-        let is_behind = likely == 0 || count(totals.get(likely - 1), Unit::Char) <= at;
-        if is_before & is_behind {
+    if follows {
+        if totals.holds(likely, at) {
+            editor.compare_two();
             editor.enter();
             return (likely, true);
         }
+        editor.compare_two();
     }
     let place = editor.child_at(totals, at);
-    (place, follows && are_few)
+    (place, false)
 }
 
 /// The character that must lie in the child which takes a text: at a seam, the one before it or the
