@@ -8,6 +8,7 @@ ghost use Rattle.rope_tree.specs.declared.search.Unit.TheVariants.{Char};
 ghost use Rattle.rope_tree.specs.Search.{count_of, IsSmall};
 ghost use Rattle.rope_tree.specs.Narrow.{IsBelow, IsNarrow, AreNarrow, FitsWith};
 ghost use Rattle.rope_tree.specs.Searched.{HasSearched};
+ghost use Rattle.rope_tree.specs.Change.{no_counts};
 ghost use Rattle.rope_tree.specs.RunningTotals.{AreSmall, HavePart, FitFrom, SameBefore, ChangedFrom, MovedFrom};
 
 use crate::{Editor, Made};
@@ -134,6 +135,27 @@ fn copied(info: TextInfo) -> TextInfo
         break_count: info.break_count,
     }
 }
+
+/// Adds counts to all totals from an index on.
+// Cold: only totals of 4 GiB and more come to it. It takes the counts by reference, so that the
+// narrow path stores no copy.
+#[inline(never)]
+fn grow_wide(totals: &mut [TextInfo], from: usize, more: &TextInfo)
+    requires fits { FitFrom (2 ^ 64) from totals.old no_counts more.now }
+    ensures len { length totals.new ≡ length totals.old }
+    ensures before { SameBefore from totals.old totals.new }
+    ensures after { ChangedFrom from totals.old totals.new no_counts more.now }
+{
+    shift_wide(totals, from, NONE, *more);
+}
+
+/// The counts of an empty text.
+const NONE: TextInfo = TextInfo {
+    chars: 0,
+    utf16_surrogates: 0,
+    break_count: 0,
+    bytes: 0,
+};
 
 /// A text of so many bytes may have counts that don't fit in 32 bits.
 const TOO_WIDE: usize = 4_294_967_296;
@@ -295,6 +317,23 @@ impl Totals {
         match &mut self.width {
             Width::Narrow(totals) => totals.insert(place, total),
             Width::Wide(totals) => totals.insert(place, total),
+        }
+    }
+
+    /// Adds counts to all totals from an index on.
+    #[inline(always)]
+    pub(crate) fn grow(&mut self, place: usize, more: &TextInfo)
+        requires within { place < length self.old }
+        requires small { AreSmall self.old }
+        requires more { IsBelow (2 ^ 63) more.now }
+        requires fits { AreNarrow self.old → FitFrom (2 ^ 32) place self.old no_counts more.now }
+        ensures len { length self.new ≡ length self.old }
+        ensures before { SameBefore place self.old self.new }
+        ensures after { ChangedFrom place self.old self.new no_counts more.now }
+    {
+        match &mut self.width {
+            Width::Narrow(totals) => totals.retotal(place, NONE, *more),
+            Width::Wide(totals) => grow_wide(totals.as_mut_slice(), place, more),
         }
     }
 

@@ -253,7 +253,7 @@ impl Children {
         if !node.insert_in_place(editor, inside, added, to_right, follows, more)? {
             return unchanged();
         }
-        self.totals.retotal(place, TextInfo::new(), *more);
+        self.totals.grow(place, more);
         self.last = place as u8;
         Ok(true)
     }

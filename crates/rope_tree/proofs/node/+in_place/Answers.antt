@@ -10,8 +10,7 @@ use Rattle.rope_tree.specs.Insert.{TakesShort, MayInsert, IsInserted}
 use Rattle.rope_tree.proofs.NodeLaws.{small_totals}
 use Rattle.rope_tree.proofs.GrownLaws.{tallest_above}
 use Rattle.rope_tree.proofs.FormLaws.{inner_of, inner_seen, leaf_seen, node_tree, grown_leaf, by_answer, by_outcome, not_tried, tried_in, still_children, grown_children, grown_node}
-use Rattle.rope_tree.proofs.ChangeLaws.{change_from, change_seen}
-use Rattle.rope_tree.proofs.ChildLaws.{if_idle, Finds, found_at, read, child_fits, may, change_part, change_narrow, fields_changed, all_changed, list_changed}
+use Rattle.rope_tree.proofs.ChildLaws.{if_idle, Finds, found_at, read, child_fits, may, change_narrow, fields_changed, all_changed, list_changed}
 use Rattle.rope_tree.proofs.node.+in_place.Goals.{Children::insert_in_place-After-index-self-place-2, Node::insert_in_place-Joined-self, Node::insert_in_place-in-Empty, Node::insert_in_place-in-Leaf+in_ok-own_leaf-in-Leaf+in-Some, Node::insert_in_place-in-Leaf+in_ok-own_leaf-in-Leaf+in-None, Node::insert_in_place-in-Inner+in_ok-own_children-in-Inner+in-Some-get_mut, Node::insert_in_place-in-Inner+in_ok-own_children-in-Inner+in-None-get_mut}
 use Rattle.rope_tree.proofs.node.+in_place.Goals as goal
 
@@ -31,53 +30,46 @@ Children::insert_in_place-insert_in_place-requires t c =
     let side = may _ _ _ _ _ _ _ f c.args.added.now c.requires.takes.some c.requires.side c.requires.takes.fits in
     (omega (arith, c.decreases, low), (record { within = f.taken.goes.within; some = c.requires.takes.some; short = c.requires.takes.short; fits = fits }, side))
 
-pub Children::insert_in_place-retotal-requires-clause-small :
-    goal.Children::insert_in_place-retotal-requires-clause-small
-Children::insert_in_place-retotal-requires-clause-small t c =
-    let f = found t (goal.at.Children::insert_in_place-retotal-requires-clause-small t c).After-index-self-place-2 in
+pub Children::insert_in_place-grow-requires-clause-small :
+    goal.Children::insert_in_place-grow-requires-clause-small
+Children::insert_in_place-grow-requires-clause-small t c =
+    let f = found t (goal.at.Children::insert_in_place-grow-requires-clause-small t c).After-index-self-place-2 in
     small_totals (breaks_of c.args.self.now) c.self.inside.totals c.args.self.now (read _ _ _ _ _ _ _ f c.self.inside.totals refl) c.requires.children.fits
 
-pub Children::insert_in_place-retotal-requires-clause-part :
-    goal.Children::insert_in_place-retotal-requires-clause-part
-Children::insert_in_place-retotal-requires-clause-part t c =
-    change_part _ _ _ _ _ _ _ (found t (goal.at.Children::insert_in_place-retotal-requires-clause-part t c).After-index-self-place-2) c.args.added.now c.requires.takes.some c.requires.side c.requires.takes.fits
-    c.insert_in_place.new.self (c.in_ok-insert_in_place.ensures.tried.done c.if-not-branch.false) c.new.result c.insert_in_place.new.more (change_from c.new.result c.insert_in_place.new.more _ _ c.new.ensures (c.in_ok-insert_in_place.ensures.change c.if-not-branch.false)) c.self.inside.totals refl
+pub Children::insert_in_place-grow-requires-clause-more :
+    goal.Children::insert_in_place-grow-requires-clause-more
+Children::insert_in_place-grow-requires-clause-more t c = (c.in_ok-insert_in_place.ensures.change c.if-not-branch.false).low
 
-pub Children::insert_in_place-retotal-requires-clause-new :
-    goal.Children::insert_in_place-retotal-requires-clause-new
-Children::insert_in_place-retotal-requires-clause-new t c = (c.in_ok-insert_in_place.ensures.change c.if-not-branch.false).low
-
-pub Children::insert_in_place-retotal-requires-clause-fits :
-    goal.Children::insert_in_place-retotal-requires-clause-fits
-Children::insert_in_place-retotal-requires-clause-fits t c =
-    change_narrow _ _ _ _ _ _ _ (found t (goal.at.Children::insert_in_place-retotal-requires-clause-fits t c).After-index-self-place-2) c.args.added.now c.requires.takes.some c.requires.side c.requires.takes.fits
-    c.insert_in_place.new.self (c.in_ok-insert_in_place.ensures.tried.done c.if-not-branch.false) c.new.result c.insert_in_place.new.more (change_from c.new.result c.insert_in_place.new.more _ _ c.new.ensures (c.in_ok-insert_in_place.ensures.change c.if-not-branch.false)) c.self.inside.totals refl
+pub Children::insert_in_place-grow-requires-clause-fits :
+    goal.Children::insert_in_place-grow-requires-clause-fits
+Children::insert_in_place-grow-requires-clause-fits t c =
+    change_narrow _ _ _ _ _ _ _ (found t (goal.at.Children::insert_in_place-grow-requires-clause-fits t c).After-index-self-place-2) c.args.added.now c.requires.takes.some c.requires.side c.requires.takes.fits
+    c.insert_in_place.new.self (c.in_ok-insert_in_place.ensures.tried.done c.if-not-branch.false) no_counts c.insert_in_place.new.more (c.in_ok-insert_in_place.ensures.change c.if-not-branch.false) c.self.inside.totals refl
     (rw c.len.ensures.value at c.has_room_for.ensures.room c.if-not-has_room_for.false)
 
 pub Children::insert_in_place-invariant_of-self-2 :
     goal.Children::insert_in_place-invariant_of-self-2
 Children::insert_in_place-invariant_of-self-2 t c =
     fields_changed _ _ _ _ _ _ _ (found t (goal.at.Children::insert_in_place-invariant_of-self-2 t c).After-index-self-place-2) c.args.added.now c.requires.takes.some c.requires.side c.requires.takes.fits
-    c.insert_in_place.new.self (c.in_ok-insert_in_place.ensures.tried.done c.if-not-branch.false) c.new.result c.insert_in_place.new.more (change_from c.new.result c.insert_in_place.new.more _ _ c.new.ensures (c.in_ok-insert_in_place.ensures.change c.if-not-branch.false)) _ refl refl refl
-    c.self.inside.totals c.retotal.new.self refl c.retotal.ensures.len c.retotal.ensures.before c.retotal.ensures.after refl
+    c.insert_in_place.new.self (c.in_ok-insert_in_place.ensures.tried.done c.if-not-branch.false) no_counts c.insert_in_place.new.more (c.in_ok-insert_in_place.ensures.change c.if-not-branch.false) _ refl refl refl
+    c.self.inside.totals c.grow.new.self refl c.grow.ensures.len c.grow.ensures.before c.grow.ensures.after refl
 
 pub Children::insert_in_place-returns-clause-tried :
     goal.Children::insert_in_place-returns-clause-tried
 Children::insert_in_place-returns-clause-tried t c = record {
   done = λ yes.
       all_changed _ _ _ _ _ _ _ (found t (goal.at.Children::insert_in_place-returns-clause-tried t c).After-index-self-place-2) c.args.added.now c.requires.takes.some c.requires.side c.requires.takes.fits
-      c.insert_in_place.new.self (c.in_ok-insert_in_place.ensures.tried.done c.if-not-branch.false) c.new.result c.insert_in_place.new.more (change_from c.new.result c.insert_in_place.new.more _ _ c.new.ensures (c.in_ok-insert_in_place.ensures.change c.if-not-branch.false)) (record { height = _; breaks = _; last = c.self.inside.last; totals = _; nodes = _ }) refl refl refl
-      c.self.inside.totals c.retotal.new.self refl c.retotal.ensures.len c.retotal.ensures.before c.retotal.ensures.after refl;
+      c.insert_in_place.new.self (c.in_ok-insert_in_place.ensures.tried.done c.if-not-branch.false) no_counts c.insert_in_place.new.more (c.in_ok-insert_in_place.ensures.change c.if-not-branch.false) (record { height = _; breaks = _; last = c.self.inside.last; totals = _; nodes = _ }) refl refl refl
+      c.self.inside.totals c.grow.new.self refl c.grow.ensures.len c.grow.ensures.before c.grow.ensures.after refl;
   kept = λ no. cc;
   err = tt;
 }
 
 pub Children::insert_in_place-returns-clause-change :
     goal.Children::insert_in_place-returns-clause-change
-Children::insert_in_place-returns-clause-change t c = λ yes. change_seen c.new.result c.insert_in_place.new.more _ _ c.new.ensures
-    (list_changed _ _ _ _ _ _ _ (found t (goal.at.Children::insert_in_place-returns-clause-change t c).After-index-self-place-2) c.args.added.now c.requires.takes.some c.requires.side c.requires.takes.fits
-    c.insert_in_place.new.self (c.in_ok-insert_in_place.ensures.tried.done c.if-not-branch.false) c.new.result c.insert_in_place.new.more (change_from c.new.result c.insert_in_place.new.more _ _ c.new.ensures (c.in_ok-insert_in_place.ensures.change c.if-not-branch.false)) (record { height = _; breaks = _; last = c.self.inside.last; totals = _; nodes = _ }) refl refl refl
-    c.self.inside.totals c.retotal.new.self refl c.retotal.ensures.len c.retotal.ensures.before c.retotal.ensures.after refl)
+Children::insert_in_place-returns-clause-change t c = λ yes. list_changed _ _ _ _ _ _ _ (found t (goal.at.Children::insert_in_place-returns-clause-change t c).After-index-self-place-2) c.args.added.now c.requires.takes.some c.requires.side c.requires.takes.fits
+    c.insert_in_place.new.self (c.in_ok-insert_in_place.ensures.tried.done c.if-not-branch.false) no_counts c.insert_in_place.new.more (c.in_ok-insert_in_place.ensures.change c.if-not-branch.false) (record { height = _; breaks = _; last = c.self.inside.last; totals = _; nodes = _ }) refl refl refl
+    c.self.inside.totals c.grow.new.self refl c.grow.ensures.len c.grow.ensures.before c.grow.ensures.after refl
 
 pub Children::insert_in_place-returns-in_err-insert_in_place-clause-made :
     goal.Children::insert_in_place-returns-in_err-insert_in_place-clause-made
