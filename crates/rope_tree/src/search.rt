@@ -157,6 +157,26 @@ const NONE: TextInfo = TextInfo {
     bytes: 0,
 };
 
+/// Returns whether there is a child at this index that holds the character `at`.
+// Cold: only totals of 4 GiB and more come to it.
+#[inline(never)]
+fn holds_wide(totals: &[TextInfo], place: usize, at: usize) -> bool
+    ensures within { result ≡ true → place < length totals.now }
+    ensures before { result ≡ true → (d : TextInfo) → 0 < place
+        → (slice_index_or totals.now (place - 1) d).chars ≤ at }
+    ensures past { result ≡ true → (d : TextInfo)
+        → at < (slice_index_or totals.now place d).chars }
+{
+    if place >= totals.len() {
+        return false;
+    }
+    let past = totals[place].chars;
+    if place == 0 {
+        return at < past;
+    }
+    at < past && totals[place - 1].chars <= at
+}
+
 /// A text of so many bytes may have counts that don't fit in 32 bits.
 const TOO_WIDE: usize = 4_294_967_296;
 
@@ -199,8 +219,7 @@ impl Totals {
         }
     }
 
-    /// Returns whether the child at this index is known to hold the character `at`. Returns false if
-    /// there is no such child, and for wide totals.
+    /// Returns whether there is a child at this index that holds the character `at`.
     #[inline(always)]
     fn holds(&self, place: usize, at: usize) -> bool
         ensures within { result ≡ true → place < length self.now }
@@ -211,7 +230,7 @@ impl Totals {
     {
         match &self.width {
             Width::Narrow(totals) => totals.holds(place, at),
-            Width::Wide(_) => false,
+            Width::Wide(totals) => holds_wide(totals.as_slice(), place, at),
         }
     }
 

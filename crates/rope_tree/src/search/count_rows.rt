@@ -57,8 +57,8 @@ fn masks_from(from: usize) -> &'static [u32]
 /// Half the entries of a row.
 const HALF: usize = 12;
 
-/// Adds `more` to those of the 12 counts from `start` on whose index is at least `from`. Adds to all
-/// 12 under a mask, so that the loop is vectorized.
+/// Adds `more` to those of the 12 counts from `start` on whose index is `from` or above. It adds to
+/// all 12 under a mask, so that the loop is vectorized.
 #[inline(always)]
 fn add_half(counts: &mut [u32], from: usize, start: usize, more: u32)
     requires len { length counts.old ≡ MAX_CHILDREN }
