@@ -55,10 +55,10 @@ module _ (xs : List ℕ) (place x : ℕ) (len : length xs ≡ 24) (within : plac
 
 -- a count with the part `new` for the part `old`, in all places from one on
 pub shifted_row : (xs ys : List ℕ) (from to old new : ℕ) → to ≤ 24 → length xs ≡ 24 → length ys ≡ 24 → ((j : ℕ) → j < from → get_or ys j 0 ≡ get_or xs j 0)
-    → ((j : ℕ) → from ≤ j → j < 24 → old ≤ get_or xs j 0 → get_or xs j 0 + new < 2 ^ 32 + old → get_or ys j 0 + old ≡ get_or xs j 0 + new)
+    → ((j : ℕ) → from ≤ j → j < to → j < 24 → old ≤ get_or xs j 0 → get_or xs j 0 + new < 2 ^ 32 + old → get_or ys j 0 + old ≡ get_or xs j 0 + new)
     → ((j : ℕ) → from ≤ j → j < to → (old ≤ get_or xs j 0) × (get_or xs j 0 + new < 2 ^ 32 + old)) → IsShifted xs ys from to old new
 shifted_row xs ys from to old new few was is early after has = record {
   len = is ∙ sym was;
   early = early;
-  within = λ k le lt. after k le (omega arith) (has k le lt).0 (has k le lt).1;
+  within = λ k le lt. after k le lt (omega arith) (has k le lt).0 (has k le lt).1;
 }

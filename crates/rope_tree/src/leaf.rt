@@ -223,6 +223,8 @@ impl Leaf {
 
     /// Puts a text before the character `at`, if there is room for it. Returns whether it did, and
     /// in `more` by how much the counts grew. It takes no memory.
+    // Never inlined, so that the frame of its caller, which calls itself, stays small.
+    #[inline(never)]
     pub fn insert_in_place(&mut self, at: usize, added: &ShortText<'_>, more: &mut TextInfo) -> bool
         requires within { at ≤ length (text self.old) }
         requires some { 1 ≤ length added.now }

@@ -94,6 +94,8 @@ pub(crate) fn leaf_with(
 
 /// Puts a text before the character `at` of a leaf that has room for it, and answers the counts of
 /// the whole, by those before.
+// Inlined: a call would store the counts and load them again.
+#[inline(always)]
 pub fn put_in(
     leaf: &mut NodeText,
     at: usize,

@@ -159,6 +159,7 @@ impl NodeText {
     }
 
     /// Inserts `added` where a character starts, or at the end. What follows it moves once.
+    #[inline(always)]
     pub fn insert_bytes(&mut self, place: usize, added: &str)
         requires boundary { IsCharBoundary (encode_utf8_all self.old) place }
         requires fits { byte_len self.old + length added.now ≤ MAX_BYTES }

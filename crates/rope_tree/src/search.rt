@@ -8,11 +8,12 @@ ghost use Rattle.rope_tree.specs.declared.search.Unit.TheVariants.{Char};
 ghost use Rattle.rope_tree.specs.Search.{count_of, IsSmall};
 ghost use Rattle.rope_tree.specs.Narrow.{IsBelow, IsNarrow, AreNarrow, FitsWith};
 ghost use Rattle.rope_tree.specs.Searched.{HasSearched};
+ghost use Rattle.rope_tree.specs.Change.{no_counts};
 ghost use Rattle.rope_tree.specs.RunningTotals.{AreSmall, HavePart, FitFrom, SameBefore, ChangedFrom, MovedFrom};
 
 use crate::{Editor, Made};
 use arrayvec::ArrayVec;
-use rope_text::{MAX_CHILDREN, MIN_CHILDREN, Steps, TextInfo};
+use rope_text::{MAX_CHILDREN, Steps, TextInfo};
 use std::alloc::{AllocError, Global};
 use std::marker::Model;
 
@@ -135,8 +136,58 @@ fn copied(info: TextInfo) -> TextInfo
     }
 }
 
+/// Adds counts to all totals from an index on.
+// Cold: only totals of 4 GiB and more come to it. It takes the counts by reference, so that the
+// narrow path stores no copy.
+#[inline(never)]
+fn grow_wide(totals: &mut [TextInfo], from: usize, more: &TextInfo)
+    requires fits { FitFrom (2 ^ 64) from totals.old no_counts more.now }
+    ensures len { length totals.new ≡ length totals.old }
+    ensures before { SameBefore from totals.old totals.new }
+    ensures after { ChangedFrom from totals.old totals.new no_counts more.now }
+{
+    shift_wide(totals, from, NONE, *more);
+}
+
+/// The counts of an empty text.
+const NONE: TextInfo = TextInfo {
+    chars: 0,
+    utf16_surrogates: 0,
+    break_count: 0,
+    bytes: 0,
+};
+
+/// Returns whether there is a child at this index that holds the character `at`.
+// Cold: only totals of 4 GiB and more come to it.
+#[inline(never)]
+fn holds_wide(totals: &[TextInfo], place: usize, at: usize) -> bool
+    ensures within { result ≡ true → place < length totals.now }
+    ensures before { result ≡ true → (d : TextInfo) → 0 < place
+        → (slice_index_or totals.now (place - 1) d).chars ≤ at }
+    ensures past { result ≡ true → (d : TextInfo)
+        → at < (slice_index_or totals.now place d).chars }
+{
+    if place >= totals.len() {
+        return false;
+    }
+    let past = totals[place].chars;
+    if place == 0 {
+        return at < past;
+    }
+    at < past && totals[place - 1].chars <= at
+}
+
 /// A text of so many bytes may have counts that don't fit in 32 bits.
 const TOO_WIDE: usize = 4_294_967_296;
+
+/// Returns whether totals of `all` bytes keep their width if the text grows by `bytes` bytes.
+#[inline(always)]
+fn keeps_width(all: usize, bytes: usize) -> bool
+    ensures room { result ≡ true → all < 2 ^ 32 → all + bytes < 2 ^ 32 }
+    ensures none { result ≡ false → 2 ^ 32 ≤ all + bytes }
+{
+    all >= TOO_WIDE || bytes < TOO_WIDE - all
+}
 
 impl Totals {
     /// The totals of no children.
@@ -168,6 +219,21 @@ impl Totals {
         }
     }
 
+    /// Returns whether there is a child at this index that holds the character `at`.
+    #[inline(always)]
+    fn holds(&self, place: usize, at: usize) -> bool
+        ensures within { result ≡ true → place < length self.now }
+        ensures before { result ≡ true → (d : TextInfo) → 0 < place
+            → (slice_index_or self.now (place - 1) d).chars ≤ at }
+        ensures past { result ≡ true → (d : TextInfo)
+            → at < (slice_index_or self.now place d).chars }
+    {
+        match &self.width {
+            Width::Narrow(totals) => totals.holds(place, at),
+            Width::Wide(totals) => holds_wide(totals.as_slice(), place, at),
+        }
+    }
+
     /// Whether the totals keep their width if the text grows by so many bytes.
     pub(crate) fn has_room_for(&self, bytes: usize) -> bool
         requires { 1 ≤ length self.now }
@@ -176,8 +242,10 @@ impl Totals {
         ensures none { result ≡ false → (d : TextInfo)
             → 2 ^ 32 ≤ (slice_index_or self.now (length self.now - 1) d).bytes + bytes }
     {
-        let all = self.get(self.len() - 1).bytes;
-        all >= TOO_WIDE || bytes < TOO_WIDE - all
+        match &self.width {
+            Width::Narrow(totals) => keeps_width(totals.get(totals.len() - 1).bytes, bytes),
+            Width::Wide(totals) => keeps_width(totals[totals.len() - 1].bytes, bytes),
+        }
     }
 
     /// Appends the total of one child more.
@@ -271,6 +339,23 @@ impl Totals {
         }
     }
 
+    /// Adds counts to all totals from an index on.
+    #[inline(always)]
+    pub(crate) fn grow(&mut self, place: usize, more: &TextInfo)
+        requires within { place < length self.old }
+        requires small { AreSmall self.old }
+        requires more { IsBelow (2 ^ 63) more.now }
+        requires fits { AreNarrow self.old → FitFrom (2 ^ 32) place self.old no_counts more.now }
+        ensures len { length self.new ≡ length self.old }
+        ensures before { SameBefore place self.old self.new }
+        ensures after { ChangedFrom place self.old self.new no_counts more.now }
+    {
+        match &mut self.width {
+            Width::Narrow(totals) => totals.retotal(place, NONE, *more),
+            Width::Wide(totals) => grow_wide(totals.as_mut_slice(), place, more),
+        }
+    }
+
     /// Replaces the counts of a part by others, in all totals from a place on.
     #[inline(always)]
     pub(crate) fn retotal(&mut self, place: usize, old: TextInfo, new: TextInfo)
@@ -339,8 +424,8 @@ pub fn place_of(totals: &Totals, unit: Unit, at: usize, steps: &mut Steps) -> us
 }
 
 /// Returns the index of the child that holds the character `at`, and whether the path still follows
-/// that of the last edit. While it does, that edit's child is tried before the search, unless there
-/// are few children: then the branch would be mispredicted too often. The child is entered.
+/// that of the last edit. While it does, that edit's child is tried before the search. The child is
+/// entered.
 #[inline(always)]
 pub(crate) fn try_place(
     editor: &mut Editor,
@@ -361,19 +446,16 @@ pub(crate) fn try_place(
     ensures made { editor.new.maker.made ≡ editor.old.maker.made }
     ensures searched { HasSearched 1 7 editor.old editor.new }
 {
-    let are_few = totals.len() < MIN_CHILDREN;
-    if follows && !are_few && likely < totals.len() {
-        editor.compare_two();
-        // Both comparisons are made, so that there is one branch to predict.
-        let is_before = at < count(totals.get(likely), Unit::Char);
-        let is_behind = likely == 0 || count(totals.get(likely - 1), Unit::Char) <= at;
-        if is_before & is_behind {
+    if follows {
+        if totals.holds(likely, at) {
+            editor.compare_two();
             editor.enter();
             return (likely, true);
         }
+        editor.compare_two();
     }
     let place = editor.child_at(totals, at);
-    (place, follows && are_few)
+    (place, false)
 }
 
 /// The character that must lie in the child which takes a text: at a seam, the one before it or the

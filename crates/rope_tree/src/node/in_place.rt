@@ -6,7 +6,6 @@ ghost use Rattle.rope_text.specs.declared.TheConstants.{MAX_CHILDREN, MAX_SHORT_
 ghost use Rattle.rope_text.specs.Text.{byte_len};
 ghost use Rattle.rope_text.specs.Edit.{inserted};
 ghost use Rattle.rope_tree.specs.Tree.{Tree, text, joined, height_of, tree_over, IsTree, AreFamily};
-ghost use Rattle.rope_tree.specs.Shape.{form_tree, IsForm};
 ghost use Rattle.rope_tree.specs.declared.node.in_place.Cut.TheVariants.{Kept, Grown, Parted};
 ghost use Rattle.rope_tree.specs.Change.{GrowsBy, FallsBy, GrowBy, FallBy};
 ghost use Rattle.rope_tree.specs.Searched.{HasSearched};
@@ -54,18 +53,29 @@ fn copy_children(children: &mut Rc<Children>, maker: &mut Maker) -> Made<()>
     Ok(())
 }
 
-/// Makes what a node points to its own: if another node shares it, a copy takes its place.
-fn own(form: &mut Form, maker: &mut Maker) -> Made<()>
-    requires { IsForm form.old }
-    ensures same { form_tree form.new ≡ form_tree form.old }
-    ensures kept { IsForm form.new }
+/// Makes a leaf the node's own: replaces it by a copy if another node shares it.
+#[inline(always)]
+fn own_leaf(leaf: &mut Rc<Leaf>, maker: &mut Maker) -> Made<()>
+    ensures same { leaf.new.value ≡ leaf.old.value }
     ensures made { maker.new.made ≤ maker.old.made + 1 }
 {
-    match form {
-        Form::Leaf(leaf) if Rc::strong_count(leaf) > 1 => copy_leaf(leaf, maker),
-        Form::Inner(children) if Rc::strong_count(children) > 1 => copy_children(children, maker),
-        _ => Ok(()),
+    if Rc::strong_count(leaf) > 1 {
+        return copy_leaf(leaf, maker);
     }
+    Ok(())
+}
+
+/// Makes a list of children the node's own: replaces it by a copy if another node shares it.
+#[inline(always)]
+fn own_children(children: &mut Rc<Children>, maker: &mut Maker) -> Made<()>
+    requires { AreFamily children.old.value }
+    ensures same { children.new.value ≡ children.old.value }
+    ensures made { maker.new.made ≤ maker.old.made + 1 }
+{
+    if Rc::strong_count(children) > 1 {
+        return copy_children(children, maker);
+    }
+    Ok(())
 }
 
 /// Prefetch: reads a child in each cache line of the list, so that the search and the step to a
@@ -243,7 +253,7 @@ impl Children {
         if !node.insert_in_place(editor, inside, added, to_right, follows, more)? {
             return unchanged();
         }
-        self.totals.retotal(place, TextInfo::new(), *more);
+        self.totals.grow(place, more);
         self.last = place as u8;
         Ok(true)
     }
@@ -481,19 +491,24 @@ impl Node {
         ensures tried { IsTried result self.old self.new
             (IsInserted self.old (self.new ∷ []) (inserted (text self.old) at added.now)) }
     {
-        own(&mut self.form, &mut editor.maker)?;
         match &mut self.form {
             Form::Empty(_) => Ok(false),
-            Form::Leaf(leaf) => match Rc::get_mut(leaf) {
-                Some(leaf) => Ok(leaf.insert_in_place(at, added, more)),
-                None => Ok(false),
-            },
-            Form::Inner(children) => match Rc::get_mut(children) {
-                Some(children) => {
-                    children.insert_in_place(editor, at, added, to_right, follows, more)
+            Form::Leaf(leaf) => {
+                own_leaf(leaf, &mut editor.maker)?;
+                match Rc::get_mut(leaf) {
+                    Some(leaf) => Ok(leaf.insert_in_place(at, added, more)),
+                    None => Ok(false),
                 }
-                None => Ok(false),
-            },
+            }
+            Form::Inner(children) => {
+                own_children(children, &mut editor.maker)?;
+                match Rc::get_mut(children) {
+                    Some(children) => {
+                        children.insert_in_place(editor, at, added, to_right, follows, more)
+                    }
+                    None => Ok(false),
+                }
+            }
         }
     }
 
@@ -553,10 +568,10 @@ impl Node {
         if let Form::Inner(_) = self.form {
             return self.cut_anew(editor, at, added, to_right);
         }
-        own(&mut self.form, &mut editor.maker)?;
         let Form::Leaf(leaf) = &mut self.form else {
             return Ok(Cut::Kept);
         };
+        own_leaf(leaf, &mut editor.maker)?;
         let Some(leaf) = Rc::get_mut(leaf) else {
             return Ok(Cut::Kept);
         };
@@ -621,19 +636,24 @@ impl Node {
         ensures tried { IsTried result self.old self.new
             (IsRemoved least.first least.last self.old self.new start end) }
     {
-        own(&mut self.form, &mut editor.maker)?;
         match &mut self.form {
             Form::Empty(_) => Ok(false),
-            Form::Leaf(leaf) => match Rc::get_mut(leaf) {
-                Some(leaf) => Ok(leaf.remove_in_place(start, end, least, less)),
-                None => Ok(false),
-            },
-            Form::Inner(children) => match Rc::get_mut(children) {
-                Some(children) => {
-                    children.remove_in_place(editor, start, end, least, follows, less)
+            Form::Leaf(leaf) => {
+                own_leaf(leaf, &mut editor.maker)?;
+                match Rc::get_mut(leaf) {
+                    Some(leaf) => Ok(leaf.remove_in_place(start, end, least, less)),
+                    None => Ok(false),
                 }
-                None => Ok(false),
-            },
+            }
+            Form::Inner(children) => {
+                own_children(children, &mut editor.maker)?;
+                match Rc::get_mut(children) {
+                    Some(children) => {
+                        children.remove_in_place(editor, start, end, least, follows, less)
+                    }
+                    None => Ok(false),
+                }
+            }
         }
     }
 }

@@ -1,5 +1,5 @@
 //! Running totals kept by kind of count, in 32 bits each.
-ghost use Rattle.std.specs.Prelude.{◌≡◌, ℕ, ◌+◌, ◌-◌, ◌<◌, ◌≤◌, ◌^◌, [], ◌∷◌, ◌++◌, length, take, drop, slice_index, slice_index_or};
+ghost use Rattle.std.specs.Prelude.{◌≡◌, ℕ, ◌+◌, ◌-◌, ◌%◌, ◌<◌, ◌≤◌, ◌^◌, [], ◌∷◌, true, ◌++◌, length, take, drop, slice_index, slice_index_or};
 ghost use Rattle.std.specs.List.{insert};
 ghost use Rattle.rope_text.specs.declared.TheConstants.{MAX_CHILDREN};
 ghost use Rattle.rope_text.specs.declared.text_info.TextInfo.{TextInfo};
@@ -54,28 +54,57 @@ fn masks_from(from: usize) -> &'static [u32]
     &MASKS[MAX_CHILDREN - from..2 * MAX_CHILDREN - from]
 }
 
-/// Replaces the count `old` of a part by `new`, in the counts from a place on. It adds to all 24
-/// under a mask, so that it is vectorized, and no branch depends on the place. Where the two are
-/// mostly the same, that is tested first.
+/// Half the entries of a row.
+const HALF: usize = 12;
+
+/// Adds `more` to those of the 12 counts from `start` on whose index is `from` or above. It adds to
+/// all 12 under a mask, so that the loop is vectorized.
 #[inline(always)]
-fn shift(counts: &mut [u32], from: usize, old: usize, new: usize, mostly_same: bool)
+fn add_half(counts: &mut [u32], from: usize, start: usize, more: u32)
+    requires len { length counts.old ≡ MAX_CHILDREN }
+    requires place { from ≤ MAX_CHILDREN }
+    requires start { start + HALF ≤ MAX_CHILDREN }
+    ensures len { length counts.new ≡ MAX_CHILDREN }
+    ensures before { (j : ℕ) → j < from → slice_index counts.new j ≡ slice_index counts.old j }
+    ensures under { (j : ℕ) → j < start → slice_index counts.new j ≡ slice_index counts.old j }
+    ensures over { (j : ℕ) → start + HALF ≤ j
+        → slice_index counts.new j ≡ slice_index counts.old j }
+    ensures done { (j : ℕ) → from ≤ j → start ≤ j → j < start + HALF
+        → slice_index counts.new j ≡ (slice_index counts.old j + more) % 2 ^ 32 }
+{
+    let masks = masks_from(from);
+    for k in 0..HALF {
+        let j = start + k;
+        counts[j] = counts[j].wrapping_add(more & masks[j]);
+    }
+}
+
+/// Replaces the count `old` of a part by `new`, in the first `len` counts of a row from the index
+/// `from` on. Skips a half of the row that has none of them; the branches are predicted, since most
+/// edits are near the last one. Where the two counts are mostly the same, tests that first.
+#[inline(always)]
+fn shift(counts: &mut [u32], from: usize, len: usize, old: usize, new: usize, mostly_same: bool)
     requires len { length counts.old ≡ MAX_CHILDREN }
     requires place { from ≤ MAX_CHILDREN }
     requires old { old < 2 ^ 32 }
     requires new { new < 2 ^ 32 }
     ensures len { length counts.new ≡ MAX_CHILDREN }
     ensures before { (j : ℕ) → j < from → slice_index counts.new j ≡ slice_index counts.old j }
-    ensures after { (j : ℕ) → from ≤ j → j < MAX_CHILDREN → old ≤ slice_index counts.old j
-        → slice_index counts.old j + new < 2 ^ 32 + old
+    ensures after { (j : ℕ) → from ≤ j → j < len → j < MAX_CHILDREN
+        → old ≤ slice_index counts.old j → slice_index counts.old j + new < 2 ^ 32 + old
         → slice_index counts.new j + old ≡ slice_index counts.old j + new }
 {
     if mostly_same && old == new {
         return;
     }
     let more = (new as u32).wrapping_sub(old as u32);
-    let masks = masks_from(from);
-    for j in 0..MAX_CHILDREN {
-        counts[j] = counts[j].wrapping_add(more & masks[j]);
+    if from >= HALF {
+        add_half(counts, from, HALF, more);
+        return;
+    }
+    add_half(counts, from, 0, more);
+    if len > HALF {
+        add_half(counts, from, HALF, more);
     }
 }
 
@@ -141,6 +170,25 @@ impl CountRows {
         }
     }
 
+    /// Returns whether there is a child at this index that holds the character `at_char`.
+    #[inline(always)]
+    pub fn holds(&self, place: usize, at_char: usize) -> bool
+        ensures within { result ≡ true → place < length self.now }
+        ensures before { result ≡ true → (d : TextInfo) → 0 < place
+            → (slice_index_or self.now (place - 1) d).chars ≤ at_char }
+        ensures past { result ≡ true → (d : TextInfo)
+            → at_char < (slice_index_or self.now place d).chars }
+    {
+        if place >= self.len {
+            return false;
+        }
+        let past = at(&self.chars, place);
+        if place == 0 {
+            return at_char < past;
+        }
+        at_char < past && at(&self.chars, place - 1) <= at_char
+    }
+
     /// Appends the total of one child more.
     pub fn push(&mut self, total: TextInfo)
         requires room { length self.old < MAX_CHILDREN }
@@ -182,12 +230,14 @@ impl CountRows {
         ensures before { SameBefore place self.old self.new }
         ensures after { ChangedFrom place self.old self.new old new }
     {
-        shift(&mut self.bytes, place, old.bytes, new.bytes, false);
-        shift(&mut self.chars, place, old.chars, new.chars, false);
+        let len = self.len;
+        shift(&mut self.bytes, place, len, old.bytes, new.bytes, false);
+        shift(&mut self.chars, place, len, old.chars, new.chars, false);
         // Most edits change neither surrogate pairs nor line breaks.
         shift(
             &mut self.pairs,
             place,
+            len,
             old.utf16_surrogates,
             new.utf16_surrogates,
             true,
@@ -195,6 +245,7 @@ impl CountRows {
         shift(
             &mut self.breaks,
             place,
+            len,
             old.break_count,
             new.break_count,
             true,

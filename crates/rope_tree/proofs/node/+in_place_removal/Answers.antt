@@ -1,12 +1,10 @@
 use Rattle.std.proofs.lemmas.Result.{IfOk-weaker}
-use Rattle.rope_tree.specs.declared.node.Form.{Form}
-use Rattle.rope_tree.specs.declared.node.Node.TheInside.{Inside}
 use Rattle.rope_tree.specs.Shape.{IsLeafNode, IsForm, IsNode}
 use Rattle.rope_tree.specs.Falls.{tallest_below}
 use Rattle.std.proofs.Common.{◌≡◌, true, ℕ, ◌-◌, ◌<◌, ◌^◌, length, get_or, set, sym, ap, subst, refl, ◌∙◌, arith}
 use Rattle.rope_text.specs.Text.{byte_len}
 use Rattle.rope_text.specs.TextInfo.{info_of}
-use Rattle.rope_tree.specs.Tree.{Tree, text, joined, height_of, breaks_of, tree_over}
+use Rattle.rope_tree.specs.Tree.{Tree, text, joined, height_of, breaks_of, tree_over, IsTree}
 use Rattle.rope_tree.specs.Listed.{listed}
 use Rattle.rope_tree.specs.Totals.{AreBelow}
 use Rattle.rope_tree.specs.Change.{IsChange, no_counts}
@@ -21,7 +19,7 @@ use Rattle.rope_tree.proofs.ListedLaws.{set_seen, set_listed, set_totals}
 use Rattle.rope_tree.proofs.FormLaws.{inner_of, inner_seen, leaf_seen, node_tree, fallen_leaf, by_answer, by_outcome, not_tried, tried_in, still_children, removed_children, removed_node}
 use Rattle.rope_tree.proofs.RemovalLaws.{Holds, holds, byte_len-removed, children_removed}
 use Rattle.rope_tree.proofs.node.+in_place_removal.Goals as goal
-use Rattle.rope_tree.proofs.node.+in_place_removal.Goals.{Children::remove_in_place-After-index-self-place, Node::remove_in_place-Joined-self, Node::remove_in_place-in-Empty, Node::remove_in_place-in-Leaf+in-Some, Node::remove_in_place-in-Leaf+in-None, Node::remove_in_place-in-Inner+in-Some-get_mut, Node::remove_in_place-in-Inner+in-None-get_mut}
+use Rattle.rope_tree.proofs.node.+in_place_removal.Goals.{Children::remove_in_place-After-index-self-place, Node::remove_in_place-Joined-self, Node::remove_in_place-in-Empty, Node::remove_in_place-in-Leaf+in_ok-own_leaf-in-Leaf+in-Some, Node::remove_in_place-in-Leaf+in_ok-own_leaf-in-Leaf+in-None, Node::remove_in_place-in-Inner+in_ok-own_children-in-Inner+in-Some-get_mut, Node::remove_in_place-in-Inner+in_ok-own_children-in-Inner+in-None-get_mut}
 
 -- the child that holds the characters
 down : (t : ℕ) (c : Children::remove_in_place-After-index-self-place t)
@@ -163,41 +161,33 @@ pub Children::remove_in_place-returns-clause-made :
 Children::remove_in_place-returns-clause-made t c =
     omega (arith, c.remove_in_place.ensures.made, (down t (goal.at.Children::remove_in_place-returns-clause-made t c).After-index-self-place).own.at_height)
 
--- the node as it is once what it has is its own
-abbrev own_form : Form → Inside
-own_form f = record { form = f }
-
 pub Node::remove_in_place-remove_in_place-requires-in-Some-get_mut : goal.Node::remove_in_place-remove_in_place-requires-in-Some-get_mut
 Node::remove_in_place-remove_in_place-requires-in-Some-get_mut t c =
     let ts = c.in-Some-get_mut.children.now in
-    let is_node : IsNode (own_form c.own.new.form) = record { form = c.in_ok-own.ensures.kept } in
-    let i = inner_seen (own_form c.own.new.form) c.args.self.now c.in-Inner.children ts is_node c.in-Inner.is (c.in_ok-own.ensures.same ∙ c.self.view_is) c.in-Some-get_mut.ensures.value in
+    let i = inner_seen c.self.inside c.args.self.now c.in-Inner.children ts c.self.invariant c.in-Inner.is c.self.view_is (c.in-Some-get_mut.ensures.value ∙ c.own_children.ensures.same) in
     let low = tallest_below (breaks_of ts) (height_of ts) ts i.children.each in
     (omega (arith, c.decreases, low, ap (λ x. x.height) i.is), (i.children, (c.requires.ordered, omega (arith, c.requires.within, ap (λ x. length (text x)) i.is))))
 
 -- what the node is then
 ended : (t : ℕ) (c : Node::remove_in_place-Joined-self t) → IsNode c.match-self.self-inside
 ended t c =
-    let mine = own_form c.own.new.form in
-    let is_node : IsNode mine = record { form = c.in_ok-own.ensures.kept } in
-    let view = c.in_ok-own.ensures.same ∙ c.self.view_is in
     elim c.match-self.branch [
-      | Node::remove_in_place-in-Empty w ↦ rw w.self-inside-is is_node
-      | Node::remove_in_place-in-Leaf+in-Some w ↦
+      | Node::remove_in_place-in-Empty w ↦ rw w.self-inside-is c.self.invariant
+      | Node::remove_in_place-in-Leaf+in_ok-own_leaf-in-Leaf+in-Some w ↦
           let did = w.remove_in_place in
-          let own : IsLeafNode w.in-Some.leaf.now = rw w.in-Some.ensures.value (subst IsForm w.in-Leaf.is is_node.form) in
+          let own : IsLeafNode w.in-Some.leaf.now = rw (w.in-Some.ensures.value, w.own_leaf.ensures.same) (subst IsForm w.in-Leaf.is c.self.invariant.form) in
           rw w.self-inside-is (record { form = by_answer did.result (λ yes. fallen_leaf _ _ _ _ c.args.start c.args.end c.requires.ordered own (did.ensures.done yes)) (λ no. rw (did.ensures.kept no) own) })
-      | Node::remove_in_place-in-Leaf+in-None w ↦ rw w.self-inside-is (record { form = subst IsForm w.in-Leaf.is is_node.form })
-      | Node::remove_in_place-in-Inner+in-Some-get_mut w ↦
+      | Node::remove_in_place-in-Leaf+in_ok-own_leaf-in-Leaf+in-None w ↦ rw (w.self-inside-is, w.own_leaf.ensures.same) (record { form = subst IsForm w.in-Leaf.is c.self.invariant.form })
+      | Node::remove_in_place-in-Inner+in_ok-own_children-in-Inner+in-Some-get_mut w ↦
           let did = w.remove_in_place-in-Some-get_mut in
           let ts = w.in-Some-get_mut.children.now in
           let us = did.new.self in
-          let i = inner_seen mine c.args.self.now w.in-Inner.children ts is_node w.in-Inner.is view w.in-Some-get_mut.ensures.value in
+          let i = inner_seen c.self.inside c.args.self.now w.in-Inner.children ts c.self.invariant w.in-Inner.is c.self.view_is (w.in-Some-get_mut.ensures.value ∙ w.own_children.ensures.same) in
           rw w.self-inside-is (record {
             form = by_outcome {Q = AreRemoved c.args.least.first c.args.least.last ts us c.args.start c.args.end} did.result ts us did.ensures.tried (removed_children c.args.least.first c.args.least.last c.args.self.now ts us c.args.start c.args.end i) (still_children c.args.self.now ts us i);
           })
-      | Node::remove_in_place-in-Inner+in-None-get_mut w ↦
-          rw w.self-inside-is (record { form = (inner_of mine c.args.self.now w.in-Inner.children is_node w.in-Inner.is view).children })
+      | Node::remove_in_place-in-Inner+in_ok-own_children-in-Inner+in-None-get_mut w ↦
+          rw (w.self-inside-is, w.own_children.ensures.same) (record { form = (inner_of c.self.inside c.args.self.now w.in-Inner.children c.self.invariant w.in-Inner.is c.self.view_is).children })
     ]
 
 pub Node::remove_in_place-invariant_of-self-2 : goal.Node::remove_in_place-invariant_of-self-2
@@ -206,53 +196,49 @@ Node::remove_in_place-invariant_of-self-2 t c = ended t (goal.at.Node::remove_in
 pub Node::remove_in_place-returns-clause-tree : goal.Node::remove_in_place-returns-clause-tree
 Node::remove_in_place-returns-clause-tree t c = node_tree _ _ (ended t (goal.at.Node::remove_in_place-returns-clause-tree t c).Joined-self) refl
 
-pub Node::remove_in_place-returns-in_err-own-clause-tree : goal.Node::remove_in_place-returns-in_err-own-clause-tree
-Node::remove_in_place-returns-in_err-own-clause-tree t c = node_tree (own_form c.own.new.form) _ (record { form = c.in_err-own.ensures.kept }) refl
+pub Node::remove_in_place-returns-in_err-own_children-in-Inner-clause-tree : goal.Node::remove_in_place-returns-in_err-own_children-in-Inner-clause-tree
+Node::remove_in_place-returns-in_err-own_children-in-Inner-clause-tree t c =
+    let i = inner_of c.self.inside c.args.self.now c.in-Inner.children c.self.invariant c.in-Inner.is c.self.view_is in
+    rw c.own_children.ensures.same (subst IsTree i.is (node_tree c.self.inside c.args.self.now c.self.invariant c.self.view_is))
 
 pub Node::remove_in_place-returns-clause-tried : goal.Node::remove_in_place-returns-clause-tried
 Node::remove_in_place-returns-clause-tried t c =
-    let mine = own_form c.own.new.form in
-    let is_node : IsNode mine = record { form = c.in_ok-own.ensures.kept } in
-    let view = c.in_ok-own.ensures.same ∙ c.self.view_is in
     elim c.match-self.branch [
-      | Node::remove_in_place-in-Empty w ↦ rw (w.result-is, w.self-inside-is) (not_tried c.args.self.now _ view)
-      | Node::remove_in_place-in-Leaf+in-Some w ↦
-          let same = leaf_seen mine c.args.self.now w.in-Leaf.leaf w.in-Some.leaf.now w.in-Leaf.is view w.in-Some.ensures.value in
+      | Node::remove_in_place-in-Empty w ↦ rw (w.result-is, w.self-inside-is) (not_tried c.args.self.now _ c.self.view_is)
+      | Node::remove_in_place-in-Leaf+in_ok-own_leaf-in-Leaf+in-Some w ↦
+          let same = leaf_seen c.self.inside c.args.self.now w.in-Leaf.leaf w.in-Some.leaf.now w.in-Leaf.is c.self.view_is (w.in-Some.ensures.value ∙ w.own_leaf.ensures.same) in
           rw (w.result-is, w.self-inside-is) (record {
             done = λ yes. subst (λ x. IsRemoved c.args.least.first c.args.least.last x w.remove_in_place.new.self c.args.start c.args.end) (sym same) (w.remove_in_place.ensures.done yes);
             kept = λ no. w.remove_in_place.ensures.kept no ∙ sym same;
             err = tt;
           })
-      | Node::remove_in_place-in-Leaf+in-None w ↦ rw (w.result-is, w.self-inside-is) (not_tried c.args.self.now _ (sym (leaf_seen mine c.args.self.now w.in-Leaf.leaf _ w.in-Leaf.is view refl)))
-      | Node::remove_in_place-in-Inner+in-Some-get_mut w ↦
+      | Node::remove_in_place-in-Leaf+in_ok-own_leaf-in-Leaf+in-None w ↦ rw (w.result-is, w.self-inside-is) (not_tried c.args.self.now _ (sym (leaf_seen c.self.inside c.args.self.now w.in-Leaf.leaf _ w.in-Leaf.is c.self.view_is w.own_leaf.ensures.same)))
+      | Node::remove_in_place-in-Inner+in_ok-own_children-in-Inner+in-Some-get_mut w ↦
           let did = w.remove_in_place-in-Some-get_mut in
           let ts = w.in-Some-get_mut.children.now in
           let us = did.new.self in
-          let i = inner_seen mine c.args.self.now w.in-Inner.children ts is_node w.in-Inner.is view w.in-Some-get_mut.ensures.value in
+          let i = inner_seen c.self.inside c.args.self.now w.in-Inner.children ts c.self.invariant w.in-Inner.is c.self.view_is (w.in-Some-get_mut.ensures.value ∙ w.own_children.ensures.same) in
           rw (w.result-is, w.self-inside-is) (tried_in did.result tree_over ts us c.args.self.now (tree_over us) i.is refl (removed_node c.args.least.first c.args.least.last c.args.self.now ts us c.args.start c.args.end i) did.ensures.tried)
-      | Node::remove_in_place-in-Inner+in-None-get_mut w ↦ rw (w.result-is, w.self-inside-is) (not_tried c.args.self.now _ (sym (inner_of mine c.args.self.now w.in-Inner.children is_node w.in-Inner.is view).is))
+      | Node::remove_in_place-in-Inner+in_ok-own_children-in-Inner+in-None-get_mut w ↦ rw (w.result-is, w.self-inside-is) (not_tried c.args.self.now _ (ap tree_over w.own_children.ensures.same ∙ sym (inner_of c.self.inside c.args.self.now w.in-Inner.children c.self.invariant w.in-Inner.is c.self.view_is).is))
     ]
 
 pub Node::remove_in_place-returns-clause-change : goal.Node::remove_in_place-returns-clause-change
 Node::remove_in_place-returns-clause-change t c =
-    let mine = own_form c.own.new.form in
-    let is_node : IsNode mine = record { form = c.in_ok-own.ensures.kept } in
-    let view = c.in_ok-own.ensures.same ∙ c.self.view_is in
     elim c.match-self.branch [
       | Node::remove_in_place-in-Empty w ↦ rw w.result-is (λ no. cc)
-      | Node::remove_in_place-in-Leaf+in-Some w ↦
-          let same = leaf_seen mine c.args.self.now w.in-Leaf.leaf w.in-Some.leaf.now w.in-Leaf.is view w.in-Some.ensures.value in
+      | Node::remove_in_place-in-Leaf+in_ok-own_leaf-in-Leaf+in-Some w ↦
+          let same = leaf_seen c.self.inside c.args.self.now w.in-Leaf.leaf w.in-Some.leaf.now w.in-Leaf.is c.self.view_is (w.in-Some.ensures.value ∙ w.own_leaf.ensures.same) in
           rw (w.result-is, w.self-inside-is, w.less-is) (λ yes. subst (λ x. IsChange w.remove_in_place.new.less no_counts (info_of x.breaks (text x)) (info_of x.breaks (text w.remove_in_place.new.self))) (sym same) (w.remove_in_place.ensures.change yes))
-      | Node::remove_in_place-in-Leaf+in-None w ↦ rw w.result-is (λ no. cc)
-      | Node::remove_in_place-in-Inner+in-Some-get_mut w ↦
+      | Node::remove_in_place-in-Leaf+in_ok-own_leaf-in-Leaf+in-None w ↦ rw w.result-is (λ no. cc)
+      | Node::remove_in_place-in-Inner+in_ok-own_children-in-Inner+in-Some-get_mut w ↦
           let did = w.remove_in_place-in-Some-get_mut in
           let ts = w.in-Some-get_mut.children.now in
           let us = did.new.self in
-          let i = inner_seen mine c.args.self.now w.in-Inner.children ts is_node w.in-Inner.is view w.in-Some-get_mut.ensures.value in
+          let i = inner_seen c.self.inside c.args.self.now w.in-Inner.children ts c.self.invariant w.in-Inner.is c.self.view_is (w.in-Some-get_mut.ensures.value ∙ w.own_children.ensures.same) in
           let now = did.new.less in
           rw (w.result-is, w.self-inside-is, w.less-is) (IfOk-weaker did.result (λ did. did ≡ true → IsChange now no_counts (info_of (breaks_of ts) (joined ts)) (info_of (breaks_of ts) (joined us)))
           (λ did. did ≡ true → IsChange now no_counts (info_of c.args.self.now.breaks (text c.args.self.now)) (info_of c.args.self.now.breaks (text (tree_over us)))) (λ did g yes. rw i.is (g yes)) did.ensures.change)
-      | Node::remove_in_place-in-Inner+in-None-get_mut w ↦ rw w.result-is (λ no. cc)
+      | Node::remove_in_place-in-Inner+in_ok-own_children-in-Inner+in-None-get_mut w ↦ rw w.result-is (λ no. cc)
     ]
 
 pub Children::remove_in_place-returns-in_err-remove_in_place-clause-searched : goal.Children::remove_in_place-returns-in_err-remove_in_place-clause-searched
