@@ -1,6 +1,7 @@
 -- Changes made of changes: two in a row as one, the way back, and one carried over another.
 use Rattle.std.specs.Prelude.{ℕ, List, [], ◌∷◌}
-use Rattle.rope_changes.specs.Ops.{Op, keep, delete, insert}
+use Rattle.rope_changes.specs.Ops.{Op, keep, delete, insert, len_after}
+use Rattle.rope_changes.specs.Change.{keeping}
 
 -- a later change at a character that an earlier one keeps; `rest` composes the remaining operations of both
 abbrev pub onto_kept : (List Op → List Op) → List Op → List Op
@@ -70,7 +71,7 @@ over_deleted rest (insert c ∷ second) = keep ∷ over_deleted rest second
 -- the first change as a change of the text after the second; where both insert at one place, what the first inserts
 -- comes first
 abbrev pub rebase_first : List Op → List Op → List Op
-rebase_first [] second = []
+rebase_first [] second = keeping (len_after second) []
 rebase_first (keep ∷ ops) second = over_kept (rebase_first ops) second
 rebase_first (delete ∷ ops) second = over_deleted (rebase_first ops) second
 rebase_first (insert c ∷ ops) second = insert c ∷ rebase_first ops second

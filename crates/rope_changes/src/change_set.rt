@@ -1,10 +1,12 @@
 //! Change sets: the replacements of a change, in order.
-ghost use Rattle.std.specs.Prelude.{◌≡◌, ◌+◌, [], ◌≢◌, ◌<◌, ◌≤◌, ◌^◌, ◌↔◌, IsTrue, IfOk, IfErr, IsOk, OnOk, OnErr, MatchOption, length, map};
+ghost use Rattle.std.specs.Prelude.{◌≡◌, ◌+◌, ◌++◌, [], ◌≢◌, ◌<◌, ◌≤◌, ◌^◌, ◌↔◌, IsTrue, IfOk, IfErr, IsOk, OnOk, OnErr, MatchOption, length, map};
 ghost use Rattle.std.specs.List.{All};
 ghost use Rattle.std.specs.Str.{chars};
 ghost use Rattle.rope_changes.specs.declared.error.ChangeError.TheVariants.{RangeInvalid, RangeOutOfBounds, LengthDiffers, OutOfOrder, TooLong, OutOfMemory};
-ghost use Rattle.rope_changes.specs.Change.{before, after, ops, last_end, IsNormal, IsInOrder, replaced, replaced_len, extended, appended, edit_of, IsCounted, LastFits};
-ghost use Rattle.rope_changes.specs.Ops.{run};
+ghost use Rattle.rope_changes.specs.Change.{before, after, ops, last_end, IsNormal, IsInOrder, replaced, replaced_len, extended, appended, edit_of, IsCounted, LastFits, keeping, inserting, deleting};
+ghost use Rattle.rope_changes.specs.Normal.{normal_form};
+ghost use Rattle.rope_changes.specs.Ops.{run, len_before, len_after};
+ghost use Rattle.rope_changes.specs.Runs.{run_ops, IsRun};
 ghost use Rattle.rope_changes.specs.Applied.{inserted_bytes};
 ghost use Rattle.rope_text.specs.Text.{byte_len};
 ghost use Rattle.rope_changes.specs.Inverted.{inverted};
@@ -12,6 +14,7 @@ ghost use Rattle.rope_changes.specs.Moved.{moved};
 ghost use Rattle.ropey.specs.View.{IsRope};
 
 use crate::error::ChangeError;
+use crate::run::Run;
 use crate::side::Side;
 use crate::splice::{splice, text_of};
 use rope_text::MAX_TEXT_BYTES;
@@ -21,27 +24,27 @@ use std::alloc::Global;
 use std::marker::Model;
 
 /// The longest text of a change, in characters.
-const MAX_LEN: usize = 9_223_372_036_854_775_807;
+pub(crate) const MAX_LEN: usize = 9_223_372_036_854_775_807;
 
 /// Characters that are kept, then a text that is inserted, then characters that are deleted.
 #[derive(Drop)]
-struct Replacement {
-    kept: usize,
-    text: String,
+pub(crate) struct Replacement {
+    pub(crate) kept: usize,
+    pub(crate) text: String,
     /// The number of characters of the text.
-    inserted: usize,
-    deleted: usize,
+    pub(crate) inserted: usize,
+    pub(crate) deleted: usize,
 }
 
 /// A change of a text of a given length: replacements of ranges, in order. Contracts see it as its
 /// replacements.
 #[derive(Drop)]
 pub struct ChangeSet {
-    edits: Vec<Replacement>,
-    rest: usize,
+    pub(crate) edits: Vec<Replacement>,
+    pub(crate) rest: usize,
     len_before: usize,
     len_after: usize,
-    alloc: Global,
+    pub(crate) alloc: Global,
 }
 
 impl Model for ChangeSet {
@@ -298,6 +301,83 @@ impl ChangeSet {
         self.rest = self.len_before - end;
         self.len_after = others + inserted;
         Ok(())
+    }
+
+    // Creates a change of an empty text that changes nothing.
+    pub(crate) fn empty(alloc: Global) -> ChangeSet
+        ensures { result ≡ record { edits = []; rest = 0 } }
+    {
+        ChangeSet {
+            edits: Vec::new(alloc),
+            rest: 0,
+            len_before: 0,
+            len_after: 0,
+            alloc,
+        }
+    }
+
+    // Keeps `count` more characters, after the last ones.
+    pub(crate) fn push_kept(&mut self, count: usize)
+        requires before_fits { before self.old + count < 2 ^ 63 }
+        requires after_fits { after self.old + count < 2 ^ 63 }
+        ensures { ops self.new ≡ normal_form (ops self.old ++ keeping count []) }
+    {
+        self.rest += count;
+        self.len_before += count;
+        self.len_after += count;
+    }
+
+    // Inserts a text and deletes `deleted` more characters, after the last ones.
+    pub(crate) fn push(
+        &mut self,
+        text: &str,
+        inserted: usize,
+        deleted: usize,
+    ) -> Result<(), ChangeError>
+        requires counted { inserted ≡ length (chars text.now) }
+        requires some { 1 ≤ inserted + deleted }
+        requires before_fits { before self.old + deleted < 2 ^ 63 }
+        requires after_fits { after self.old + inserted < 2 ^ 63 }
+        ensures ok { OnOk result (ops self.new
+            ≡ normal_form (ops self.old ++ inserting (chars text.now) (deleting deleted []))) }
+        ensures refused { IfErr result (λ e. e ≡ OutOfMemory) }
+    {
+        add(self.alloc, &mut self.edits, self.rest, text, inserted, deleted)?;
+        self.rest = 0;
+        self.len_before += deleted;
+        self.len_after += inserted;
+        Ok(())
+    }
+
+    // Deletes `count` more characters, after the last ones.
+    pub(crate) fn push_deleted(&mut self, count: usize) -> Result<(), ChangeError>
+        requires some { 1 ≤ count }
+        requires before_fits { before self.old + count < 2 ^ 63 }
+        requires after_fits { after self.old < 2 ^ 63 }
+        ensures ok { OnOk result (ops self.new ≡ normal_form (ops self.old ++ deleting count [])) }
+        ensures refused { IfErr result (λ e. e ≡ OutOfMemory) }
+    {
+        self.push("", 0, count)
+    }
+
+    // Adds a run of operations after the last ones.
+    pub(crate) fn push_run(&mut self, run: &Run<'_>) -> Result<(), ChangeError>
+        requires some { IsRun run.now }
+        requires normal { normal_form (ops self.old) ≡ ops self.old }
+        requires before_fits { before self.old + len_before (run_ops run.now) < 2 ^ 63 }
+        requires after_fits { after self.old + len_after (run_ops run.now) < 2 ^ 63 }
+        ensures ok { OnOk result (ops self.new ≡ normal_form (ops self.old ++ run_ops run.now)) }
+        ensures refused { IfErr result (λ e. e ≡ OutOfMemory) }
+    {
+        match *run {
+            Run::Keep(count) => {
+                self.push_kept(count);
+                Ok(())
+            }
+            Run::Insert(text, inserted) => self.push(text, inserted, 0),
+            Run::Delete(count) => self.push_deleted(count),
+            Run::Nothing => Ok(()),
+        }
     }
 
     /// Applies the change to the text of a rope, whose set of line breaks stays. An empty change

@@ -23,8 +23,13 @@
 #![tactic(auto)]
 
 mod change_set;
+mod compose;
+mod cursor;
+mod cut;
 mod error;
 pub mod laws;
+mod rebase;
+mod run;
 mod side;
 mod splice;
 #[cfg(test)]
