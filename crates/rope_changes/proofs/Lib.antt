@@ -16,3 +16,5 @@ pub mod ComposeRuns
 pub mod ComposeSteps
 pub mod RebaseRuns
 pub mod RebaseSteps
+pub mod Passing
+pub mod OneForm

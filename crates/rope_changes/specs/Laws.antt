@@ -3,10 +3,12 @@ use Rattle.std.specs.Prelude.{◌≡◌, ℕ, ◌-◌, ◌≤◌, List, length}
 use Rattle.std.specs.List.{replace_range}
 use Rattle.rope_changes.specs.Ops.{Op, run, len_before, len_after}
 use Rattle.rope_changes.specs.Combined.{compose, inverse, rebase_first, rebase_second}
-use Rattle.rope_changes.specs.Change.{Change, ops, before, after, replaced, IsInOrder}
+use Rattle.rope_changes.specs.Normal.{normal_form, rebased}
+use Rattle.rope_changes.specs.Change.{Change, ops, before, after, replaced, IsInOrder, IsNormal}
 use Rattle.rope_changes.specs.Inverted.{inverted}
 use Rattle.rope_changes.specs.Moved.{moved, moved_before}
 use Rattle.rope_changes.specs.declared.side.Side.{Side}
+use Rattle.rope_changes.specs.declared.side.Side.TheVariants.{Before, After}
 
 -- the text after a change of a text of the length before has the length after
 abbrev pub LengthsAgree : Type 0
@@ -24,6 +26,27 @@ InverseApplies = (a : List Op) (text : List ℕ) → len_before a ≤ length tex
 abbrev pub Converges : Type 0
 Converges = (a b : List Op) (text : List ℕ) → len_before a ≤ length text → len_before b ≤ length text
     → run (rebase_second a b) (run a text) ≡ run (rebase_first a b) (run b text)
+
+-- the normal form of a change does what the change does
+abbrev pub NormalFormApplies : Type 0
+NormalFormApplies = (a : List Op) (text : List ℕ) → run (normal_form a) text ≡ run a text
+
+-- and is a change of a text of the same length, to a text of the same length
+abbrev pub NormalFormKeepsLengths : Type 0
+NormalFormKeepsLengths = (a : List Op) → (len_before (normal_form a) ≡ len_before a) × (len_after (normal_form a) ≡ len_after a)
+
+-- a change in normal form is its own normal form
+abbrev pub NormalFormIsUnique : Type 0
+NormalFormIsUnique = (c : Change) → IsNormal c → normal_form (ops c) ≡ ops c
+
+-- changes in normal form with the same operations are the same replacements
+abbrev pub OperationsTell : Type 0
+OperationsTell = (c d : Change) → IsNormal c → IsNormal d → ops c ≡ ops d → c ≡ d
+
+-- two changes of one text, each rebased over the other with opposite sides, lead to the same text
+abbrev pub RebasesConverge : Type 0
+RebasesConverge = (a b : List Op) (text : List ℕ) → len_before a ≡ length text → len_before b ≡ length text
+    → run (rebased After b a) (run a text) ≡ run (rebased Before a b) (run b text)
 
 -- an index moves through a composition as through its two changes, if it stays before inserted text
 abbrev pub MovesCompose : Type 0

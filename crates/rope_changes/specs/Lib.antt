@@ -7,7 +7,9 @@ pub mod Applied
 pub mod Inverted
 pub mod Listed
 pub mod Left
+pub mod Passed
 pub mod Composing
 pub mod Runs
 pub mod Rebasing
 pub mod Laws
+pub mod ErrorText

@@ -1,16 +1,17 @@
 //! Change sets: the replacements of a change, in order.
-ghost use Rattle.std.specs.Prelude.{◌≡◌, ◌+◌, ◌++◌, [], ◌≢◌, ◌<◌, ◌≤◌, ◌^◌, ◌↔◌, IsTrue, IfOk, IfErr, IsOk, OnOk, OnErr, MatchOption, length, map};
+ghost use Rattle.std.specs.Prelude.{◌≡◌, ◌+◌, ◌++◌, [], ◌≢◌, ◌<◌, ◌≤◌, ◌^◌, ◌↔◌, IsTrue, IfOk, IfErr, IsOk, OnOk, OnErr, MatchOption, List, length, map};
 ghost use Rattle.std.specs.List.{All};
 ghost use Rattle.std.specs.Str.{chars};
 ghost use Rattle.rope_changes.specs.declared.error.ChangeError.TheVariants.{RangeInvalid, RangeOutOfBounds, LengthDiffers, OutOfOrder, TooLong, OutOfMemory};
 ghost use Rattle.rope_changes.specs.Change.{before, after, ops, last_end, IsNormal, IsInOrder, replaced, replaced_len, extended, appended, edit_of, IsCounted, LastFits, keeping, inserting, deleting};
 ghost use Rattle.rope_changes.specs.Normal.{normal_form};
-ghost use Rattle.rope_changes.specs.Ops.{run, len_before, len_after};
+ghost use Rattle.rope_changes.specs.Ops.{Op, run, len_before, len_after};
 ghost use Rattle.rope_changes.specs.Runs.{run_ops, IsRun};
 ghost use Rattle.rope_changes.specs.Applied.{inserted_bytes};
 ghost use Rattle.rope_text.specs.Text.{byte_len};
 ghost use Rattle.rope_changes.specs.Inverted.{inverted};
 ghost use Rattle.rope_changes.specs.Moved.{moved};
+ghost use Rattle.rope_changes.specs.Passed.{IsPassed};
 ghost use Rattle.ropey.specs.View.{IsRope};
 
 use crate::error::ChangeError;
@@ -121,6 +122,27 @@ impl<'a> Edits<'a> {
 }
 
 impl Replacement {
+    ghost use Rattle.rope_changes.specs.Passed.{step_of};
+
+    // Returns where a position `left` characters after the start of what it keeps lies in the text
+    // after the change, from there on. The next replacement keeps a character first.
+    fn map(&self, left: usize, side: Side) -> usize
+        requires counted { IsCounted self.now }
+        requires within { left ≤ self.now.kept + self.now.deleted }
+        requires fits { self.now.kept + self.now.inserted < 2 ^ 64 }
+        ensures moved { (rest : List Op) → moved side rest 0 ≡ 0
+            → result ≡ moved side (step_of self.now rest) left }
+        ensures within { result ≤ self.now.kept + self.now.inserted }
+    {
+        if left < self.kept {
+            return left;
+        }
+        if side.stays(left - self.kept) {
+            return self.kept;
+        }
+        self.kept + self.inserted
+    }
+
     // Inserts and deletes more at the end.
     fn extend(&mut self, text: &str, inserted: usize, deleted: usize) -> Result<(), ChangeError>
         requires counted { inserted ≡ length (chars text.now) }
@@ -138,6 +160,43 @@ impl Replacement {
         self.inserted += inserted;
         self.deleted += deleted;
         Ok(())
+    }
+}
+
+// The replacements of a change that lie before an index: how many, and where the last one ends in
+// both texts.
+#[derive(Drop)]
+struct Passed {
+    count: usize,
+    end: usize,
+    new_end: usize,
+}
+
+impl Passed {
+    ghost use Rattle.rope_changes.specs.Change.{Change};
+    ghost use Rattle.rope_changes.specs.Passed.{Reaches};
+
+    // None of the replacements.
+    fn new() -> Passed
+        ensures { (c : Change) → IsPassed c result }
+    {
+        Passed {
+            count: 0,
+            end: 0,
+            new_end: 0,
+        }
+    }
+
+    // Passes none of the replacements, if the last one doesn't end before `char_idx`.
+    fn rewind(&mut self, char_idx: usize)
+        ensures reaches { Reaches self.new char_idx }
+        ensures passed { (c : Change) → IsPassed c self.old → IsPassed c self.new }
+    {
+        if char_idx <= self.end {
+            self.count = 0;
+            self.end = 0;
+            self.new_end = 0;
+        }
     }
 }
 
@@ -479,20 +538,40 @@ impl ChangeSet {
         requires { char_idx ≤ before self.now }
         ensures { result ≡ moved side (ops self.now) char_idx }
     {
-        let mut left = char_idx;
-        let mut moved = 0;
-        for edit in &self.edits {
-            if left < edit.kept {
-                return moved + left;
-            }
-            left -= edit.kept;
-            moved += edit.kept;
-            if side.stays(left) {
-                return moved;
-            }
-            moved += edit.inserted;
-            left = left.saturating_sub(edit.deleted);
+        self.map_from(&mut Passed::new(), char_idx, side)
+    }
+
+    /// Moves each index as `map` does, in one pass over the replacements where the indices ascend.
+    /// An index below the one before it begins the pass again. Each is at most `len_before()`.
+    pub fn map_sorted(&self, char_indices: &mut [usize], side: Side)
+        requires { All (λ i. i ≤ before self.now) char_indices.old }
+        ensures { char_indices.new ≡ map (moved side (ops self.now)) char_indices.old }
+    {
+        let mut passed = Passed::new();
+        for char_idx in char_indices.iter_mut() {
+            *char_idx = self.map_from(&mut passed, *char_idx, side);
         }
-        moved + left
+    }
+
+    // Returns the index in the text after the change, and passes the replacements that end before
+    // `char_idx`.
+    fn map_from(&self, passed: &mut Passed, char_idx: usize, side: Side) -> usize
+        requires within { char_idx ≤ before self.now }
+        requires passed { IsPassed self.now passed.old }
+        ensures moved { result ≡ moved side (ops self.now) char_idx }
+        ensures passed { IsPassed self.now passed.new }
+    {
+        passed.rewind(char_idx);
+        while passed.count < self.edits.len() {
+            let edit = &self.edits[passed.count];
+            let left = char_idx - passed.end;
+            if left <= edit.kept + edit.deleted {
+                return passed.new_end + edit.map(left, side);
+            }
+            passed.count += 1;
+            passed.end += edit.kept + edit.deleted;
+            passed.new_end += edit.kept + edit.inserted;
+        }
+        passed.new_end + (char_idx - passed.end)
     }
 }

@@ -1,5 +1,5 @@
 //! Laws: what compositions, inverses and rebased changes do to a text, and how indices move.
-ghost use Rattle.rope_changes.specs.Laws.{LengthsAgree, ComposeApplies, InverseApplies, Converges, MovesCompose, MovesKeepOrder, ReplacesRange, InvertsBack};
+ghost use Rattle.rope_changes.specs.Laws.{LengthsAgree, ComposeApplies, InverseApplies, Converges, MovesCompose, MovesKeepOrder, ReplacesRange, InvertsBack, NormalFormApplies, NormalFormKeepsLengths, NormalFormIsUnique, OperationsTell, RebasesConverge};
 
 /// It does nothing; its contract is the laws of changes. A composition does what its two changes do
 /// in a row, and an inverse leads back to the text before. Of two changes of one text each can be
@@ -9,6 +9,22 @@ pub fn changes_agree()
     ensures compose { ComposeApplies }
     ensures inverse { InverseApplies }
     ensures converge { Converges }
+{}
+
+/// Does nothing; its contract is the laws of normal forms. The normal form of a change does what the
+/// change does, with the same lengths. A change set is its own normal form, and two change sets with
+/// the same operations are equal, so that `compose` and `rebase` have one result each.
+pub fn normal_forms_agree()
+    ensures applies { NormalFormApplies }
+    ensures lengths { NormalFormKeepsLengths }
+    ensures unique { NormalFormIsUnique }
+    ensures operations { OperationsTell }
+{}
+
+/// Does nothing; its contract is the law of `ChangeSet::rebase`. Of two changes of one text each is
+/// rebased over the other, with opposite sides: both orders lead to the same text.
+pub fn rebases_converge()
+    ensures { RebasesConverge }
 {}
 
 /// It does nothing; its contract is the laws of moved indices. They keep their order, and before
