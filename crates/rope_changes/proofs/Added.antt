@@ -1,9 +1,9 @@
 -- What operations do to a change that is being built.
-use Rattle.std.proofs.Common.{◌≡◌, ℕ, zero, suc, ◌+◌, List, [], ◌∷◌, ◌++◌, refl, ap, sym, ◌∙◌, append_assoc}
+use Rattle.std.proofs.Common.{◌≡◌, ℕ, zero, suc, ◌+◌, List, [], ◌∷◌, ◌++◌, ap, sym, ◌∙◌, append_assoc}
 use Rattle.rope_changes.specs.Ops.{Op}
 use Rattle.rope_changes.specs.Normal.{normal_form}
 use Rattle.rope_changes.specs.Change.{Edit, keeping, deleting, inserting, ops_of, appended, AreNormal}
-use Rattle.rope_changes.proofs.NormalLaws.{normal_append, normal_onto, normal_stays, normal_swaps, normal_keeping, normal_inserting, keeping_append, deleting_append, inserting_append, keeping_more, deleting_more, inserting_more}
+use Rattle.rope_changes.proofs.NormalLaws.{normal_append, normal_onto, normal_stays, normal_swaps, keeping_append, deleting_append, inserting_append, keeping_more, deleting_more, inserting_more}
 
 step_append : (k : ℕ) (t : List ℕ) (d : ℕ) (a b : List Op) → keeping k (inserting t (deleting d a)) ++ b ≡ keeping k (inserting t (deleting d (a ++ b)))
 step_append k t d a b =

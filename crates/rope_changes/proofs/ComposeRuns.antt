@@ -1,5 +1,5 @@
 -- The composition of runs of operations.
-use Rattle.std.proofs.Common.{◌≡◌, ℕ, zero, suc, ◌+◌, ◌<◌, ◌≤◌, ◌⊎◌, inl, inr, List, [], ◌∷◌, ◌++◌, length, refl, ap, sym, ◌∙◌, arith}
+use Rattle.std.proofs.Common.{◌≡◌, ℕ, zero, suc, ◌≤◌, List, [], ◌∷◌, length, refl, ap, sym, arith}
 use Rattle.rope_changes.specs.Ops.{Op, keep, delete, insert, len_before, len_after}
 use Rattle.rope_changes.specs.Combined.{onto_kept, onto_inserted, compose}
 use Rattle.rope_changes.specs.Change.{keeping, deleting, inserting}

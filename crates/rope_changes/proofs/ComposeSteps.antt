@@ -1,5 +1,5 @@
 -- One step of a composition that is made run by run.
-use Rattle.std.proofs.Common.{◌≡◌, ℕ, zero, suc, ◌+◌, ◌<◌, ◌≤◌, ◌⊎◌, inl, inr, List, [], ◌∷◌, ◌++◌, length, refl, ap, sym, ◌∙◌, arith, append-nil}
+use Rattle.std.proofs.Common.{◌≡◌, ℕ, zero, suc, ◌+◌, ◌<◌, ◌≤◌, inl, inr, List, [], ◌∷◌, ◌++◌, length, refl, ap, sym, ◌∙◌, arith, append-nil}
 use Rattle.rope_changes.specs.Ops.{Op, keep, delete, insert, len_before, len_after}
 use Rattle.rope_changes.specs.Combined.{compose}
 use Rattle.rope_changes.specs.Normal.{normal_form}
@@ -159,7 +159,7 @@ composition_made made first second first' second' whole later normal is p q none
 
 -- the lengths of both sides while a composition is made
 module _ (made first second whole later : List Op) (is : normal_form (made ++ compose first second) ≡ normal_form (compose whole later)) (meet : len_after first ≡ len_before second)
-  (given : len_after whole ≡ len_before later) where
+    (given : len_after whole ≡ len_before later) where
   pub before_kept : len_before made + len_before first ≡ len_before whole
   before_kept = omega (arith, made_before made (compose first second) (compose whole later) is, compose_before first second meet, compose_before whole later given)
 

@@ -18,3 +18,5 @@ pub mod RebaseRuns
 pub mod RebaseSteps
 pub mod Passing
 pub mod OneForm
+pub mod NormalMoves
+pub mod BuiltLaws

@@ -1,5 +1,5 @@
 -- What normal form leaves as it is, and how normal forms are put together.
-use Rattle.std.proofs.Common.{◌≡◌, ℕ, zero, suc, ◌+◌, ◌-◌, ◌≤◌, List, [], ◌∷◌, ◌++◌, length, refl, ap, sym, ◌∙◌, arith, append_assoc, append-nil}
+use Rattle.std.proofs.Common.{◌≡◌, ℕ, zero, suc, ◌+◌, ◌-◌, ◌≤◌, List, [], ◌∷◌, ◌++◌, length, refl, ap, sym, ◌∙◌, arith, append-nil}
 use Rattle.rope_changes.specs.Ops.{Op, keep, delete, insert, run, len_before, len_after}
 use Rattle.rope_changes.specs.Normal.{delete_after, normal_form}
 use Rattle.rope_changes.specs.Change.{Edit, keeping, deleting, inserting, ops_of, AreApart, AreNormal}

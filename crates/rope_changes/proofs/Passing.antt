@@ -5,13 +5,11 @@ use Rattle.std.specs.Str.{chars}
 use Rattle.std.specs.String.{string_bytes}
 use Rattle.std.proofs.lemmas.List.{drop-map, length-map}
 use Rattle.rope_changes.specs.Ops.{Op, len_before, len_after}
-use Rattle.rope_changes.specs.Change.{Edit, Change, keeping, inserting, deleting, ops_of, ops, edit_of, IsCounted, AreApart, AreNormal}
+use Rattle.rope_changes.specs.Change.{Edit, Change, inserting, deleting, ops_of, ops, edit_of, IsCounted, AreApart, AreNormal}
 use Rattle.rope_changes.specs.Moved.{moved}
-use Rattle.rope_changes.specs.Passed.{step_of, Reaches, IsPassed}
+use Rattle.rope_changes.specs.Passed.{step_of, IsPassed}
 use Rattle.rope_changes.specs.declared.change_set.Replacement.{Replacement}
-use Rattle.rope_changes.specs.declared.change_set.Passed.{Passed}
 use Rattle.rope_changes.specs.declared.side.Side.{Side}
-use Rattle.rope_changes.specs.declared.side.Side.TheVariants.{Before, After}
 use Rattle.rope_changes.proofs.NextEdits.{next_ops}
 use Rattle.rope_changes.proofs.Prefixes.{kept_stays, inserted_passed, rest_stays}
 use Rattle.rope_changes.proofs.Steps.{step_before, step_after, step_moved}

@@ -1,6 +1,5 @@
 -- One step of a change that is rebased run by run.
-use Rattle.std.proofs.Common.{◌≡◌, ℕ, zero, suc, ◌+◌, ◌<◌, ◌≤◌, ◌⊎◌, inl, inr, List, [], ◌∷◌, ◌++◌, length, refl, ap, sym, ◌∙◌, arith, append-nil}
-use Rattle.std.specs.Str.{chars}
+use Rattle.std.proofs.Common.{◌≡◌, ℕ, zero, suc, ◌+◌, ◌≤◌, ◌⊎◌, inl, inr, List, [], ◌∷◌, ◌++◌, length, refl, ap, sym, ◌∙◌, arith, append-nil}
 use Rattle.rope_changes.specs.Ops.{Op, len_before, len_after}
 use Rattle.rope_changes.specs.Combined.{rebase_first, rebase_second}
 use Rattle.rope_changes.specs.Normal.{normal_form, carried}
@@ -9,7 +8,7 @@ use Rattle.rope_changes.specs.Left.{Left, left, IsLoaded, Inserts}
 use Rattle.rope_changes.specs.Runs.{run_ops, IsRun}
 use Rattle.rope_changes.specs.Rebasing.{Rebases}
 use Rattle.rope_changes.specs.declared.run.Run.{Run}
-use Rattle.rope_changes.specs.declared.run.Run.TheVariants.{Keep, Insert, Delete, Nothing}
+use Rattle.rope_changes.specs.declared.run.Run.TheVariants.{Keep, Delete, Nothing}
 use Rattle.rope_changes.specs.declared.side.Side.{Side}
 use Rattle.rope_changes.specs.declared.side.Side.TheVariants.{Before, After}
 use Rattle.rope_changes.proofs.Prefixes.{keeping_before, deleting_before, inserting_before}
@@ -123,7 +122,7 @@ both_pass a b (inr nil) (inr nil') some meet none none' = absurd (omega (arith, 
 
 -- a change that is made run by run: `made`, then `run`, then what is left
 module _ (side : Side) (made first second first' second' whole over more : List Op) (run : Run) (is : normal_form (made ++ carried side first second) ≡ normal_form (carried side whole over))
-  (p : first' ≡ first) (q : second' ≡ second) (splits : carried side first' second' ≡ run_ops run ++ more) where
+    (p : first' ≡ first) (q : second' ≡ second) (splits : carried side first' second' ≡ run_ops run ++ more) where
   next_run : normal_form (made ++ (run_ops run ++ more)) ≡ normal_form (carried side whole over)
   next_run = ap (λ u. normal_form (made ++ u)) (sym splits ∙ ap (λ u. carried side u second') p ∙ ap (carried side first) q) ∙ is
 

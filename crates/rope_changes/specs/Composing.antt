@@ -1,5 +1,5 @@
 -- Two changes that are made into one, run by run.
-use Rattle.std.specs.Prelude.{◌≡◌, ℕ, ◌+◌, ◌<◌, List, ◌++◌, length}
+use Rattle.std.specs.Prelude.{◌≡◌, ◌+◌, ◌<◌, List, ◌++◌, length}
 use Rattle.rope_changes.specs.Ops.{Op, len_before, len_after}
 use Rattle.rope_changes.specs.Combined.{compose}
 use Rattle.rope_changes.specs.Normal.{normal_form}

@@ -1,12 +1,12 @@
 -- What changes have in common.
-use Rattle.std.specs.Prelude.{◌≡◌, ℕ, ◌-◌, ◌≤◌, List, length}
+use Rattle.std.specs.Prelude.{◌≡◌, ℕ, suc, ◌-◌, ◌≤◌, List, length}
 use Rattle.std.specs.List.{replace_range}
 use Rattle.rope_changes.specs.Ops.{Op, run, len_before, len_after}
 use Rattle.rope_changes.specs.Combined.{compose, inverse, rebase_first, rebase_second}
-use Rattle.rope_changes.specs.Normal.{normal_form, rebased}
+use Rattle.rope_changes.specs.Normal.{normal_form, composed, rebased}
 use Rattle.rope_changes.specs.Change.{Change, ops, before, after, replaced, IsInOrder, IsNormal}
 use Rattle.rope_changes.specs.Inverted.{inverted}
-use Rattle.rope_changes.specs.Moved.{moved, moved_before}
+use Rattle.rope_changes.specs.Moved.{moved, moved_before, IsKept}
 use Rattle.rope_changes.specs.declared.side.Side.{Side}
 use Rattle.rope_changes.specs.declared.side.Side.TheVariants.{Before, After}
 
@@ -51,6 +51,16 @@ RebasesConverge = (a b : List Op) (text : List ℕ) → len_before a ≡ length 
 -- an index moves through a composition as through its two changes, if it stays before inserted text
 abbrev pub MovesCompose : Type 0
 MovesCompose = (a b : List Op) (index : ℕ) → moved_before (compose a b) index ≡ moved_before b (moved_before a index)
+
+-- an index after a character that a composition keeps moves through the composition in normal form as through both
+-- changes, if it stays before inserted text
+abbrev pub MovesThroughComposed : Type 0
+MovesThroughComposed = (a b : List Op) (index : ℕ) → IsKept (compose a b) index
+    → moved_before (composed a b) (suc index) ≡ moved_before b (moved_before a (suc index))
+
+-- the start of the text stays, if it stays before inserted text
+abbrev pub StartStays : Type 0
+StartStays = (a : List Op) → moved_before a 0 ≡ 0
 
 -- indices keep their order
 abbrev pub MovesKeepOrder : Type 0

@@ -13,3 +13,4 @@ pub mod Runs
 pub mod Rebasing
 pub mod Laws
 pub mod ErrorText
+pub mod Built

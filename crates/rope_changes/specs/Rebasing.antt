@@ -1,5 +1,5 @@
 -- A change that is rebased over another one, run by run.
-use Rattle.std.specs.Prelude.{◌≡◌, ℕ, ◌+◌, ◌<◌, List, ◌++◌, length}
+use Rattle.std.specs.Prelude.{◌≡◌, ◌+◌, ◌<◌, List, ◌++◌, length}
 use Rattle.rope_changes.specs.Ops.{Op, len_before}
 use Rattle.rope_changes.specs.Normal.{carried}
 use Rattle.rope_changes.specs.Runs.{run_ops, IsRun}

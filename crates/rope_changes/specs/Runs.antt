@@ -1,5 +1,5 @@
 -- Runs of operations of one kind.
-use Rattle.std.specs.Prelude.{◌≡◌, ℕ, ◌≤◌, List, [], length}
+use Rattle.std.specs.Prelude.{◌≡◌, ◌≤◌, List, [], length}
 use Rattle.std.specs.Str.{chars}
 use Rattle.rope_changes.specs.Ops.{Op}
 use Rattle.rope_changes.specs.Change.{keeping, inserting, deleting}

@@ -1,5 +1,5 @@
 //! Change sets: the replacements of a change, in order.
-ghost use Rattle.std.specs.Prelude.{◌≡◌, ◌+◌, ◌++◌, [], ◌≢◌, ◌<◌, ◌≤◌, ◌^◌, ◌↔◌, IsTrue, IfOk, IfErr, IsOk, OnOk, OnErr, MatchOption, List, length, map};
+ghost use Rattle.std.specs.Prelude.{◌≡◌, ◌⊎◌, ◌+◌, ◌++◌, [], None, Some, ◌≢◌, ◌<◌, ◌≤◌, ◌^◌, ◌↔◌, IsTrue, IfOk, IfErr, IsOk, OnOk, OnErr, MatchOption, List, length, map};
 ghost use Rattle.std.specs.List.{All};
 ghost use Rattle.std.specs.Str.{chars};
 ghost use Rattle.rope_changes.specs.declared.error.ChangeError.TheVariants.{RangeInvalid, RangeOutOfBounds, LengthDiffers, OutOfOrder, TooLong, OutOfMemory};
@@ -9,11 +9,13 @@ ghost use Rattle.rope_changes.specs.Ops.{Op, run, len_before, len_after};
 ghost use Rattle.rope_changes.specs.Runs.{run_ops, IsRun};
 ghost use Rattle.rope_changes.specs.Applied.{inserted_bytes};
 ghost use Rattle.rope_text.specs.Text.{byte_len};
+ghost use Rattle.rope_changes.specs.Built.{unchanged, built, replace_error, first_error};
 ghost use Rattle.rope_changes.specs.Inverted.{inverted};
 ghost use Rattle.rope_changes.specs.Moved.{moved};
 ghost use Rattle.rope_changes.specs.Passed.{IsPassed};
 ghost use Rattle.ropey.specs.View.{IsRope};
 
+use crate::edit::Edit;
 use crate::error::ChangeError;
 use crate::run::Run;
 use crate::side::Side;
@@ -272,6 +274,28 @@ impl ChangeSet {
         })
     }
 
+    /// Creates a change of a text of `len` characters from edits in order, as `new` and then
+    /// `replace` for each of them do.
+    ///
+    /// # Errors
+    ///
+    /// `TooLong`, if `len` is above `isize::MAX`; else the error that `replace` returns for the
+    /// first edit that it refuses, or `OutOfMemory`.
+    pub fn of_edits(alloc: Global, len: usize, edits: &[Edit<'_>]) -> Result<ChangeSet, ChangeError>
+        ensures too_long { 2 ^ 63 ≤ len → result ≡ Err TooLong }
+        ensures error { len < 2 ^ 63 → IfErr result (λ e. (e ≡ OutOfMemory)
+            ⊎ (first_error (unchanged len) edits.now ≡ Some e)) }
+        ensures valid { OnOk result (first_error (unchanged len) edits.now ≡ None) }
+        ensures ok { IfOk result (λ change. change ≡ built (unchanged len) edits.now) }
+        ensures len_before { IfOk result (λ change. before change ≡ len) }
+    {
+        let mut change = ChangeSet::new(alloc, len)?;
+        for edit in edits {
+            change.replace(edit.start, edit.end, edit.text)?;
+        }
+        Ok(change)
+    }
+
     /// Returns the number of characters of the texts that it is a change of.
     pub fn len_before(&self) -> usize
         ensures { result ≡ before self.now }
@@ -329,6 +353,9 @@ impl ChangeSet {
             → IfErr result (λ e. e ≡ OutOfMemory) }
         ensures empty { IsInOrder self.old start end → start ≡ end → length (chars text.now) ≡ 0
             → IsOk result }
+        ensures error { IfErr result (λ e. (e ≡ OutOfMemory)
+            ⊎ (replace_error self.old start end (chars text.now) ≡ Some e)) }
+        ensures valid { OnOk result (replace_error self.old start end (chars text.now) ≡ None) }
         ensures ok { OnOk result (self.new ≡ replaced self.old start end (chars text.now)) }
         ensures in_order { OnOk result (IsInOrder self.old start end) }
         ensures len_before { before self.new ≡ before self.old }
@@ -401,7 +428,14 @@ impl ChangeSet {
             ≡ normal_form (ops self.old ++ inserting (chars text.now) (deleting deleted []))) }
         ensures refused { IfErr result (λ e. e ≡ OutOfMemory) }
     {
-        add(self.alloc, &mut self.edits, self.rest, text, inserted, deleted)?;
+        add(
+            self.alloc,
+            &mut self.edits,
+            self.rest,
+            text,
+            inserted,
+            deleted,
+        )?;
         self.rest = 0;
         self.len_before += deleted;
         self.len_after += inserted;

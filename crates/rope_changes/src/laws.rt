@@ -1,7 +1,7 @@
 //! Laws: what compositions, inverses and rebased changes do to a text, and how indices move.
-ghost use Rattle.rope_changes.specs.Laws.{LengthsAgree, ComposeApplies, InverseApplies, Converges, MovesCompose, MovesKeepOrder, ReplacesRange, InvertsBack, NormalFormApplies, NormalFormKeepsLengths, NormalFormIsUnique, OperationsTell, RebasesConverge};
+ghost use Rattle.rope_changes.specs.Laws.{LengthsAgree, ComposeApplies, InverseApplies, Converges, MovesCompose, MovesThroughComposed, StartStays, MovesKeepOrder, ReplacesRange, InvertsBack, NormalFormApplies, NormalFormKeepsLengths, NormalFormIsUnique, OperationsTell, RebasesConverge};
 
-/// It does nothing; its contract is the laws of changes. A composition does what its two changes do
+/// Does nothing; its contract is the laws of changes. A composition does what its two changes do
 /// in a row, and an inverse leads back to the text before. Of two changes of one text each can be
 /// rebased over the other, and both ways lead to the same text.
 pub fn changes_agree()
@@ -27,22 +27,28 @@ pub fn rebases_converge()
     ensures { RebasesConverge }
 {}
 
-/// It does nothing; its contract is the laws of moved indices. They keep their order, and before
-/// inserted text they move through a composition as through its two changes. After inserted text
-/// they need not: an insert that a later change deletes leaves no trace in the composition.
+/// Does nothing; its contract is the laws of moved indices. They keep their order, and before
+/// inserted text they move through a composition of operations as through its two changes. Through
+/// the change that `compose` returns they do where they are 0 or come after a character that it
+/// keeps. Elsewhere they need not: if a text of one character loses it, and the next change inserts
+/// `"x"`, both changes move index 1 to 0, but the result of `compose` inserts `"x"` before it deletes
+/// the character, and moves index 1 to 1. After inserted text they need not either: an insert that a
+/// later change deletes leaves no trace in the composition.
 pub fn indices_move()
     ensures compose { MovesCompose }
+    ensures composed { MovesThroughComposed }
+    ensures start { StartStays }
     ensures order { MovesKeepOrder }
 {}
 
-/// It does nothing; its contract is the law of `ChangeSet::replace`. What the longer change makes
+/// Does nothing; its contract is the law of `ChangeSet::replace`. What the longer change makes
 /// of a text is what the shorter one makes of it, with the range replaced: it lies as far from the
 /// end of that text as from the end of the text before.
 pub fn ranges_are_replaced()
     ensures { ReplacesRange }
 {}
 
-/// It does nothing; its contract is the law of `ChangeSet::invert`: the inverse of a change leads
+/// Does nothing; its contract is the law of `ChangeSet::invert`: the inverse of a change leads
 /// back to the text that it was made for.
 pub fn inverses_lead_back()
     ensures { InvertsBack }

@@ -26,6 +26,7 @@ mod change_set;
 mod compose;
 mod cursor;
 mod cut;
+mod edit;
 mod error;
 pub mod laws;
 mod rebase;
@@ -36,5 +37,6 @@ mod splice;
 mod tests;
 
 pub use change_set::{ChangeSet, EditRange, Edits};
+pub use edit::Edit;
 pub use error::ChangeError;
 pub use side::Side;

@@ -1,7 +1,7 @@
-use Rattle.std.proofs.Common.{◌≡◌, ◌+◌, ◌<◌, ◌≤◌, ◌^◌, [], length, refl, ap, sym, arith}
+use Rattle.std.proofs.Common.{length, refl, ap, arith}
 use Rattle.std.specs.Str.{chars}
 use Rattle.std.proofs.lemmas.Result.{on_ok_weaker}
-use Rattle.rope_changes.specs.Ops.{len_before, len_after}
+use Rattle.rope_changes.specs.Ops.{len_after}
 use Rattle.rope_changes.specs.Left.{Left, left}
 use Rattle.rope_changes.proofs.Prefixes.{keeping_after}
 use Rattle.rope_changes.proofs.ComposeSteps.{inserted_stays, inserted_goes}

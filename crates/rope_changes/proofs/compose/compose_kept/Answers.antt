@@ -1,8 +1,8 @@
-use Rattle.std.proofs.Common.{◌≡◌, ◌+◌, ◌<◌, ◌≤◌, ◌^◌, [], ap, arith}
+use Rattle.std.proofs.Common.{ap, arith}
 use Rattle.std.proofs.lemmas.Result.{on_ok_weaker}
 use Rattle.rope_changes.specs.Ops.{len_before, len_after}
 use Rattle.rope_changes.specs.Left.{Left, left}
-use Rattle.rope_changes.proofs.Prefixes.{keeping_before, keeping_after, deleting_before, deleting_after}
+use Rattle.rope_changes.proofs.Prefixes.{keeping_before, keeping_after}
 use Rattle.rope_changes.proofs.ComposeSteps.{both_keep, second_deletes}
 use Rattle.rope_changes.proofs.compose.compose_kept.Goals as goal
 

@@ -1,7 +1,6 @@
-use Rattle.std.proofs.Common.{◌≡◌, ◌+◌, ◌<◌, ◌≤◌, ◌^◌, ◌++◌, [], length, refl, ap, sym, ◌∙◌, subst, arith}
-use Rattle.std.specs.Str.{chars}
+use Rattle.std.proofs.Common.{◌≡◌, ◌++◌, [], length, refl, ap, ◌∙◌, arith}
 use Rattle.std.proofs.lemmas.Result.{on_ok_weaker}
-use Rattle.rope_changes.specs.Ops.{Op, len_before, len_after}
+use Rattle.rope_changes.specs.Ops.{len_before, len_after}
 use Rattle.rope_changes.specs.Normal.{normal_form}
 use Rattle.rope_changes.specs.Change.{ops, inserting}
 use Rattle.rope_changes.specs.Left.{Left, left}

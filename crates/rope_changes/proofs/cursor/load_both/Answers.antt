@@ -1,5 +1,4 @@
-use Rattle.std.proofs.Common.{◌≡◌, ◌+◌, ◌≤◌, length, arith, rules}
-use Rattle.rope_changes.specs.Left.{left}
+use Rattle.std.proofs.Common.{arith, rules}
 use Rattle.rope_changes.proofs.ComposeSteps.{left_some, left_none, loaded_some}
 use Rattle.rope_changes.proofs.cursor.load_both.Goals as goal
 

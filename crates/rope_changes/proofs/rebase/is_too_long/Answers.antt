@@ -1,7 +1,5 @@
-use Rattle.std.proofs.Common.{◌≡◌, ◌+◌, ◌≤◌, ◌^◌, List, [], length, ap, sym, ◌∙◌, arith, rules}
-use Rattle.rope_changes.specs.Ops.{len_before, len_after}
-use Rattle.rope_changes.specs.Normal.{carried}
-use Rattle.rope_changes.specs.Change.{ops}
+use Rattle.std.proofs.Common.{ap, arith, rules}
+use Rattle.rope_changes.specs.Ops.{len_after}
 use Rattle.rope_changes.specs.Left.{left}
 use Rattle.rope_changes.proofs.RebaseSteps.{run_left, all_carried}
 use Rattle.rope_changes.proofs.rebase.is_too_long.Goals as goal

@@ -1,7 +1,6 @@
-use Rattle.std.proofs.Common.{◌≡◌, ◌≤◌, ◌⊎◌, inl, inr, [], length, refl, ap, sym, ◌∙◌, arith}
-use Rattle.std.specs.Str.{chars}
+use Rattle.std.proofs.Common.{◌≡◌, ◌⊎◌, inl, inr, [], length, ap, arith}
 use Rattle.rope_changes.specs.Change.{inserting}
-use Rattle.rope_changes.specs.Left.{Left, Inserts}
+use Rattle.rope_changes.specs.Left.{Left}
 use Rattle.rope_changes.specs.declared.side.Side.TheVariants.{Before, After}
 use Rattle.rope_changes.proofs.RebaseSteps.{own_inserts, over_inserts, inserts_none}
 use Rattle.rope_changes.proofs.rebase.rebase_next.Goals.{else-inserts-via-then-inserts+else-is_first, else-inserts-via-else-inserts}

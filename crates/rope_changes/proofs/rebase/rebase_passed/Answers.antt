@@ -1,4 +1,4 @@
-use Rattle.std.proofs.Common.{◌≤◌, ap, arith}
+use Rattle.std.proofs.Common.{ap, arith}
 use Rattle.rope_changes.specs.Left.{Left}
 use Rattle.rope_changes.proofs.RebaseSteps.{both_keep, own_deletes, over_deletes, both_delete}
 use Rattle.rope_changes.proofs.rebase.rebase_passed.Goals as goal
@@ -19,11 +19,11 @@ returns-then-own-gt0-2 c =
 pub returns : goal.returns
 returns c =
     both_delete c.args.side _ _ _ _ c.requires.meet c.min-count-2.result (
-      omega (
-        arith,
-        ap (λ (x : Left). x.kept) c.own-2.view_is,
-        ap (λ (x : Left). x.deleted) c.own-2.view_is,
-        ap (λ (x : Left). x.kept) c.over.view_is,
-        ap (λ (x : Left). x.deleted) c.over.view_is,
-      )
+    omega (
+      arith,
+      ap (λ (x : Left). x.kept) c.own-2.view_is,
+      ap (λ (x : Left). x.deleted) c.own-2.view_is,
+      ap (λ (x : Left). x.kept) c.over.view_is,
+      ap (λ (x : Left). x.deleted) c.over.view_is,
+    )
     ) c.skip_deleted-2.ensures c.skip_deleted-3.ensures

@@ -1,8 +1,8 @@
-use Rattle.std.proofs.Common.{◌≡◌, ◌+◌, ◌<◌, ◌≤◌, ◌^◌, ◌++◌, List, length, ap, sym, ◌∙◌, arith}
+use Rattle.std.proofs.Common.{◌≡◌, ap, ◌∙◌, arith}
 use Rattle.rope_changes.specs.Ops.{run, len_before, len_after}
 use Rattle.rope_changes.specs.Combined.{compose}
-use Rattle.rope_changes.specs.Normal.{normal_form, composed}
-use Rattle.rope_changes.specs.Change.{before, after, ops}
+use Rattle.rope_changes.specs.Normal.{composed}
+use Rattle.rope_changes.specs.Change.{ops}
 use Rattle.rope_changes.specs.Left.{left}
 use Rattle.rope_changes.proofs.NormalLaws.{normal_runs, normal_before, normal_after}
 use Rattle.rope_changes.proofs.ComposeRuns.{compose_before, compose_after}

@@ -1,17 +1,17 @@
 -- Each turn passes one replacement, up to the one at the index.
-use Rattle.std.proofs.Common.{◌≡◌, ℕ, ◌+◌, ◌-◌, ◌<◌, ◌≤◌, ◌^◌, List, [], length, drop, ap, sym, ◌∙◌, subst, arith}
+use Rattle.std.proofs.Common.{◌≡◌, ◌+◌, ◌-◌, ◌<◌, ◌≤◌, ◌^◌, List, [], drop, ap, sym, ◌∙◌, subst, arith}
 use Rattle.std.specs.Prelude.{map}
 use Rattle.std.specs.Str.{chars}
 use Rattle.std.specs.String.{string_bytes}
 use Rattle.std.proofs.lemmas.List.{drop_all, length-map}
 use Rattle.rope_changes.specs.Ops.{Op, len_before, len_after}
-use Rattle.rope_changes.specs.Change.{Edit, Change, ops_of, ops, before, edit_of, change_of, keeping, IsCounted}
+use Rattle.rope_changes.specs.Change.{Edit, Change, ops_of, ops, before, edit_of, change_of, IsCounted}
 use Rattle.rope_changes.specs.Moved.{moved}
 use Rattle.rope_changes.specs.Passed.{IsPassed}
 use Rattle.rope_changes.specs.declared.change_set.Passed.{Passed}
 use Rattle.rope_changes.proofs.Prefixes.{rest_stays, keeping_before}
 use Rattle.rope_changes.proofs.Steps.{step_before, step_after}
-use Rattle.rope_changes.proofs.Passing.{apart_starts, normal_later, later, ops_at, next_passed}
+use Rattle.rope_changes.proofs.Passing.{apart_starts, normal_later, ops_at, next_passed}
 use Rattle.rope_changes.proofs.change_set.ChangeSet.map_from.Goals.{After-index-edit}
 use Rattle.rope_changes.proofs.change_set.ChangeSet.map_from.Goals as goal
 

@@ -1,7 +1,7 @@
-use Rattle.std.proofs.Common.{◌≡◌, ◌+◌, ◌<◌, ◌≤◌, length, get_or, set, ap, sym, ◌∙◌, arith}
+use Rattle.std.proofs.Common.{◌≡◌, length, get_or, set, ap, ◌∙◌, arith}
 use Rattle.rope_changes.specs.Change.{ops}
 use Rattle.rope_changes.specs.Moved.{moved}
-use Rattle.rope_changes.proofs.Passing.{mapped, mapped_at, mapped_next, mapped_all, mapped_length}
+use Rattle.rope_changes.proofs.Passing.{mapped_at, mapped_next, mapped_all, mapped_length}
 use Rattle.rope_changes.proofs.change_set.ChangeSet.map_sorted.Goals as goal
 
 pub map_from-requires-clause-within : goal.map_from-requires-clause-within

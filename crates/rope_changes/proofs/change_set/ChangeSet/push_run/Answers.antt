@@ -1,4 +1,4 @@
-use Rattle.std.proofs.Common.{◌+◌, ◌<◌, ◌^◌, ◌++◌, [], ap, sym, ◌∙◌, subst, arith, append-nil}
+use Rattle.std.proofs.Common.{◌++◌, [], ap, sym, ◌∙◌, subst, arith, append-nil}
 use Rattle.std.specs.Str.{chars}
 use Rattle.rope_changes.specs.Ops.{len_before, len_after}
 use Rattle.rope_changes.specs.Normal.{normal_form}

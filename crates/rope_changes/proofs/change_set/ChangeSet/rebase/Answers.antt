@@ -1,8 +1,8 @@
-use Rattle.std.proofs.Common.{◌≡◌, ◌+◌, ◌<◌, ◌≤◌, ◌^◌, ◌++◌, List, length, ap, sym, ◌∙◌, arith}
+use Rattle.std.proofs.Common.{◌≡◌, ◌<◌, ◌^◌, ◌++◌, ap, sym, ◌∙◌, arith}
 use Rattle.std.proofs.Math.Nat.{lt_of_not-le}
 use Rattle.rope_changes.specs.Ops.{len_before, len_after}
 use Rattle.rope_changes.specs.Normal.{normal_form, carried, rebased}
-use Rattle.rope_changes.specs.Change.{before, after, ops}
+use Rattle.rope_changes.specs.Change.{ops}
 use Rattle.rope_changes.specs.Left.{left}
 use Rattle.rope_changes.specs.Runs.{run_ops}
 use Rattle.rope_changes.proofs.NormalLaws.{normal_before, normal_after, normal_twice}

@@ -1,4 +1,4 @@
-use Rattle.std.proofs.Common.{◌++◌, ap, sym, ◌∙◌, drop}
+use Rattle.std.proofs.Common.{ap, sym, ◌∙◌, drop}
 use Rattle.std.specs.Prelude.{map}
 use Rattle.std.specs.Str.{chars}
 use Rattle.rope_changes.specs.Change.{keeping, inserting, deleting, ops_of, edit_of}
