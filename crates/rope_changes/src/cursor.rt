@@ -58,7 +58,8 @@ impl<'a> Cursor<'a> {
     pub(crate) fn load(&mut self) -> bool
         ensures left { left self.new ≡ left self.old }
         ensures loaded { IsLoaded self.new }
-        ensures some { IsTrue result ↔ (1 ≤ self.new.kept + length self.new.text + self.new.deleted) }
+        ensures some { IsTrue result
+            ↔ (1 ≤ self.new.kept + length self.new.text + self.new.deleted) }
     {
         if self.kept > 0 || self.inserted > 0 || self.deleted > 0 {
             return true;

@@ -11,9 +11,9 @@ pub fn changes_agree()
     ensures converge { Converges }
 {}
 
-/// Does nothing; its contract is the laws of normal forms. The normal form of a change does what the
-/// change does, with the same lengths. A change set is its own normal form, and two change sets with
-/// the same operations are equal, so that `compose` and `rebase` have one result each.
+/// Does nothing; its contract is the laws of normal forms. The normal form of a change does what
+/// the change does, with the same lengths. A change set is its own normal form, and two change sets
+/// with the same operations are equal, so that `compose` and `rebase` have one result each.
 pub fn normal_forms_agree()
     ensures applies { NormalFormApplies }
     ensures lengths { NormalFormKeepsLengths }
@@ -27,13 +27,13 @@ pub fn rebases_converge()
     ensures { RebasesConverge }
 {}
 
-/// Does nothing; its contract is the laws of moved indices. They keep their order, and before
+/// Does nothing; its contract is the laws of moved indices. Indices keep their order, and before
 /// inserted text they move through a composition of operations as through its two changes. Through
-/// the change that `compose` returns they do where they are 0 or come after a character that it
-/// keeps. Elsewhere they need not: if a text of one character loses it, and the next change inserts
-/// `"x"`, both changes move index 1 to 0, but the result of `compose` inserts `"x"` before it deletes
-/// the character, and moves index 1 to 1. After inserted text they need not either: an insert that a
-/// later change deletes leaves no trace in the composition.
+/// the change that `compose` returns they do if they are 0 or come after a character that it keeps.
+/// Other indices may not: if one change deletes the only character of a text and the next one
+/// inserts `"x"`, the two move index 1 to 0 one after the other. The result of `compose` inserts
+/// `"x"` before it deletes the character, and moves index 1 to 1. With `Side::After` indices may
+/// not either: an insert that a later change deletes leaves no trace in the composition.
 pub fn indices_move()
     ensures compose { MovesCompose }
     ensures composed { MovesThroughComposed }
