@@ -17,13 +17,18 @@ module _ (c : Change) (edits : List Edit) (k : ℕ) (d : Edit) (below : k < leng
 
   module _ (new : Change) (is : new ≡ made) where
     pub built_next : built c (drop k edits) ≡ built new (drop (k + 1) edits)
-    built_next = ap (built c) (drop_more edits k d below) ∙ ap (λ (x : Change). built x (drop (k + 1) edits)) (sym is)
+    built_next = ap (built c) (drop_more edits k d below)
+        ∙ ap (λ (x : Change). built x (drop (k + 1) edits)) (sym is)
 
-    pub error_next : replace_error c next.start next.end (chars next.text.now) ≡ None → first_error c (drop k edits) ≡ first_error new (drop (k + 1) edits)
+    pub error_next : replace_error c next.start next.end (chars next.text.now) ≡ None
+        → first_error c (drop k edits) ≡ first_error new (drop (k + 1) edits)
     error_next none =
         ap (first_error c) (drop_more edits k d below)
         ∙ ap (λ o. or_next o (first_error made (drop (k + 1) edits))) none
         ∙ ap (λ (x : Change). first_error x (drop (k + 1) edits)) (sym is)
 
-  pub error_here : (e : ChangeError) → replace_error c next.start next.end (chars next.text.now) ≡ Some e → first_error c (drop k edits) ≡ Some e
-  error_here e wrong = ap (first_error c) (drop_more edits k d below) ∙ ap (λ o. or_next o (first_error made (drop (k + 1) edits))) wrong
+  pub error_here : (e : ChangeError) → replace_error c next.start next.end (chars next.text.now)
+      ≡ Some e → first_error c (drop k edits) ≡ Some e
+  error_here e wrong =
+      ap (first_error c) (drop_more edits k d below)
+      ∙ ap (λ o. or_next o (first_error made (drop (k + 1) edits))) wrong

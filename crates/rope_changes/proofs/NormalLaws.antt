@@ -44,7 +44,8 @@ normal_after (delete ∷ a) = delete_after_after (normal_form a) ∙ normal_afte
 normal_after (insert c ∷ a) = ap suc (normal_after a)
 
 -- the normal form of a part may stand for it
-delete_after_append : (a b : List Op) → normal_form (delete_after a ++ b) ≡ delete_after (normal_form (a ++ b))
+delete_after_append : (a b : List Op)
+    → normal_form (delete_after a ++ b) ≡ delete_after (normal_form (a ++ b))
 delete_after_append [] b = refl
 delete_after_append (keep ∷ a) b = refl
 delete_after_append (delete ∷ a) b = refl
@@ -53,10 +54,12 @@ delete_after_append (insert c ∷ a) b = ap (λ u. insert c ∷ u) (delete_after
 pub normal_append : (a b : List Op) → normal_form (normal_form a ++ b) ≡ normal_form (a ++ b)
 normal_append [] b = refl
 normal_append (keep ∷ a) b = ap (λ u. keep ∷ u) (normal_append a b)
-normal_append (delete ∷ a) b = delete_after_append (normal_form a) b ∙ ap delete_after (normal_append a b)
+normal_append (delete ∷ a) b =
+    delete_after_append (normal_form a) b ∙ ap delete_after (normal_append a b)
 normal_append (insert c ∷ a) b = ap (λ u. insert c ∷ u) (normal_append a b)
 
-pub normal_onto : (a b c : List Op) → normal_form b ≡ normal_form c → normal_form (a ++ b) ≡ normal_form (a ++ c)
+pub normal_onto : (a b c : List Op) → normal_form b ≡ normal_form c
+    → normal_form (a ++ b) ≡ normal_form (a ++ c)
 normal_onto [] b c same = same
 normal_onto (keep ∷ a) b c same = ap (λ u. keep ∷ u) (normal_onto a b c same)
 normal_onto (delete ∷ a) b c same = ap delete_after (normal_onto a b c same)
@@ -77,36 +80,47 @@ inserting_append (c ∷ t) a b = ap (λ u. insert c ∷ u) (inserting_append t a
 
 pub keeping_more : (m n : ℕ) (a : List Op) → keeping (m + n) a ≡ keeping m (keeping n a)
 keeping_more zero n a = let e : 0 + n ≡ n = omega arith in ap (λ k. keeping k a) e
-keeping_more (suc m) n a = let e : suc m + n ≡ suc (m + n) = omega arith in ap (λ k. keeping k a) e ∙ ap (λ u. keep ∷ u) (keeping_more m n a)
+keeping_more (suc m) n a =
+    let e : suc m + n ≡ suc (m + n) = omega arith in ap (λ k. keeping k a) e
+    ∙ ap (λ u. keep ∷ u) (keeping_more m n a)
 
 pub deleting_more : (m n : ℕ) (a : List Op) → deleting (m + n) a ≡ deleting m (deleting n a)
 deleting_more zero n a = let e : 0 + n ≡ n = omega arith in ap (λ k. deleting k a) e
-deleting_more (suc m) n a = let e : suc m + n ≡ suc (m + n) = omega arith in ap (λ k. deleting k a) e ∙ ap (λ u. delete ∷ u) (deleting_more m n a)
+deleting_more (suc m) n a =
+    let e : suc m + n ≡ suc (m + n) = omega arith in ap (λ k. deleting k a) e
+    ∙ ap (λ u. delete ∷ u) (deleting_more m n a)
 
-pub inserting_more : (s t : List ℕ) (a : List Op) → inserting (s ++ t) a ≡ inserting s (inserting t a)
+pub inserting_more : (s t : List ℕ) (a : List Op)
+    → inserting (s ++ t) a ≡ inserting s (inserting t a)
 inserting_more [] t a = refl
 inserting_more (c ∷ s) t a = ap (λ u. insert c ∷ u) (inserting_more s t a)
 
 pub keeping_split : (k n : ℕ) (a : List Op) → n ≤ k → keeping k a ≡ keeping n (keeping (k - n) a)
-keeping_split k n a le = let e : k ≡ n + (k - n) = omega arith in ap (λ m. keeping m a) e ∙ keeping_more n (k - n) a
+keeping_split k n a le =
+    let e : k ≡ n + (k - n) = omega arith in ap (λ m. keeping m a) e ∙ keeping_more n (k - n) a
 
-pub deleting_split : (k n : ℕ) (a : List Op) → n ≤ k → deleting k a ≡ deleting n (deleting (k - n) a)
-deleting_split k n a le = let e : k ≡ n + (k - n) = omega arith in ap (λ m. deleting m a) e ∙ deleting_more n (k - n) a
+pub deleting_split : (k n : ℕ) (a : List Op) → n ≤ k
+    → deleting k a ≡ deleting n (deleting (k - n) a)
+deleting_split k n a le =
+    let e : k ≡ n + (k - n) = omega arith in ap (λ m. deleting m a) e ∙ deleting_more n (k - n) a
 
 -- the normal form of runs
 pub normal_keeping : (n : ℕ) (a : List Op) → normal_form (keeping n a) ≡ keeping n (normal_form a)
 normal_keeping zero a = refl
 normal_keeping (suc n) a = ap (λ u. keep ∷ u) (normal_keeping n a)
 
-pub normal_inserting : (t : List ℕ) (a : List Op) → normal_form (inserting t a) ≡ inserting t (normal_form a)
+pub normal_inserting : (t : List ℕ) (a : List Op)
+    → normal_form (inserting t a) ≡ inserting t (normal_form a)
 normal_inserting [] a = refl
 normal_inserting (c ∷ t) a = ap (λ u. insert c ∷ u) (normal_inserting t a)
 
-delete_after_inserting : (t : List ℕ) (a : List Op) → delete_after (inserting t a) ≡ inserting t (delete_after a)
+delete_after_inserting : (t : List ℕ) (a : List Op)
+    → delete_after (inserting t a) ≡ inserting t (delete_after a)
 delete_after_inserting [] a = refl
 delete_after_inserting (c ∷ t) a = ap (λ u. insert c ∷ u) (delete_after_inserting t a)
 
-pub normal_swaps : (n : ℕ) (t : List ℕ) (a : List Op) → normal_form (deleting n (inserting t a)) ≡ normal_form (inserting t (deleting n a))
+pub normal_swaps : (n : ℕ) (t : List ℕ) (a : List Op) → normal_form (deleting n (inserting t a))
+    ≡ normal_form (inserting t (deleting n a))
 normal_swaps zero t a = refl
 normal_swaps (suc n) t a =
     ap delete_after (normal_swaps n t a ∙ normal_inserting t (deleting n a))
@@ -122,34 +136,49 @@ rest_leads : (n : ℕ) → delete_after (keeping n []) ≡ delete ∷ keeping n 
 rest_leads zero = refl
 rest_leads (suc n) = refl
 
-apart_leads : (edits : List Edit) (rest : ℕ) → AreApart edits → delete_after (ops_of edits rest) ≡ delete ∷ ops_of edits rest
+apart_leads : (edits : List Edit) (rest : ℕ) → AreApart edits
+    → delete_after (ops_of edits rest) ≡ delete ∷ ops_of edits rest
 apart_leads [] rest apart = rest_leads rest
-apart_leads (e ∷ edits) rest apart = keep_leads e.kept (inserting e.text (deleting e.deleted (ops_of edits rest))) apart.0
+apart_leads (e ∷ edits) rest apart =
+    keep_leads e.kept (inserting e.text (deleting e.deleted (ops_of edits rest))) apart.0
 
-deletes_lead : (n : ℕ) (a : List Op) → delete_after a ≡ delete ∷ a → delete_after (deleting n a) ≡ delete ∷ deleting n a
+deletes_lead : (n : ℕ) (a : List Op) → delete_after a ≡ delete ∷ a
+    → delete_after (deleting n a) ≡ delete ∷ deleting n a
 deletes_lead zero a leads = leads
 deletes_lead (suc n) a leads = refl
 
-deleting_stays : (n : ℕ) (a : List Op) → normal_form a ≡ a → delete_after a ≡ delete ∷ a → normal_form (deleting n a) ≡ deleting n a
+deleting_stays : (n : ℕ) (a : List Op) → normal_form a ≡ a → delete_after a ≡ delete ∷ a
+    → normal_form (deleting n a) ≡ deleting n a
 deleting_stays zero a is leads = is
-deleting_stays (suc n) a is leads = ap delete_after (deleting_stays n a is leads) ∙ deletes_lead n a leads
+deleting_stays (suc n) a is leads =
+    ap delete_after (deleting_stays n a is leads) ∙ deletes_lead n a leads
 
 step_stays : (e : Edit) (a : List Op) → normal_form a ≡ a → delete_after a ≡ delete ∷ a
-    → normal_form (keeping e.kept (inserting e.text (deleting e.deleted a))) ≡ keeping e.kept (inserting e.text (deleting e.deleted a))
+    → normal_form (keeping e.kept (inserting e.text (deleting e.deleted a)))
+    ≡ keeping e.kept (inserting e.text (deleting e.deleted a))
 step_stays e a is leads =
     normal_keeping e.kept (inserting e.text (deleting e.deleted a))
-    ∙ ap (keeping e.kept) (normal_inserting e.text (deleting e.deleted a) ∙ ap (inserting e.text) (deleting_stays e.deleted a is leads))
+    ∙ ap (keeping e.kept) (normal_inserting e.text (deleting e.deleted a)
+    ∙ ap (inserting e.text) (deleting_stays e.deleted a is leads))
 
-apart_stay : (edits : List Edit) (rest : ℕ) → AreApart edits → normal_form (ops_of edits rest) ≡ ops_of edits rest
+apart_stay : (edits : List Edit) (rest : ℕ) → AreApart edits
+    → normal_form (ops_of edits rest) ≡ ops_of edits rest
 apart_stay [] rest apart = normal_keeping rest []
-apart_stay (e ∷ edits) rest apart = step_stays e (ops_of edits rest) (apart_stay edits rest apart.2) (apart_leads edits rest apart.2)
+apart_stay (e ∷ edits) rest apart =
+    step_stays e (ops_of edits rest) (apart_stay edits rest apart.2)
+    (apart_leads edits rest apart.2)
 
-pub normal_stays : (edits : List Edit) (rest : ℕ) → AreNormal edits → normal_form (ops_of edits rest) ≡ ops_of edits rest
+pub normal_stays : (edits : List Edit) (rest : ℕ) → AreNormal edits
+    → normal_form (ops_of edits rest) ≡ ops_of edits rest
 normal_stays [] rest normal = normal_keeping rest []
-normal_stays (e ∷ edits) rest normal = step_stays e (ops_of edits rest) (apart_stay edits rest normal.1) (apart_leads edits rest normal.1)
+normal_stays (e ∷ edits) rest normal =
+    step_stays e (ops_of edits rest) (apart_stay edits rest normal.1)
+    (apart_leads edits rest normal.1)
 
 pub normal_twice : (a : List Op) → normal_form (normal_form a) ≡ normal_form a
-normal_twice a = ap normal_form (sym (append-nil (normal_form a))) ∙ normal_append a [] ∙ ap normal_form (append-nil a)
+normal_twice a =
+    ap normal_form (sym (append-nil (normal_form a))) ∙ normal_append a []
+    ∙ ap normal_form (append-nil a)
 
 -- the number of operations
 pub keeping_length : (n : ℕ) (a : List Op) → length (keeping n a) ≡ n + length a

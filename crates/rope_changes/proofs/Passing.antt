@@ -18,15 +18,21 @@ use Rattle.rope_changes.proofs.Steps.{step_before, step_after, step_moved}
 pub none_passed : (c : Change) → IsPassed c (record { count = 0; end = 0; new_end = 0 })
 none_passed c = record {
   within = omega arith;
-  moves = λ side i reaches. let whole : i - 0 ≡ i = omega arith in ap (moved side (ops c)) (sym whole) ∙ (let sum : moved side (ops c) (i - 0) ≡ 0 + moved side (ops c) (i - 0) = omega arith in sum);
+  moves =
+      λ side i reaches. let whole : i - 0 ≡ i = omega arith in ap (moved side (ops c)) (sym whole)
+      ∙ (let sum : moved side (ops c) (i - 0)
+      ≡ 0 + moved side (ops c) (i - 0) = omega arith in sum);
   before_is = omega arith;
   after_is = omega arith;
 }
 
 -- the start of what a replacement in normal form keeps
-pub apart_starts : (side : Side) (edits : List Edit) (rest : ℕ) → AreApart edits → moved side (ops_of edits rest) 0 ≡ 0
+pub apart_starts : (side : Side) (edits : List Edit) (rest : ℕ) → AreApart edits
+    → moved side (ops_of edits rest) 0 ≡ 0
 apart_starts side [] rest apart = rest_stays side rest 0 (omega arith)
-apart_starts side (e ∷ edits) rest apart = kept_stays side e.kept 0 (inserting e.text (deleting e.deleted (ops_of edits rest))) (omega (arith, apart.0))
+apart_starts side (e ∷ edits) rest apart =
+    kept_stays side e.kept 0 (inserting e.text (deleting e.deleted (ops_of edits rest)))
+    (omega (arith, apart.0))
 
 apart_later : (edits : List Edit) (k : ℕ) → AreApart edits → AreApart (drop k edits)
 apart_later edits zero apart = apart
@@ -38,9 +44,12 @@ later_apart [] k normal = tt
 later_apart (e ∷ edits) k normal = apart_later edits k normal.1
 
 pub normal_later : (edits : List Edit) (k : ℕ) → AreNormal edits → AreApart (drop (k + 1) edits)
-normal_later edits k normal = let e : suc k ≡ k + 1 = omega arith in subst (λ n. AreApart (drop n edits)) e (later_apart edits k normal)
+normal_later edits k normal =
+    let e : suc k ≡ k + 1 = omega arith in subst (λ n. AreApart (drop n edits)) e
+    (later_apart edits k normal)
 
-module _ (items : List Replacement) (rest k : ℕ) (e : Replacement) (below : k < length items) (is : e ≡ get_or items k e) where
+module _ (items : List Replacement) (rest k : ℕ) (e : Replacement) (below : k < length items)
+    (is : e ≡ get_or items k e) where
   abbrev pub later : List Op
   later = ops_of (drop (k + 1) (map edit_of items)) rest
 
@@ -50,8 +59,15 @@ module _ (items : List Replacement) (rest k : ℕ) (e : Replacement) (below : k 
       ∙ next_ops items k rest e below is
       ∙ ap (λ es. step_of e (ops_of es rest)) (sym (drop-map edit_of (k + 1) items))
 
-  pub next_passed : (end new_end : ℕ) → IsCounted e → IsPassed (record { edits = map edit_of items; rest = rest }) (record { count = k; end = end; new_end = new_end })
-      → IsPassed (record { edits = map edit_of items; rest = rest }) (record { count = k + 1; end = end + (e.kept + e.deleted); new_end = new_end + (e.kept + e.inserted) })
+  pub next_passed : (end new_end : ℕ) → IsCounted e
+      → IsPassed (record { edits = map edit_of items; rest = rest })
+      (record { count = k; end = end; new_end = new_end })
+      → IsPassed (record { edits = map edit_of items; rest = rest })
+      (record {
+        count = k + 1;
+        end = end + (e.kept + e.deleted);
+        new_end = new_end + (e.kept + e.inserted);
+      })
   next_passed end new_end counted passed =
       let text = chars (string_bytes e.text) in
       record {
@@ -59,11 +75,32 @@ module _ (items : List Replacement) (rest k : ℕ) (e : Replacement) (below : k 
         moves = λ side i reaches.
             let far : end + (e.kept + e.deleted) < i = reaches.more (omega arith) in
             let old = passed.moves side i (record { le = omega arith; more = λ _. omega arith }) in
-            let through = step_moved e.kept text e.deleted later side (i - end) (omega arith) (inserted_passed side text (i - end - e.kept) (deleting e.deleted later) (omega arith)) in
-            let at : i - end - e.kept - e.deleted ≡ i - (end + (e.kept + e.deleted)) = omega arith in
-            omega (arith, old, ap (λ x. moved side x (i - end)) ops_at, through, ap (moved side later) at, counted);
-        before_is = omega (arith, passed.before_is, ap len_before ops_at, step_before e.kept text e.deleted later);
-        after_is = omega (arith, passed.after_is, ap len_after ops_at, step_after e.kept text e.deleted later, counted);
+            let through = step_moved e.kept text e.deleted later side (i - end) (omega arith)
+            (inserted_passed side text (i - end - e.kept) (deleting e.deleted later) (omega arith))
+            in
+            let at : i - end - e.kept - e.deleted
+            ≡ i - (end + (e.kept + e.deleted)) = omega arith in
+            omega (
+              arith,
+              old,
+              ap (λ x. moved side x (i - end)) ops_at,
+              through,
+              ap (moved side later) at,
+              counted,
+            );
+        before_is = omega (
+          arith,
+          passed.before_is,
+          ap len_before ops_at,
+          step_before e.kept text e.deleted later,
+        );
+        after_is = omega (
+          arith,
+          passed.after_is,
+          ap len_after ops_at,
+          step_after e.kept text e.deleted later,
+          counted,
+        );
       }
 
 -- a list whose first elements are mapped
@@ -77,11 +114,13 @@ mapped_at f zero d xs = refl
 mapped_at f (suc i) d [] = refl
 mapped_at f (suc i) d (x ∷ xs) = mapped_at f i d xs
 
-pub mapped_next : (f : ℕ → ℕ) (i d : ℕ) (xs : List ℕ) → i < length xs → set (mapped f i xs) i (f (get_or xs i d)) ≡ mapped f (i + 1) xs
+pub mapped_next : (f : ℕ → ℕ) (i d : ℕ) (xs : List ℕ) → i < length xs
+    → set (mapped f i xs) i (f (get_or xs i d)) ≡ mapped f (i + 1) xs
 mapped_next f i d [] below = absurd (omega arith)
 mapped_next f zero d (x ∷ xs) below = refl
 mapped_next f (suc i) d (x ∷ xs) below =
-    ap (λ u. f x ∷ u) (mapped_next f i d xs (omega arith)) ∙ (let e : suc (i + 1) ≡ suc i + 1 = omega arith in ap (λ n. mapped f n (x ∷ xs)) e)
+    ap (λ u. f x ∷ u) (mapped_next f i d xs (omega arith))
+    ∙ (let e : suc (i + 1) ≡ suc i + 1 = omega arith in ap (λ n. mapped f n (x ∷ xs)) e)
 
 pub mapped_all : (f : ℕ → ℕ) (n : ℕ) (xs : List ℕ) → length xs ≤ n → mapped f n xs ≡ map f xs
 mapped_all f zero [] all = refl

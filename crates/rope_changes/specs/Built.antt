@@ -18,8 +18,10 @@ built c (e ∷ edits) = built (replaced c e.start e.end (chars e.text.now)) edit
 -- why a range can't be replaced, where there is memory
 abbrev pub replace_error : Change → ℕ → ℕ → List ℕ → Option ChangeError
 replace_error c start end text =
-    if nat_lt end start then Some (RangeInvalid start end) else if nat_lt (before c) end then Some (RangeOutOfBounds end (before c))
-    else if nat_lt start (last_end c) then Some (OutOfOrder start (last_end c)) else if nat_le (2 ^ 63) (replaced_len c start end text) then Some TooLong else None
+    if nat_lt end start then Some (RangeInvalid start end) else if nat_lt (before c) end then Some
+    (RangeOutOfBounds end (before c))
+    else if nat_lt start (last_end c) then Some (OutOfOrder start (last_end c)) else if nat_le
+    (2 ^ 63) (replaced_len c start end text) then Some TooLong else None
 
 abbrev pub or_next : Option ChangeError → Option ChangeError → Option ChangeError
 or_next (Some error) next = Some error
@@ -28,4 +30,6 @@ or_next None next = next
 -- the error of the first edit that can't be made
 abbrev pub first_error : Change → List Edit → Option ChangeError
 first_error c [] = None
-first_error c (e ∷ edits) = or_next (replace_error c e.start e.end (chars e.text.now)) (first_error (replaced c e.start e.end (chars e.text.now)) edits)
+first_error c (e ∷ edits) =
+    or_next (replace_error c e.start e.end (chars e.text.now))
+    (first_error (replaced c e.start e.end (chars e.text.now)) edits)

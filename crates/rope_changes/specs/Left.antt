@@ -7,7 +7,8 @@ use Rattle.rope_changes.specs.Change.{Edit, keeping, inserting, deleting, ops_of
 use Rattle.rope_changes.specs.declared.change_set.Replacement.{Replacement}
 use Rattle.rope_changes.specs.declared.cursor.Cursor.TheInside.{Inside}
 
--- what is left of one replacement, those after it, and the number of characters kept after the last one
+-- what is left of one replacement, those after it, and the number of characters kept after the last
+-- one
 pub record Left : Type 0 where
   pub kept : ℕ
   pub text : List ℕ
@@ -28,7 +29,14 @@ abbrev pub Inserts : Left → Type 0
 Inserts l = (l.kept ≡ 0) × (1 ≤ length l.text)
 
 abbrev pub left_of : Inside → Left
-left_of a = record { kept = a.kept; text = chars a.text.now; deleted = a.deleted; edits = map edit_of (drop a.index a.items.now); rest = a.rest }
+left_of a =
+    record {
+      kept = a.kept;
+      text = chars a.text.now;
+      deleted = a.deleted;
+      edits = map edit_of (drop a.index a.items.now);
+      rest = a.rest;
+    }
 
 -- it inserts or deletes something
 abbrev pub IsChanging : Replacement → Type 0

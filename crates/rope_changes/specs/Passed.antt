@@ -21,6 +21,8 @@ pub record Reaches (p : Passed) (i : ℕ) : Type 0 where
 -- an index after what is passed moves through the replacements that are left
 pub record IsPassed (c : Change) (p : Passed) : Type 0 where
   pub within : p.count ≤ length c.edits
-  pub moves : (side : Side) (i : ℕ) → Reaches p i → moved side (ops c) i ≡ p.new_end + moved side (ops_of (drop p.count c.edits) c.rest) (i - p.end)
+  pub moves : (side : Side) (i : ℕ) → Reaches p i
+      → moved side (ops c) i ≡ p.new_end + moved side (ops_of (drop p.count c.edits) c.rest)
+      (i - p.end)
   pub before_is : p.end + len_before (ops_of (drop p.count c.edits) c.rest) ≡ before c
   pub after_is : p.new_end + len_after (ops_of (drop p.count c.edits) c.rest) ≡ after c

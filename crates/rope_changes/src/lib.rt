@@ -8,9 +8,9 @@
 //! is 6. `ChangeSet::new` and `replace` make the same change one edit at a time.
 //!
 //! `compose` makes one change of two changes in a row, as an undo history does for edits that
-//! belong together. `rebase` carries a change over another change of the same text, as two editors of one
-//! text need it: both orders then lead to the same text. `invert` returns the change that undoes a
-//! change.
+//! belong together. `rebase` carries a change over another change of the same text, as two editors
+//! of one text need it: both orders then lead to the same text. `invert` returns the change that
+//! undoes a change.
 //!
 //! Contracts see a change as its replacements, and those as a list of operations on single
 //! characters. Replacements that touch are one, and each inserts before it deletes, so changes with

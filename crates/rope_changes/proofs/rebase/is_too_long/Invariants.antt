@@ -8,7 +8,8 @@ use Rattle.rope_changes.proofs.rebase.is_too_long.Given as goal
 
 abbrev pub invariant-loop-first : goal.invariant-loop-first
 invariant-loop-first l = record {
-  room : l.room + 1 + len_after (carried l.side (ops l.own) (ops l.over)) ≡ 2 ^ 63 + len_after (carried l.side (left l.first) (left l.second));
+  room : l.room + 1 + len_after (carried l.side (ops l.own) (ops l.over))
+      ≡ 2 ^ 63 + len_after (carried l.side (left l.first) (left l.second));
   meet : len_before (left l.first) ≡ len_before (left l.second);
 }
 

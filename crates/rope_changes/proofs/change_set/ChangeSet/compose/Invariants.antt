@@ -9,7 +9,8 @@ use Rattle.rope_changes.proofs.change_set.ChangeSet.compose.Given as goal
 
 abbrev pub invariant-loop-first : goal.invariant-loop-first
 invariant-loop-first l = record {
-  composed : normal_form (ops l.made ++ compose (left l.first) (left l.second)) ≡ composed (ops l.self) (ops l.later);
+  composed : normal_form (ops l.made ++ compose (left l.first) (left l.second))
+      ≡ composed (ops l.self) (ops l.later);
   meet : len_after (left l.first) ≡ len_before (left l.second);
   normal : normal_form (ops l.made) ≡ ops l.made;
 }

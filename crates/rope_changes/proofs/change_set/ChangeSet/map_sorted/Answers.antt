@@ -9,7 +9,8 @@ map_from-requires-clause-within c =
     let l = c.loop-char_idx in
     let f = moved c.args.side (ops c.args.self.now) in
     let all = c.args.char_indices.now in
-    let len : length l.char_indices ≡ length all = ap length l.invariant.moved ∙ mapped_length f l.char_idx-index all in
+    let len : length l.char_indices ≡ length all = ap length l.invariant.moved
+    ∙ mapped_length f l.char_idx-index all in
     omega (
       arith,
       ap (λ xs. get_or xs l.char_idx-index 0) l.invariant.moved,
@@ -23,10 +24,14 @@ loop-char_idx-preserved c =
     let f = moved c.args.side (ops c.args.self.now) in
     let all = c.args.char_indices.now in
     let i = l.char_idx-index in
-    let len : length l.char_indices ≡ length all = ap length l.invariant.moved ∙ mapped_length f i all in
-    let here : get_or l.char_indices i 0 ≡ get_or all i 0 = ap (λ xs. get_or xs i 0) l.invariant.moved ∙ mapped_at f i 0 all in
+    let len : length l.char_indices ≡ length all = ap length l.invariant.moved
+    ∙ mapped_length f i all in
+    let here : get_or l.char_indices i 0
+    ≡ get_or all i 0 = ap (λ xs. get_or xs i 0) l.invariant.moved ∙ mapped_at f i 0 all in
     record {
-      moved = ap (set l.char_indices i) (c.map_from.ensures.moved ∙ ap f here) ∙ ap (λ xs. set xs i (f (get_or all i 0))) l.invariant.moved ∙ mapped_next f i 0 all (omega (arith, len, c.loop-char_idx-test.true));
+      moved = ap (set l.char_indices i) (c.map_from.ensures.moved ∙ ap f here)
+          ∙ ap (λ xs. set xs i (f (get_or all i 0))) l.invariant.moved
+          ∙ mapped_next f i 0 all (omega (arith, len, c.loop-char_idx-test.true));
       passed = c.map_from.ensures.passed;
     }
 
@@ -35,5 +40,7 @@ returns c =
     let l = c.loop-char_idx in
     let f = moved c.args.side (ops c.args.self.now) in
     let all = c.args.char_indices.now in
-    let len : length l.char_indices ≡ length all = ap length l.invariant.moved ∙ mapped_length f l.char_idx-index all in
-    l.invariant.moved ∙ mapped_all f l.char_idx-index all (omega (arith, len, c.loop-char_idx-test.false))
+    let len : length l.char_indices ≡ length all = ap length l.invariant.moved
+    ∙ mapped_length f l.char_idx-index all in
+    l.invariant.moved
+    ∙ mapped_all f l.char_idx-index all (omega (arith, len, c.loop-char_idx-test.false))

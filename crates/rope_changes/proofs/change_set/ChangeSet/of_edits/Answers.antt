@@ -24,8 +24,11 @@ loop-edit-preserved c =
     let all = c.args.edits.now in
     let below : l.edit-index < length all = omega arith in
     record {
-      built = l.invariant.built ∙ built_next l.change all l.edit-index _ below _ c.in_ok-replace.ensures.ok;
-      error = l.invariant.error ∙ error_next l.change all l.edit-index _ below _ c.in_ok-replace.ensures.ok c.in_ok-replace.ensures.valid;
+      built = l.invariant.built
+          ∙ built_next l.change all l.edit-index _ below _ c.in_ok-replace.ensures.ok;
+      error = l.invariant.error
+          ∙ error_next l.change all l.edit-index _ below _ c.in_ok-replace.ensures.ok
+          c.in_ok-replace.ensures.valid;
       len = c.in_ok-replace.ensures.len_before ∙ l.invariant.len;
     }
 
@@ -35,9 +38,11 @@ returns-in_err-replace-clause-error c = λ short.
     let all = c.args.edits.now in
     let below : l.edit-index < length all = omega arith in
     let error = c.in_err-replace.field-0.0 in
-    let is : (error ≡ OutOfMemory) ⊎ (first_error (unchanged c.args.len) all ≡ Some error) = elim c.in_err-replace.ensures.error [
+    let is : (error ≡ OutOfMemory) ⊎
+    (first_error (unchanged c.args.len) all ≡ Some error) = elim c.in_err-replace.ensures.error [
       | inl memory ↦ inl memory
-      | inr wrong ↦ inr (l.invariant.error ∙ error_here l.change all l.edit-index _ below error wrong)
+      | inr wrong ↦ inr
+          (l.invariant.error ∙ error_here l.change all l.edit-index _ below error wrong)
     ] in
     search rules
 
@@ -46,7 +51,9 @@ none_left : (c : goal.After-loop-edit) → drop c.loop-edit.edit-index c.args.ed
 none_left c = drop_all _ _ c.loop-edit-test.false
 
 pub returns-clause-valid : goal.returns-clause-valid
-returns-clause-valid c = c.loop-edit.invariant.error ∙ ap (first_error c.loop-edit.change) (none_left c)
+returns-clause-valid c =
+    c.loop-edit.invariant.error ∙ ap (first_error c.loop-edit.change) (none_left c)
 
 pub returns-clause-ok : goal.returns-clause-ok
-returns-clause-ok c = sym (c.loop-edit.invariant.built ∙ ap (built c.loop-edit.change) (none_left c))
+returns-clause-ok c =
+    sym (c.loop-edit.invariant.built ∙ ap (built c.loop-edit.change) (none_left c))

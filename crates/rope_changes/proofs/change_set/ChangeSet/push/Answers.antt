@@ -13,7 +13,8 @@ pub add-requires-clause-fits : goal.add-requires-clause-fits
 add-requires-clause-fits c =
     let len = ap (λ (x : Change). before x) c.self.view_is in
     let new_len = ap (λ (x : Change). after x) c.self.view_is in
-    last_fits c.self.inside.edits.items c.self.inside.rest _ _ c.self.invariant.counted (omega arith) (omega arith)
+    last_fits c.self.inside.edits.items c.self.inside.rest _ _ c.self.invariant.counted
+    (omega arith) (omega arith)
 
 pub invariant_of-self-2 : goal.invariant_of-self-2
 invariant_of-self-2 c =
@@ -39,14 +40,17 @@ invariant_of-self-2 c =
       );
       before_fits = omega (arith, ap (λ (x : Change). before x) c.self.view_is);
       after_fits = omega (arith, ap (λ (x : Change). after x) c.self.view_is);
-      normal = rw c.in_ok-add.ensures.ok (appended_normal edits _ text deleted c.self.invariant.normal (omega arith));
+      normal = rw c.in_ok-add.ensures.ok
+          (appended_normal edits _ text deleted c.self.invariant.normal (omega arith));
     }
 
 pub returns-clause-ok : goal.returns-clause-ok
 returns-clause-ok c =
     let edits = map edit_of c.self.inside.edits.items in
     let text = chars c.args.text.now in
-    let normal : AreNormal _ = appended_normal edits c.self.inside.rest text c.args.deleted c.self.invariant.normal (omega arith) in
+    let normal : AreNormal _ = appended_normal edits c.self.inside.rest text c.args.deleted
+    c.self.invariant.normal (omega arith) in
     ap (λ es. ops_of es 0) c.in_ok-add.ensures.ok
     ∙ added_ops edits c.self.inside.rest text c.args.deleted normal
-    ∙ ap (λ (x : Change). normal_form (ops x ++ inserting text (deleting c.args.deleted []))) c.self.view_is
+    ∙ ap (λ (x : Change). normal_form (ops x ++ inserting text (deleting c.args.deleted [])))
+    c.self.view_is

@@ -8,7 +8,11 @@ use Rattle.rope_changes.proofs.change_set.ChangeSet.push_kept.Goals as goal
 
 pub overflow_add-self : goal.overflow_add-self
 overflow_add-self c =
-    omega (arith, rest_before (map edit_of c.self.inside.edits.items) c.self.inside.rest, ap (λ (x : Change). before x) c.self.view_is)
+    omega (
+      arith,
+      rest_before (map edit_of c.self.inside.edits.items) c.self.inside.rest,
+      ap (λ (x : Change). before x) c.self.view_is,
+    )
 
 pub invariant_of-self : goal.invariant_of-self
 invariant_of-self c =
@@ -16,8 +20,10 @@ invariant_of-self c =
     let rest = c.self.inside.rest in
     record {
       counted = c.self.invariant.counted;
-      before_is = omega (arith, before_with_rest edits (rest + c.args.count), before_with_rest edits rest);
-      after_is = omega (arith, after_with_rest edits (rest + c.args.count), after_with_rest edits rest);
+      before_is = omega
+          (arith, before_with_rest edits (rest + c.args.count), before_with_rest edits rest);
+      after_is = omega
+          (arith, after_with_rest edits (rest + c.args.count), after_with_rest edits rest);
       before_fits = omega (arith, ap (λ (x : Change). before x) c.self.view_is);
       after_fits = omega (arith, ap (λ (x : Change). after x) c.self.view_is);
       normal = c.self.invariant.normal;
@@ -25,5 +31,6 @@ invariant_of-self c =
 
 pub returns : goal.returns
 returns c =
-    kept_ops (map edit_of c.self.inside.edits.items) c.self.inside.rest c.args.count c.self.invariant.normal
+    kept_ops
+    (map edit_of c.self.inside.edits.items) c.self.inside.rest c.args.count c.self.invariant.normal
     ∙ ap (λ (x : Change). normal_form (ops x ++ keeping c.args.count [])) c.self.view_is

@@ -8,7 +8,8 @@ use Rattle.rope_changes.proofs.change_set.ChangeSet.rebase.Given as goal
 
 abbrev pub invariant-loop-first : goal.invariant-loop-first
 invariant-loop-first l = record {
-  carried : normal_form (ops l.made ++ carried l.side (left l.first) (left l.second)) ≡ rebased l.side (ops l.self) (ops l.over);
+  carried : normal_form (ops l.made ++ carried l.side (left l.first) (left l.second))
+      ≡ rebased l.side (ops l.self) (ops l.over);
   meet : len_before (left l.first) ≡ len_before (left l.second);
   normal : normal_form (ops l.made) ≡ ops l.made;
 }

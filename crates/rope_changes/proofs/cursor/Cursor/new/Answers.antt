@@ -12,12 +12,17 @@ unfolding chars
 invariant_of-result c = record {
   counted = refl;
   all_counted = subst (All IsCounted) (sym c.as_slice.ensures.value) c.change.invariant.counted;
-  changing = subst (All IsChanging) (sym c.as_slice.ensures.value) (all_changing c.change.inside.edits.items c.change.invariant.counted c.change.invariant.normal);
+  changing =
+      subst (All IsChanging) (sym c.as_slice.ensures.value)
+      (all_changing c.change.inside.edits.items c.change.invariant.counted
+      c.change.invariant.normal);
 }
 
 pub returns-clause-left : goal.returns-clause-left
 unfolding chars
-returns-clause-left c = ap (λ xs. ops_of (map edit_of xs) c.change.inside.rest) c.as_slice.ensures.value ∙ ap ops c.change.view_is
+returns-clause-left c =
+    ap (λ xs. ops_of (map edit_of xs) c.change.inside.rest) c.as_slice.ensures.value
+    ∙ ap ops c.change.view_is
 
 pub returns-clause-before_fits : goal.returns-clause-before_fits
 returns-clause-before_fits c = omega (arith, ap (λ (x : Change). before x) c.change.view_is)

@@ -6,4 +6,5 @@ use Rattle.rope_changes.proofs.cursor.Cursor.skip_kept.Goals as goal
 pub returns : goal.returns
 returns c =
     sym (ap left c.self.view_is)
-    ∙ keeping_split c.self.inside.kept c.args.count _ (omega (arith, ap (λ (x : Left). x.kept) c.self.view_is))
+    ∙ keeping_split c.self.inside.kept c.args.count _
+    (omega (arith, ap (λ (x : Left). x.kept) c.self.view_is))
