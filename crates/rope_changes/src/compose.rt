@@ -109,7 +109,7 @@ impl ChangeSet {
     ///
     /// # Errors
     ///
-    /// First `LengthDiffers`, with both lengths, if `later.len_before()` isn't `len_after()`; then
+    /// First `LengthDiffers`, with `later.len_before()` and `len_after()`, if they differ; then
     /// `OutOfMemory`.
     pub fn compose(&self, later: &ChangeSet) -> Result<ChangeSet, ChangeError>
         ensures differs { after self.now ≢ before later.now

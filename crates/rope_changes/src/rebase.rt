@@ -90,13 +90,13 @@ fn is_too_long(own: &ChangeSet, over: &ChangeSet, side: Side) -> bool
 impl ChangeSet {
     /// Returns this change as a change of the text after `over`, where both are changes of one
     /// text. Where both insert at one index, the text of this change comes first with
-    /// `Side::Before`, and the text of `over` with `Side::After`. `a` and then `b` rebased over `a`
-    /// with one side lead to the same text as `b` and then `a` rebased over `b` with the other.
+    /// `Side::Before`, and the text of `over` with `Side::After`. If `a` is rebased over `b` with
+    /// one side, and `b` over `a` with the other, both orders lead to the same text.
     /// Takes memory for the replacements and the inserted texts of the result.
     ///
     /// # Errors
     ///
-    /// First `LengthDiffers`, with both lengths, if `over.len_before()` isn't `len_before()`; then
+    /// First `LengthDiffers`, with `len_before()` and `over.len_before()`, if they differ; then
     /// `TooLong`, if the text after the result would have more than `isize::MAX` characters; then
     /// `OutOfMemory`.
     pub fn rebase(&self, over: &ChangeSet, side: Side) -> Result<ChangeSet, ChangeError>
