@@ -2,6 +2,7 @@
 use Rattle.std.proofs.Common.{◌≡◌, ℕ, suc, ◌≤◌, List, [], ◌∷◌, length, refl, ap, sym, ◌∙◌, arith}
 use Rattle.rope_changes.specs.Ops.{Op, keep, delete, insert, run, len_before, len_after}
 use Rattle.rope_changes.specs.Combined.{onto_kept, onto_inserted, compose, inverse, past_kept, past_deleted, rebase_second, over_kept, over_deleted, rebase_first}
+use Rattle.rope_changes.proofs.Runs.{run_kept}
 
 onto_kept_runs : (k : List Op → List Op) (b : List Op) (x : ℕ) (t r : List ℕ) → ((b : List Op) → run (k b) t ≡ run b r) → run (onto_kept k b) (x ∷ t) ≡ run b (x ∷ r)
 onto_kept_runs k [] x t r h = ap (λ u. x ∷ u) (h [])
@@ -55,7 +56,7 @@ module _ (k l : List Op → List Op) (x : ℕ) (t r : List ℕ) where
   deleted_converge (insert z ∷ b) fits none h = ap (λ u. z ∷ u) (deleted_converge b fits none h)
 
 pub converge : (a b : List Op) (t : List ℕ) → len_before a ≤ length t → len_before b ≤ length t → run (rebase_second a b) (run a t) ≡ run (rebase_first a b) (run b t)
-converge [] b t m n = refl
+converge [] b t m n = sym (run_kept (len_after b) (run b t))
 converge (keep ∷ a) b [] m n = absurd (omega arith)
 converge (keep ∷ a) b (x ∷ t) m n =
     kept_converge (rebase_second a) (rebase_first a) x t (run a t) b (omega arith) (sym (converge a [] t (omega arith) (omega arith)) ∙ second_alone a (run a t)) (λ c f. converge a c t (omega arith) f)

@@ -9,3 +9,14 @@ pub mod Runs
 pub mod Spliced
 pub mod ReplacedLaws
 pub mod InvertedLaws
+pub mod NormalLaws
+pub mod Added
+pub mod Lefts
+pub mod ComposeRuns
+pub mod ComposeSteps
+pub mod RebaseRuns
+pub mod RebaseSteps
+pub mod Passing
+pub mod OneForm
+pub mod NormalMoves
+pub mod BuiltLaws

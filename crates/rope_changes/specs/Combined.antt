@@ -1,8 +1,10 @@
 -- Changes made of changes: two in a row as one, the way back, and one carried over another.
 use Rattle.std.specs.Prelude.{ℕ, List, [], ◌∷◌}
-use Rattle.rope_changes.specs.Ops.{Op, keep, delete, insert}
+use Rattle.rope_changes.specs.Ops.{Op, keep, delete, insert, len_after}
+use Rattle.rope_changes.specs.Change.{keeping}
 
--- a later change at a character that an earlier one keeps; `rest` composes the remaining operations of both
+-- a later change at a character that an earlier one keeps; `rest` composes the remaining operations
+-- of both
 abbrev pub onto_kept : (List Op → List Op) → List Op → List Op
 onto_kept rest [] = keep ∷ rest []
 onto_kept rest (keep ∷ later) = keep ∷ rest later
@@ -32,7 +34,8 @@ inverse (delete ∷ ops) [] = inverse ops []
 inverse (delete ∷ ops) (c ∷ text) = insert c ∷ inverse ops text
 inverse (insert c ∷ ops) text = delete ∷ inverse ops text
 
--- a change of the text after another one, which kept the next character, or deleted it; `rest` rebases the remaining
+-- a change of the text after another one, which kept the next character, or deleted it; `rest`
+-- rebases the remaining
 -- operations
 abbrev pub past_kept : (List Op → List Op) → List Op → List Op
 past_kept rest [] = []
@@ -46,7 +49,8 @@ past_deleted rest (keep ∷ ops) = rest ops
 past_deleted rest (delete ∷ ops) = rest ops
 past_deleted rest (insert c ∷ ops) = insert c ∷ past_deleted rest ops
 
--- the second change as a change of the text after the first; where both insert at one place, what the first inserts
+-- the second change as a change of the text after the first; where both insert at one place, what
+-- the first inserts
 -- comes first
 abbrev pub rebase_second : List Op → List Op → List Op
 rebase_second [] second = second
@@ -67,10 +71,11 @@ over_deleted rest (keep ∷ second) = delete ∷ rest second
 over_deleted rest (delete ∷ second) = rest second
 over_deleted rest (insert c ∷ second) = keep ∷ over_deleted rest second
 
--- the first change as a change of the text after the second; where both insert at one place, what the first inserts
+-- the first change as a change of the text after the second; where both insert at one place, what
+-- the first inserts
 -- comes first
 abbrev pub rebase_first : List Op → List Op → List Op
-rebase_first [] second = []
+rebase_first [] second = keeping (len_after second) []
 rebase_first (keep ∷ ops) second = over_kept (rebase_first ops) second
 rebase_first (delete ∷ ops) second = over_deleted (rebase_first ops) second
 rebase_first (insert c ∷ ops) second = insert c ∷ rebase_first ops second

@@ -1,8 +1,16 @@
 pub mod Ops
 pub mod Combined
+pub mod Normal
 pub mod Moved
 pub mod Change
 pub mod Applied
 pub mod Inverted
 pub mod Listed
+pub mod Left
+pub mod Passed
+pub mod Composing
+pub mod Runs
+pub mod Rebasing
 pub mod Laws
+pub mod ErrorText
+pub mod Built

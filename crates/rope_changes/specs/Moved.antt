@@ -26,3 +26,12 @@ moved_after (insert c ∷ ops) index = suc (moved_after ops index)
 abbrev pub moved : Side → List Op → ℕ → ℕ
 moved Before ops index = moved_before ops index
 moved After ops index = moved_after ops index
+
+-- the character at an index is kept
+abbrev pub IsKept : List Op → ℕ → Type 0
+IsKept [] index = Unit {0}
+IsKept (keep ∷ ops) zero = Unit {0}
+IsKept (keep ∷ ops) (suc index) = IsKept ops index
+IsKept (delete ∷ ops) zero = ⊥
+IsKept (delete ∷ ops) (suc index) = IsKept ops index
+IsKept (insert c ∷ ops) index = IsKept ops index

@@ -1,17 +1,23 @@
 //! Change sets: the replacements of a change, in order.
-ghost use Rattle.std.specs.Prelude.{◌≡◌, ◌+◌, [], ◌≢◌, ◌<◌, ◌≤◌, ◌^◌, ◌↔◌, IsTrue, IfOk, IfErr, IsOk, OnOk, OnErr, MatchOption, length, map};
+ghost use Rattle.std.specs.Prelude.{◌≡◌, ◌⊎◌, ◌+◌, ◌++◌, [], None, Some, ◌≢◌, ◌<◌, ◌≤◌, ◌^◌, ◌↔◌, IsTrue, IfOk, IfErr, IsOk, OnOk, OnErr, MatchOption, List, length, map};
 ghost use Rattle.std.specs.List.{All};
 ghost use Rattle.std.specs.Str.{chars};
 ghost use Rattle.rope_changes.specs.declared.error.ChangeError.TheVariants.{RangeInvalid, RangeOutOfBounds, LengthDiffers, OutOfOrder, TooLong, OutOfMemory};
-ghost use Rattle.rope_changes.specs.Change.{before, after, ops, last_end, IsNormal, IsInOrder, replaced, replaced_len, extended, appended, edit_of, IsCounted, LastFits};
-ghost use Rattle.rope_changes.specs.Ops.{run};
+ghost use Rattle.rope_changes.specs.Change.{before, after, ops, last_end, IsNormal, IsInOrder, replaced, replaced_len, extended, appended, edit_of, IsCounted, LastFits, keeping, inserting, deleting};
+ghost use Rattle.rope_changes.specs.Normal.{normal_form};
+ghost use Rattle.rope_changes.specs.Ops.{Op, run, len_before, len_after};
+ghost use Rattle.rope_changes.specs.Runs.{run_ops, IsRun};
 ghost use Rattle.rope_changes.specs.Applied.{inserted_bytes};
 ghost use Rattle.rope_text.specs.Text.{byte_len};
+ghost use Rattle.rope_changes.specs.Built.{unchanged, built, replace_error, first_error};
 ghost use Rattle.rope_changes.specs.Inverted.{inverted};
 ghost use Rattle.rope_changes.specs.Moved.{moved};
+ghost use Rattle.rope_changes.specs.Passed.{IsPassed};
 ghost use Rattle.ropey.specs.View.{IsRope};
 
+use crate::edit::Edit;
 use crate::error::ChangeError;
+use crate::run::Run;
 use crate::side::Side;
 use crate::splice::{splice, text_of};
 use rope_text::MAX_TEXT_BYTES;
@@ -21,27 +27,27 @@ use std::alloc::Global;
 use std::marker::Model;
 
 /// The longest text of a change, in characters.
-const MAX_LEN: usize = 9_223_372_036_854_775_807;
+pub(crate) const MAX_LEN: usize = 9_223_372_036_854_775_807;
 
 /// Characters that are kept, then a text that is inserted, then characters that are deleted.
 #[derive(Drop)]
-struct Replacement {
-    kept: usize,
-    text: String,
+pub(crate) struct Replacement {
+    pub(crate) kept: usize,
+    pub(crate) text: String,
     /// The number of characters of the text.
-    inserted: usize,
-    deleted: usize,
+    pub(crate) inserted: usize,
+    pub(crate) deleted: usize,
 }
 
 /// A change of a text of a given length: replacements of ranges, in order. Contracts see it as its
 /// replacements.
 #[derive(Drop)]
 pub struct ChangeSet {
-    edits: Vec<Replacement>,
-    rest: usize,
+    pub(crate) edits: Vec<Replacement>,
+    pub(crate) rest: usize,
     len_before: usize,
     len_after: usize,
-    alloc: Global,
+    pub(crate) alloc: Global,
 }
 
 impl Model for ChangeSet {
@@ -118,6 +124,27 @@ impl<'a> Edits<'a> {
 }
 
 impl Replacement {
+    ghost use Rattle.rope_changes.specs.Passed.{step_of};
+
+    // Returns where a position `left` characters after the start of what it keeps lies in the text
+    // after the change, from there on. The next replacement keeps a character first.
+    fn map(&self, left: usize, side: Side) -> usize
+        requires counted { IsCounted self.now }
+        requires within { left ≤ self.now.kept + self.now.deleted }
+        requires fits { self.now.kept + self.now.inserted < 2 ^ 64 }
+        ensures moved { (rest : List Op) → moved side rest 0 ≡ 0
+            → result ≡ moved side (step_of self.now rest) left }
+        ensures within { result ≤ self.now.kept + self.now.inserted }
+    {
+        if left < self.kept {
+            return left;
+        }
+        if side.stays(left - self.kept) {
+            return self.kept;
+        }
+        self.kept + self.inserted
+    }
+
     // Inserts and deletes more at the end.
     fn extend(&mut self, text: &str, inserted: usize, deleted: usize) -> Result<(), ChangeError>
         requires counted { inserted ≡ length (chars text.now) }
@@ -135,6 +162,43 @@ impl Replacement {
         self.inserted += inserted;
         self.deleted += deleted;
         Ok(())
+    }
+}
+
+// The replacements of a change that lie before an index: how many, and where the last one ends in
+// both texts.
+#[derive(Drop)]
+struct Passed {
+    count: usize,
+    end: usize,
+    new_end: usize,
+}
+
+impl Passed {
+    ghost use Rattle.rope_changes.specs.Change.{Change};
+    ghost use Rattle.rope_changes.specs.Passed.{Reaches};
+
+    // None of the replacements.
+    fn new() -> Passed
+        ensures { (c : Change) → IsPassed c result }
+    {
+        Passed {
+            count: 0,
+            end: 0,
+            new_end: 0,
+        }
+    }
+
+    // Passes none of the replacements, if the last one doesn't end before `char_idx`.
+    fn rewind(&mut self, char_idx: usize)
+        ensures reaches { Reaches self.new char_idx }
+        ensures passed { (c : Change) → IsPassed c self.old → IsPassed c self.new }
+    {
+        if char_idx <= self.end {
+            self.count = 0;
+            self.end = 0;
+            self.new_end = 0;
+        }
     }
 }
 
@@ -210,6 +274,28 @@ impl ChangeSet {
         })
     }
 
+    /// Creates a change of a text of `len` characters from edits in order, as `new` and then
+    /// `replace` for each of them do.
+    ///
+    /// # Errors
+    ///
+    /// `TooLong`, if `len` is above `isize::MAX`; else the error that `replace` returns for the
+    /// first edit that it refuses, or `OutOfMemory`.
+    pub fn of_edits(alloc: Global, len: usize, edits: &[Edit<'_>]) -> Result<ChangeSet, ChangeError>
+        ensures too_long { 2 ^ 63 ≤ len → result ≡ Err TooLong }
+        ensures error { len < 2 ^ 63 → IfErr result (λ e. (e ≡ OutOfMemory)
+            ⊎ (first_error (unchanged len) edits.now ≡ Some e)) }
+        ensures valid { OnOk result (first_error (unchanged len) edits.now ≡ None) }
+        ensures ok { IfOk result (λ change. change ≡ built (unchanged len) edits.now) }
+        ensures len_before { IfOk result (λ change. before change ≡ len) }
+    {
+        let mut change = ChangeSet::new(alloc, len)?;
+        for edit in edits {
+            change.replace(edit.start, edit.end, edit.text)?;
+        }
+        Ok(change)
+    }
+
     /// Returns the number of characters of the texts that it is a change of.
     pub fn len_before(&self) -> usize
         ensures { result ≡ before self.now }
@@ -267,6 +353,9 @@ impl ChangeSet {
             → IfErr result (λ e. e ≡ OutOfMemory) }
         ensures empty { IsInOrder self.old start end → start ≡ end → length (chars text.now) ≡ 0
             → IsOk result }
+        ensures error { IfErr result (λ e. (e ≡ OutOfMemory)
+            ⊎ (replace_error self.old start end (chars text.now) ≡ Some e)) }
+        ensures valid { OnOk result (replace_error self.old start end (chars text.now) ≡ None) }
         ensures ok { OnOk result (self.new ≡ replaced self.old start end (chars text.now)) }
         ensures in_order { OnOk result (IsInOrder self.old start end) }
         ensures len_before { before self.new ≡ before self.old }
@@ -298,6 +387,90 @@ impl ChangeSet {
         self.rest = self.len_before - end;
         self.len_after = others + inserted;
         Ok(())
+    }
+
+    // Creates a change of an empty text that changes nothing.
+    pub(crate) fn empty(alloc: Global) -> ChangeSet
+        ensures { result ≡ record { edits = []; rest = 0 } }
+    {
+        ChangeSet {
+            edits: Vec::new(alloc),
+            rest: 0,
+            len_before: 0,
+            len_after: 0,
+            alloc,
+        }
+    }
+
+    // Keeps `count` more characters, after the last ones.
+    pub(crate) fn push_kept(&mut self, count: usize)
+        requires before_fits { before self.old + count < 2 ^ 63 }
+        requires after_fits { after self.old + count < 2 ^ 63 }
+        ensures { ops self.new ≡ normal_form (ops self.old ++ keeping count []) }
+    {
+        self.rest += count;
+        self.len_before += count;
+        self.len_after += count;
+    }
+
+    // Inserts a text and deletes `deleted` more characters, after the last ones.
+    pub(crate) fn push(
+        &mut self,
+        text: &str,
+        inserted: usize,
+        deleted: usize,
+    ) -> Result<(), ChangeError>
+        requires counted { inserted ≡ length (chars text.now) }
+        requires some { 1 ≤ inserted + deleted }
+        requires before_fits { before self.old + deleted < 2 ^ 63 }
+        requires after_fits { after self.old + inserted < 2 ^ 63 }
+        ensures ok { OnOk result (ops self.new
+            ≡ normal_form (ops self.old ++ inserting (chars text.now) (deleting deleted []))) }
+        ensures refused { IfErr result (λ e. e ≡ OutOfMemory) }
+    {
+        add(
+            self.alloc,
+            &mut self.edits,
+            self.rest,
+            text,
+            inserted,
+            deleted,
+        )?;
+        self.rest = 0;
+        self.len_before += deleted;
+        self.len_after += inserted;
+        Ok(())
+    }
+
+    // Deletes `count` more characters, after the last ones.
+    pub(crate) fn push_deleted(&mut self, count: usize) -> Result<(), ChangeError>
+        requires some { 1 ≤ count }
+        requires before_fits { before self.old + count < 2 ^ 63 }
+        requires after_fits { after self.old < 2 ^ 63 }
+        ensures ok { OnOk result (ops self.new ≡ normal_form (ops self.old ++ deleting count [])) }
+        ensures refused { IfErr result (λ e. e ≡ OutOfMemory) }
+    {
+        self.push("", 0, count)
+    }
+
+    // Adds a run of operations after the last ones.
+    pub(crate) fn push_run(&mut self, run: &Run<'_>) -> Result<(), ChangeError>
+        requires some { IsRun run.now }
+        requires normal { normal_form (ops self.old) ≡ ops self.old }
+        requires before_fits { before self.old + len_before (run_ops run.now) < 2 ^ 63 }
+        requires after_fits { after self.old + len_after (run_ops run.now) < 2 ^ 63 }
+        ensures ok { OnOk result (ops self.new ≡ normal_form (ops self.old ++ run_ops run.now)) }
+        ensures refused { IfErr result (λ e. e ≡ OutOfMemory) }
+    {
+        match *run {
+            Run::Keep(count) => {
+                self.push_kept(count);
+                Ok(())
+            }
+            Run::Insert(text, inserted) => self.push(text, inserted, 0),
+            Run::Delete(count) => self.push_deleted(count),
+            Run::Nothing => Ok(()),
+        }
     }
 
     /// Applies the change to the text of a rope, whose set of line breaks stays. An empty change
@@ -399,20 +572,40 @@ impl ChangeSet {
         requires { char_idx ≤ before self.now }
         ensures { result ≡ moved side (ops self.now) char_idx }
     {
-        let mut left = char_idx;
-        let mut moved = 0;
-        for edit in &self.edits {
-            if left < edit.kept {
-                return moved + left;
-            }
-            left -= edit.kept;
-            moved += edit.kept;
-            if side.stays(left) {
-                return moved;
-            }
-            moved += edit.inserted;
-            left = left.saturating_sub(edit.deleted);
+        self.map_from(&mut Passed::new(), char_idx, side)
+    }
+
+    /// Moves each index as `map` does, in one pass over the replacements where the indices ascend.
+    /// An index below the one before it begins the pass again. Each is at most `len_before()`.
+    pub fn map_sorted(&self, char_indices: &mut [usize], side: Side)
+        requires { All (λ i. i ≤ before self.now) char_indices.old }
+        ensures { char_indices.new ≡ map (moved side (ops self.now)) char_indices.old }
+    {
+        let mut passed = Passed::new();
+        for char_idx in char_indices.iter_mut() {
+            *char_idx = self.map_from(&mut passed, *char_idx, side);
         }
-        moved + left
+    }
+
+    // Returns the index in the text after the change, and passes the replacements that end before
+    // `char_idx`.
+    fn map_from(&self, passed: &mut Passed, char_idx: usize, side: Side) -> usize
+        requires within { char_idx ≤ before self.now }
+        requires passed { IsPassed self.now passed.old }
+        ensures moved { result ≡ moved side (ops self.now) char_idx }
+        ensures passed { IsPassed self.now passed.new }
+    {
+        passed.rewind(char_idx);
+        while passed.count < self.edits.len() {
+            let edit = &self.edits[passed.count];
+            let left = char_idx - passed.end;
+            if left <= edit.kept + edit.deleted {
+                return passed.new_end + edit.map(left, side);
+            }
+            passed.count += 1;
+            passed.end += edit.kept + edit.deleted;
+            passed.new_end += edit.kept + edit.inserted;
+        }
+        passed.new_end + (char_idx - passed.end)
     }
 }

@@ -1,35 +1,57 @@
-//! Changes of a text as values: built in order, applied at once, inverted, positions moved through
-//! them.
+//! Changes of a text as values: built in order, applied at once, composed, rebased, inverted, and
+//! indices moved through them.
 //!
 //! A change set is a list of replacements of ranges of one text, in order and apart. An editor
 //! makes one for all its carets, applies it to a rope, and moves its bookmarks through it. For the
-//! text `"one two"`, `ChangeSet::new(alloc, 7)`, `replace(0, 3, "1")` and `replace(4, 4, "and ")`
-//! make a change after which the text is `"1 and two"`; `map(4, Side::After)` is 6.
+//! text `"one two"`, `ChangeSet::of_edits(alloc, 7, edits)` with the edits `0..3` to `"1"` and
+//! `4..4` to `"and "` makes a change after which the text is `"1 and two"`; `map(4, Side::After)`
+//! is 6. `ChangeSet::new` and `replace` make the same change one edit at a time.
+//!
+//! `compose` makes one change of two changes in a row, as an undo history does for edits that
+//! belong together. `rebase` carries a change over another change of the same text, as two editors
+//! of one text need it: both orders then lead to the same text. `invert` returns the change that
+//! undoes a change.
 //!
 //! Contracts see a change as its replacements, and those as a list of operations on single
-//! characters. Replacements that touch are one, so equal changes are equal values.
+//! characters. Replacements that touch are one, and each inserts before it deletes, so changes with
+//! the same operations are equal values. The results of `compose` and `rebase` are the normal forms
+//! of the composed and of the rebased operations.
 //!
 //! A change takes memory for its replacements and for the texts that it inserts, not for the text
 //! that it is a change of. `replace` takes time for its own text, `map` for the replacements up to
-//! its index, `apply` for two edits of the rope per replacement, and `invert` for the texts that
-//! the change deletes.
+//! its index, `map_sorted` for the replacements and the indices where the indices ascend, `apply`
+//! for two edits of the rope per replacement, `invert` for the texts that the change deletes, and
+//! `compose` and `rebase` for the replacements and the inserted texts of both changes.
 //!
 //! Modules, lowest first:
 //! - `side`: on which side of inserted text an index stays
 //! - `error`: why a call fails
+//! - `edit`: the replacement of one range
+//! - `run`: operations of one kind in a row
+//! - `cut`: a text split after a number of characters
 //! - `splice`: a range of a rope replaced by a text, or copied
 //! - `change_set`: changes as replacements in order
+//! - `cursor`: the runs of operations of a change, read from the front
+//! - `compose`: two changes in a row as one
+//! - `rebase`: a change as one of the text after another change
 //! - `laws`: what replacements, compositions, inverses and rebased changes do to a text
 #![tactic(auto)]
 
 mod change_set;
+mod compose;
+mod cursor;
+mod cut;
+mod edit;
 mod error;
 pub mod laws;
+mod rebase;
+mod run;
 mod side;
 mod splice;
 #[cfg(test)]
 mod tests;
 
 pub use change_set::{ChangeSet, EditRange, Edits};
+pub use edit::Edit;
 pub use error::ChangeError;
 pub use side::Side;

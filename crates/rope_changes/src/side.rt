@@ -1,8 +1,9 @@
 //! The sides of inserted text.
-ghost use Rattle.std.specs.Prelude.{◌≡◌, ◌+◌, ℕ, List, true, false, length};
+ghost use Rattle.std.specs.Prelude.{◌≡◌, ◌⊎◌, ◌+◌, ℕ, List, true, false, length};
 ghost use Rattle.rope_changes.specs.Ops.{Op};
 ghost use Rattle.rope_changes.specs.Change.{inserting};
 ghost use Rattle.rope_changes.specs.Moved.{moved};
+ghost use Rattle.rope_changes.specs.declared.side.Side.TheVariants.{Before, After};
 
 /// On which side of text that is inserted at its index a position stays.
 #[derive(Clone, Copy, Debug, PartialEq, Eq)]
@@ -24,6 +25,18 @@ impl Side {
         match self {
             Side::Before => left == 0,
             Side::After => false,
+        }
+    }
+
+    /// Returns whether a text on this side comes before what another change inserts at its index,
+    /// where `other` says whether that change inserts there.
+    pub(crate) fn is_first(self, other: bool) -> bool
+        ensures first { result ≡ true → (self ≡ Before) ⊎ (other ≡ false) }
+        ensures second { result ≡ false → (self ≡ After) × (other ≡ true) }
+    {
+        match self {
+            Side::Before => true,
+            Side::After => !other,
         }
     }
 }

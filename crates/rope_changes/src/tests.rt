@@ -1,5 +1,5 @@
 //! Each public call once, against numbers by hand.
-use crate::{ChangeError, ChangeSet, Side};
+use crate::{ChangeError, ChangeSet, Edit, Side};
 use ropey::Rope;
 use std::test::Fail;
 
@@ -71,5 +71,91 @@ fn errors_name_both_numbers(rt: HostRuntime) -> Result<(), Fail> {
         Err(ChangeError::LengthDiffers(7, 3))
     );
     assert!(rt; rope.eq_str("one"));
+    Ok(())
+}
+
+#[test]
+fn a_change_is_built_from_edits_and_moves_sorted_indices(rt: HostRuntime) -> Result<(), Fail> {
+    let edits = [
+        Edit {
+            start: 0,
+            end: 3,
+            text: "1",
+        },
+        Edit {
+            start: 4,
+            end: 4,
+            text: "and ",
+        },
+    ];
+    let change = ChangeSet::of_edits(rt.alloc(), 7, &edits)?;
+    assert_eq!(rt; change.len_after(), 9);
+    let mut ascending = [0, 2, 4, 4, 7];
+    change.map_sorted(&mut ascending, Side::After);
+    assert_eq!(rt; ascending, [1, 1, 6, 6, 9]);
+    let mut descending = [7, 4, 0];
+    change.map_sorted(&mut descending, Side::Before);
+    assert_eq!(rt; descending, [9, 2, 0]);
+    let wrong = ChangeSet::of_edits(rt.alloc(), 6, &[edits[1], edits[0]]);
+    assert_eq!(rt; wrong.err(), Some(ChangeError::OutOfOrder(0, 4)));
+    Ok(())
+}
+
+#[test]
+fn composed_changes_do_what_both_do(rt: HostRuntime) -> Result<(), Fail> {
+    let mut rope = Rope::from_str(rt.alloc(), "one two")?;
+    let mut first = ChangeSet::new(rt.alloc(), 7)?;
+    first.replace(0, 3, "1, ")?;
+    first.replace(4, 7, "2")?;
+    let mut later = ChangeSet::new(rt.alloc(), 5)?;
+    later.replace(1, 2, "")?;
+    later.replace(5, 5, "!")?;
+    let both = first.compose(&later)?;
+    let mut edits = both.edits();
+    let start = edits.next().ok_or("no edit")?;
+    assert_eq!(rt; [start.start, start.end], [0, 3]);
+    assert_eq!(rt; start.text, "1 ");
+    let end = edits.next().ok_or("one edit")?;
+    assert_eq!(rt; [end.start, end.end], [4, 7]);
+    assert_eq!(rt; end.text, "2!");
+    assert!(rt; edits.next().is_none());
+    both.apply(&mut rope)?;
+    assert!(rt; rope.eq_str("1  2!"));
+    let wrong = later.compose(&first);
+    assert_eq!(rt; wrong.err(), Some(ChangeError::LengthDiffers(7, 5)));
+    Ok(())
+}
+
+#[test]
+fn rebased_changes_lead_to_one_text(rt: HostRuntime) -> Result<(), Fail> {
+    let mut one = ChangeSet::new(rt.alloc(), 4)?;
+    one.replace(1, 1, "x")?;
+    one.replace(2, 4, "")?;
+    let mut other = ChangeSet::new(rt.alloc(), 4)?;
+    other.replace(1, 1, "y")?;
+    other.replace(3, 3, "z")?;
+    let mut left = Rope::from_str(rt.alloc(), "abcd")?;
+    one.apply(&mut left)?;
+    assert!(rt; left.eq_str("axb"));
+    other.rebase(&one, Side::After)?.apply(&mut left)?;
+    assert!(rt; left.eq_str("axybz"));
+    let mut right = Rope::from_str(rt.alloc(), "abcd")?;
+    other.apply(&mut right)?;
+    assert!(rt; right.eq_str("aybczd"));
+    one.rebase(&other, Side::Before)?.apply(&mut right)?;
+    assert!(rt; right.eq_str("axybz"));
+    let short = ChangeSet::new(rt.alloc(), 3)?;
+    let wrong = one.rebase(&short, Side::Before);
+    assert_eq!(rt; wrong.err(), Some(ChangeError::LengthDiffers(4, 3)));
+    Ok(())
+}
+
+#[test]
+fn errors_print_both_numbers(rt: HostRuntime) -> Result<(), Fail> {
+    let text = format!(in rt.alloc(); "{}", ChangeError::LengthDiffers(7, 3))?;
+    assert_eq!(rt;
+        text.as_str(),
+        "Text length differs: char length 3, the change is for 7"
+    );
     Ok(())
 }

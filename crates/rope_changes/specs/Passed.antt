@@ -1,0 +1,28 @@
+-- The replacements of a change that lie before an index.
+use Rattle.std.specs.Prelude.{◌≡◌, ℕ, ◌+◌, ◌-◌, ◌<◌, ◌≤◌, List, length, drop}
+use Rattle.std.specs.Str.{chars}
+use Rattle.std.specs.String.{string_bytes}
+use Rattle.rope_changes.specs.Ops.{Op, len_before, len_after}
+use Rattle.rope_changes.specs.Change.{Change, keeping, inserting, deleting, ops_of, ops, before, after}
+use Rattle.rope_changes.specs.Moved.{moved}
+use Rattle.rope_changes.specs.declared.change_set.Replacement.{Replacement}
+use Rattle.rope_changes.specs.declared.change_set.Passed.{Passed}
+use Rattle.rope_changes.specs.declared.side.Side.{Side}
+
+-- the operations of a replacement, and then others
+abbrev pub step_of : Replacement → List Op → List Op
+step_of r rest = keeping r.kept (inserting (chars (string_bytes r.text)) (deleting r.deleted rest))
+
+-- the index lies after what is passed
+pub record Reaches (p : Passed) (i : ℕ) : Type 0 where
+  pub le : p.end ≤ i
+  pub more : 1 ≤ p.count → p.end < i
+
+-- an index after what is passed moves through the replacements that are left
+pub record IsPassed (c : Change) (p : Passed) : Type 0 where
+  pub within : p.count ≤ length c.edits
+  pub moves : (side : Side) (i : ℕ) → Reaches p i
+      → moved side (ops c) i ≡ p.new_end + moved side (ops_of (drop p.count c.edits) c.rest)
+      (i - p.end)
+  pub before_is : p.end + len_before (ops_of (drop p.count c.edits) c.rest) ≡ before c
+  pub after_is : p.new_end + len_after (ops_of (drop p.count c.edits) c.rest) ≡ after c
