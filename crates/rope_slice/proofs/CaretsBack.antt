@@ -23,11 +23,19 @@ use Rattle.rope_text.proofs.LineSeams.{never, break_count-apart, last_start-left
 use Rattle.rope_text.proofs.InfoLaws.{same_info}
 use Rattle.rope_slice.specs.Path.{Place, IsNext}
 use Rattle.rope_text.specs.LineParts.{before_byte, after_byte, last_line_byte, last_line_info}
-use Rattle.rope_slice.specs.Caret.{halves_at, AreChunks, IsCaret, PassesBack, PassedBack, PassedBackTo}
+use Rattle.rope_slice.specs.Caret.{halves_at, AreChunks, IsCaret, PassesBack}
 use Rattle.rope_slice.proofs.Spans.{leaves_next}
-use Rattle.rope_slice.proofs.Carets.{apart_joined, apart_front, here_apart, front_place, small_of, size_two, whole_text}
+use Rattle.rope_slice.proofs.Carets.{apart_joined, apart_front, front_place, small_of, size_two, whole_text}
 use Rattle.rope_tree.specs.Search.{IsSmall}
 use Rattle.rope_slice.proofs.CaretSteps.{apart_back}
+
+-- texts with too few breaks were passed backward, up to the start of a chunk; `left` breaks are left to pass
+record PassedBack (breaks : LineBreaks) (skip : ℕ) (front back : List ℕ) (p : Place) (info : TextInfo) (left : ℕ) (text : List ℕ) : Type 0 where
+  pub chunks : AreChunks p
+  pub front_is : front ≡ concat p.before ++ text
+  pub back_is : p.here ++ concat p.after ≡ text ++ back
+  pub few : break_count breaks text + left ≡ skip
+  pub counts : info ≡ info_of breaks text
 
 -- the place behind the last byte is behind the last character
 end_at : (text : List ℕ) (size : ℕ) → size ≡ byte_len text → byte_to_char text size ≡ length text
@@ -138,7 +146,7 @@ module _ (breaks : LineBreaks) (skip left : ℕ) (front back x y q : List ℕ) (
   pub breaks_left : start ≤ 0 → more.break_count ≤ left
   breaks_left none = let few = few_inside none in omega (arith, ap (λ t. t.break_count) (all_inside none))
 
-  pub over_back : (sum : TextInfo) → sum ≡ info_sum more info → start ≤ 0 → PassedBack breaks skip front back p sum (left - more.break_count) (x ++ q)
+  over_back : (sum : TextInfo) → sum ≡ info_sum more info → start ≤ 0 → PassedBack breaks skip front back p sum (left - more.break_count) (x ++ q)
   over_back sum s none =
       let inside = few_inside none in
       record {
@@ -159,7 +167,7 @@ module _ (breaks : LineBreaks) (skip left : ℕ) (front back x y q : List ℕ) (
       (small_of breaks (drop k x) more counts (omega (arith, chunks.fits)), small_of breaks q info passed (omega (arith, chunks.fits)))
 
 -- what was passed, and then a line's start further back
-pub compose_back : (breaks : LineBreaks) (skip left : ℕ) (front back q : List ℕ) (p new : Place) (b : ℕ) (info more sum : TextInfo) → PassedBack breaks skip front back p info left q
+compose_back : (breaks : LineBreaks) (skip left : ℕ) (front back q : List ℕ) (p new : Place) (b : ℕ) (info more sum : TextInfo) → PassedBack breaks skip front back p info left q
     → PassesBack breaks left (concat p.before) (p.here ++ concat p.after) new b more → sum ≡ info_sum more info → PassesBack breaks skip front back new b sum
 compose_back breaks skip left front back q p new b info more sum h r s =
     let before : List ℕ = concat p.before in
@@ -181,67 +189,17 @@ compose_back breaks skip left front back q p new b info more sum h r s =
 no_breaks : (breaks : LineBreaks) → break_count breaks [] ≡ 0
 no_breaks breaks = ap length (break_ends-nil breaks)
 
--- nothing was passed yet
-pub none_back : (breaks : LineBreaks) (skip : ℕ) (old : Place) (info : TextInfo) → AreChunks old → info ≡ info_of breaks [] → PassedBackTo breaks skip old old info skip
-none_back breaks skip old info h e = (
-  [],
-  record {
-    chunks = h;
-    front_is = sym (append-nil (concat old.before));
-    back_is = refl;
-    few = omega (arith, no_breaks breaks);
-    counts = e;
-  },
-)
-
--- the start of the text
-pub end_back : (breaks : LineBreaks) (skip left : ℕ) (front back text : List ℕ) (p q : Place) (info : TextInfo) → PassedBack breaks skip front back p info left text → q ≡ p → p.before ≡ []
-    → PassesBack breaks skip front back q 0 info
-end_back breaks skip left front back text p q info h same none = subst (λ r. PassesBack breaks skip front back r 0 info) (sym same) at_start
-  where
-    at_start : PassesBack breaks skip front back p 0 info
-    at_start =
-        let place = front_place p.here 0 (omega arith) in
-        let before : concat p.before ≡ [] = ap concat none in
-        let all : front ≡ text = h.front_is ∙ ap (λ t. t ++ text) before in
-        let line : last_start breaks front skip ≡ 0 = last_start_none breaks front skip (omega (arith, h.few, ap (break_count breaks) all)) in
-        let last : drop (last_start breaks front skip) front ≡ text = ap (λ n. drop n front) line ∙ all in
-        record {
-          caret = record {
-            between = ap (λ m. byte_len (take m p.here)) place;
-            chunks = h.chunks;
-          };
-          front_is = ap (λ m. concat p.before ++ take m p.here) place ∙ ap (λ t. t ++ []) before ∙ sym (ap (λ n. take n front) line);
-          back_is = ap (λ m. drop m p.here ++ concat p.after) place ∙ h.back_is ∙ ap (λ t. t ++ back) (sym last);
-          counts = h.counts ∙ ap (info_of breaks) (sym last);
-        }
-
--- a chunk further back
-module _ (breaks : LineBreaks) (skip left : ℕ) (front back text : List ℕ) (p q : Place) (start : ℕ) (more info : TextInfo) (h : PassedBack breaks skip front back p info left text) (n : IsNext q p)
-    (start_is : start ≡ byte_len (take (last_start breaks q.here left) q.here)) (counts : more ≡ info_of breaks (drop (last_start breaks q.here left) q.here)) where
-  chunk_behind : concat q.after ≡ text ++ back
-  chunk_behind = ap concat n.after ∙ h.back_is
-
-  chunk_front : front ≡ (concat q.before ++ q.here) ++ text
-  chunk_front = h.front_is ∙ ap (λ t. t ++ text) (ap concat n.before ∙ concat-append q.before (q.here ∷ []) ∙ ap (λ t. concat q.before ++ t) (append-nil q.here))
-
-  chunk_apart : parts_crlf q.here text ≡ false
-  chunk_apart = apart_front q.here text back (ap (parts_crlf q.here) (sym chunk_behind) ∙ here_apart q (chunks_prev p q n h.chunks))
-
-  pub chunk_found : (sum : TextInfo) → sum ≡ info_sum more info → 0 < start → PassesBack breaks skip front back q start sum
-  chunk_found = found_back breaks skip left front back q.here [] text q start more info (chunks_prev p q n h.chunks) (sym (append-nil q.here)) chunk_behind chunk_front h.few chunk_apart start_is counts h.counts
-
-  pub chunk_left : start ≤ 0 → more.break_count ≤ left
-  chunk_left = breaks_left breaks skip left front back q.here [] text q start more info (chunks_prev p q n h.chunks) (sym (append-nil q.here)) chunk_behind chunk_front h.few chunk_apart start_is counts h.counts
-
-  pub chunk_over : (sum : TextInfo) → sum ≡ info_sum more info → start ≤ 0 → PassedBack breaks skip front back q sum (left - more.break_count) (q.here ++ text)
-  chunk_over = over_back breaks skip left front back q.here [] text q start more info (chunks_prev p q n h.chunks) (sym (append-nil q.here)) chunk_behind chunk_front h.few chunk_apart start_is counts h.counts
-
-  pub chunk_small : IsSmall more × IsSmall info
-  chunk_small = both_small breaks skip left front back q.here [] text q start more info (chunks_prev p q n h.chunks) (sym (append-nil q.here)) chunk_behind chunk_front h.few chunk_apart start_is counts h.counts
-
 nothing_more : (breaks : LineBreaks) (info : TextInfo) → info ≡ info_sum info (info_of breaks [])
 nothing_more breaks info = same_info info (info_sum info (info_of breaks [])) (omega arith) (omega arith) (omega arith) (omega (arith, no_breaks breaks))
+
+-- a line that starts in the chunk before
+pub line_in_last : (breaks : LineBreaks) (skip : ℕ) (p q : Place) (start : ℕ) (more : TextInfo) → AreChunks p → IsNext q p → start ≡ byte_len (take (last_start breaks q.here skip) q.here)
+    → more ≡ info_of breaks (drop (last_start breaks q.here skip) q.here) → 0 < start → PassesBack breaks skip (concat p.before) (p.here ++ concat p.after) q start more
+line_in_last breaks skip p q start more h n start_is counts =
+    let front : concat p.before ≡ (concat q.before ++ q.here) ++ [] =
+    ap concat n.before ∙ concat-append q.before (q.here ∷ []) ∙ ap (λ t. concat q.before ++ t) (append-nil q.here) ∙ sym (append-nil (concat q.before ++ q.here)) in
+    found_back breaks skip skip (concat p.before) (p.here ++ concat p.after) q.here [] [] q start more (info_of breaks [])
+    (chunks_prev p q n h) (sym (append-nil q.here)) (ap concat n.after) front (omega (arith, no_breaks breaks)) (never (ends_in_cr q.here)) start_is counts refl more (nothing_more breaks more)
 
 -- the chunk here, up to a place in it
 module _ (breaks : LineBreaks) (skip : ℕ) (p : Place) (b start : ℕ) (more : TextInfo) (g : IsCaret p b)

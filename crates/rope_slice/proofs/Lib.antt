@@ -24,6 +24,7 @@ pub mod Ways
 pub mod Points
 pub mod Spans
 pub mod LineSteps
+pub mod LineEnds
 pub mod LineMoves
 pub mod PiecesAhead
 pub mod Carets

@@ -9,7 +9,7 @@ use Rattle.rope_text.specs.Content.{Content}
 use Rattle.rope_text.specs.TextInfo.{info_of, info_sum, HasSum}
 use Rattle.rope_text.specs.Lines.{line_start, line_count}
 use Rattle.rope_text.specs.Cutting.{parts_crlf}
-use Rattle.rope_text.specs.LineParts.{first_line, last_start}
+use Rattle.rope_text.specs.LineParts.{first_line, last_start, part_between, line_of}
 use Rattle.rope_text.proofs.LineLaws.{line_start-le-length, line_start_mono}
 use Rattle.rope_text.proofs.LineSeams.{line_start_apart, break_count-front, first_line-drop, last_start-take}
 use Rattle.rope_slice.proofs.LeafLines.{next_counts}
@@ -22,6 +22,7 @@ use Rattle.rope_slice.specs.Caret.{Halves, HoldsAhead}
 use Rattle.rope_slice.specs.Lines.{IsLineStart}
 use Rattle.rope_tree.proofs.Infos.{sum_of_small}
 use Rattle.rope_slice.proofs.Carets.{small_of, size_front}
+use Rattle.rope_slice.proofs.PartsBetween.{line_from, line_to, line_ordered, line_within, line_apart, line_is}
 
 -- a step forward
 module _ (c : Content) (h : Halves) (before : TextInfo) (l total : ℕ) (breaks : LineBreaks) (s : IsLineStart c h before l total) (less : l < total) (same : breaks ≡ c.breaks) where
@@ -151,3 +152,33 @@ line_held c h before l total held s it =
       | inl some ↦ rw (s.chunks_are some) at here
       | inr none ↦ in_chunk_end c.text c.chunks before.chars held (omega arith)
     ]
+
+-- the number of lines is the line count, by either name
+pub at_count : (c : Content) (h : Halves) (before : TextInfo) (l m total : ℕ) → l ≡ m → IsLineStart c h before l total → IsLineStart c h before m (line_count c.breaks c.text)
+at_count c h before l m total e s = rw (e, s.total_is) at s
+
+pub of_count : (c : Content) (h : Halves) (before : TextInfo) (l m total : ℕ) → l ≡ m → total ≡ line_count c.breaks c.text → IsLineStart c h before l (line_count c.breaks c.text) → IsLineStart c h before m total
+of_count c h before l m total e t s = rw (e, ← t) at s
+
+-- what lies between the starts of a line and of the next one
+module _ (c : Content) (old new : Halves) (from to : TextInfo) (l : ℕ) (a : IsLineStart c old from l (line_count c.breaks c.text)) (b : IsLineStart c new to (l + 1) (line_count c.breaks c.text)) where
+  below : l < line_count c.breaks c.text
+  below = omega (arith, b.within)
+
+  pub part_from : from ≡ info_of c.breaks (take from.chars c.text)
+  part_from = line_from c l below from to a.before_is b.before_is
+
+  pub part_to : to ≡ info_of c.breaks (take to.chars c.text)
+  part_to = line_to c l below from to a.before_is b.before_is
+
+  pub part_ordered : from.chars ≤ to.chars
+  part_ordered = line_ordered c l below from to a.before_is b.before_is
+
+  pub part_within : to.chars ≤ length c.text
+  part_within = line_within c l below from to a.before_is b.before_is
+
+  pub part_apart : parts_crlf (take from.chars c.text) (drop from.chars c.text) ≡ false
+  part_apart = line_apart c l below from to a.before_is b.before_is
+
+  pub part_is : part_between c from.chars to.chars ≡ line_of c l
+  part_is = line_is c l below from to a.before_is b.before_is

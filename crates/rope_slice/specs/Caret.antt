@@ -1,12 +1,11 @@
 -- A place between two characters of a slice, seen as the text before it, the text after it, and the chunks that both lie in.
-use Rattle.std.specs.Prelude.{◌≡◌, ℕ, ◌+◌, ◌^◌, ◌<◌, false, List, ◌++◌, length, take, drop}
+use Rattle.std.specs.Prelude.{◌≡◌, ℕ, ◌^◌, ◌<◌, List, ◌++◌, length, take, drop}
 use Rattle.std.specs.List.{concat}
 use Rattle.rope_text.specs.declared.line_breaks.LineBreaks.{LineBreaks}
 use Rattle.rope_text.specs.declared.text_info.TextInfo.{TextInfo}
 use Rattle.rope_text.specs.Text.{byte_len}
-use Rattle.rope_text.specs.TextInfo.{info_of}
-use Rattle.rope_text.specs.Breaks.{break_count}
-use Rattle.rope_text.specs.Cutting.{KeepsCrlf, parts_crlf}
+use Rattle.rope_text.specs.TextInfo.{info_of, info_sum}
+use Rattle.rope_text.specs.Cutting.{KeepsCrlf}
 use Rattle.rope_text.specs.LineParts.{before_byte, after_byte, IsBetween, first_line, last_start}
 use Rattle.rope_slice.specs.InChunk.{IsInChunk}
 use Rattle.rope_slice.specs.Path.{Place, leaves}
@@ -40,18 +39,6 @@ pub record PassesLine (breaks : LineBreaks) (front back : List ℕ) (p : Place) 
   pub back_is : back ≡ first_line breaks back ++ (halves_at p b).back
   pub counts : info ≡ info_of breaks (first_line breaks back)
 
--- texts without a break were passed, up to the end of a chunk
-pub record PassedTexts (breaks : LineBreaks) (old new : Place) (info : TextInfo) (text : List ℕ) : Type 0 where
-  pub chunks : AreChunks new
-  pub front_is : concat new.before ++ new.here ≡ (concat old.before ++ old.here) ++ text
-  pub back_is : concat old.after ≡ text ++ concat new.after
-  pub none : break_count breaks text ≡ 0
-  pub counts : info ≡ info_of breaks text
-  pub apart : parts_crlf text (concat new.after) ≡ false
-
-abbrev pub PassedChunks : LineBreaks → Place → Place → TextInfo → Type 0
-PassedChunks breaks old new info = (text : List ℕ) × PassedTexts breaks old new info text
-
 -- line breaks were passed backward: up to the start of a line, so many breaks before the last
 pub record PassesBack (breaks : LineBreaks) (skip : ℕ) (front back : List ℕ) (p : Place) (b : ℕ) (info : TextInfo) : Type 0 where
   pub caret : IsCaret p b
@@ -59,13 +46,16 @@ pub record PassesBack (breaks : LineBreaks) (skip : ℕ) (front back : List ℕ)
   pub back_is : (halves_at p b).back ≡ drop (last_start breaks front skip) front ++ back
   pub counts : info ≡ info_of breaks (drop (last_start breaks front skip) front)
 
--- texts with too few breaks were passed backward, up to the start of a chunk; so many breaks are left to pass
-pub record PassedBack (breaks : LineBreaks) (skip : ℕ) (front back : List ℕ) (p : Place) (info : TextInfo) (left : ℕ) (text : List ℕ) : Type 0 where
-  pub chunks : AreChunks p
-  pub front_is : front ≡ concat p.before ++ text
-  pub back_is : p.here ++ concat p.after ≡ text ++ back
-  pub few : break_count breaks text + left ≡ skip
-  pub counts : info ≡ info_of breaks text
+-- from one place to another a line was passed, up to its break, with the counts of the text before both
+pub record IsPassed (breaks : LineBreaks) (old : Halves) (before : TextInfo) (new : Halves) (after : TextInfo) : Type 0 where
+  pub front : new.front ≡ old.front ++ first_line breaks old.back
+  pub back : old.back ≡ first_line breaks old.back ++ new.back
+  pub chunks : new.chunks ≡ old.chunks
+  pub counts : after ≡ info_sum before (info_of breaks (first_line breaks old.back))
 
-abbrev pub PassedBackTo : LineBreaks → ℕ → Place → Place → TextInfo → ℕ → Type 0
-PassedBackTo breaks skip old new info left = (text : List ℕ) × PassedBack breaks skip (concat old.before) (old.here ++ concat old.after) new info left text
+-- from one place back to another `skip` line breaks were passed, and the text up to the break before them
+pub record IsPassedBack (breaks : LineBreaks) (skip : ℕ) (old : Halves) (before : TextInfo) (new : Halves) (after : TextInfo) : Type 0 where
+  pub front : new.front ≡ take (last_start breaks old.front skip) old.front
+  pub back : new.back ≡ drop (last_start breaks old.front skip) old.front ++ old.back
+  pub chunks : new.chunks ≡ old.chunks
+  pub counts : info_sum (info_of breaks (drop (last_start breaks old.front skip) old.front)) after ≡ before

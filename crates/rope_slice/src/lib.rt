@@ -18,6 +18,7 @@
 //! - `path`, `span`, `point`: a leaf of a tree, a chunk of a slice, and a step over one character
 //!   of it
 //! - `bytes`, `chars`, `chunks`, `lines`: the four cursors, and lines by their number
+//! - `line_end`: the line break at the end of a slice
 //! - `pieces`: the bytes of a slice, forward only
 //! - `order`, `hashing`, `text_out`: texts compared, hashed, copied and shown
 //! - `laws`: equality, order and hash; each cursor steps through the list of its items
@@ -33,6 +34,7 @@ mod chunks;
 mod excerpt;
 mod hashing;
 pub mod laws;
+mod line_end;
 mod lines;
 mod lookups;
 mod order;

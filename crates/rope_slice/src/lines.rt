@@ -1,8 +1,8 @@
 //! Lines of a slice by their number, and a cursor over them. No call takes memory.
 //!
 //! The slice of all of `"a\nb\n"` has the lines `"a\n"`, `"b\n"` and `""`.
-ghost use Rattle.std.specs.Prelude.{◌≡◌, ◌≤◌, ◌<◌, ◌+◌, ◌++◌, ⊤, false, take, drop, length, MatchOption};
-ghost use Rattle.std.specs.Bool.{MatchBool};
+ghost use Rattle.std.specs.Prelude.{◌≡◌, ◌≤◌, ◌<◌, ◌+◌, ◌++◌, ⊤, false, take, drop, length, MatchOption, IfSome};
+ghost use Rattle.std.specs.Bool.{MatchBool, OnTrue};
 ghost use Rattle.std.specs.Iterator.{YieldsFirstBy, item_count};
 ghost use Rattle.std.specs.List.{concat};
 ghost use Rattle.std.specs.Str.{chars};
@@ -10,9 +10,10 @@ ghost use Rattle.rope_text.specs.Cutting.{parts_crlf};
 ghost use Rattle.rope_text.specs.Lines.{line_count};
 ghost use Rattle.rope_text.specs.LineParts.{part_between, line_of, lines_of, first_line, last_start};
 ghost use Rattle.rope_text.specs.Sides.{ahead, at_start, at_place, turned, GoesRight, GoesLeft, GoesAhead, StepsBack};
-ghost use Rattle.rope_text.specs.TextInfo.{info_of, info_sum, HasPart, HasSum};
+ghost use Rattle.rope_text.specs.TextInfo.{info_of, HasPart, HasSum};
 ghost use Rattle.rope_slice.specs.Slice.{content_of, text_of, chunks_of, breaks_of};
-ghost use Rattle.rope_slice.specs.Caret.{AreChunks, HoldsAhead, PassesLine, PassesBack};
+ghost use Rattle.rope_slice.specs.Caret.{AreChunks, HoldsAhead, PassesLine, PassesBack, IsPassed, IsPassedBack};
+ghost use Rattle.rope_slice.specs.Lines.{IsLineStart};
 ghost use Rattle.rope_slice.specs.Path.{leaves};
 ghost use Rattle.rope_slice.specs.Hints.{CountsAhead};
 ghost use Rattle.rope_slice.specs.Edge.{line_info};
@@ -145,6 +146,21 @@ impl<'a> RopeSlice<'a> {
         }
     }
 
+    // The start of a line, or the end of the text, and the counts of the text before it.
+    #[inline(always)]
+    fn caret_at(&self, line_idx: usize) -> (Caret<'a>, TextInfo)
+        requires { line_idx ≤ line_count (breaks_of self.now) (text_of self.now) }
+        ensures { IsLineStart (content_of self.now) result.0 result.1 line_idx
+            (line_count (breaks_of self.now) (text_of self.now)) }
+    {
+        // For the proof: `info` says that a slice has at most `isize::MAX` bytes.
+        let _ = self.info();
+        let before = self.before_line(line_idx);
+        let (span, inside) = Span::behind(self, before);
+        let caret = Caret { span, inside };
+        (caret, before)
+    }
+
     /// The line `line_idx`, counted from 0, with its line break, as a slice.
     ///
     /// The index is below `len_lines()`. Costs a few look-ups, and counts the line; takes no
@@ -197,12 +213,11 @@ impl<'a> RopeSlice<'a> {
         ensures counts { result.1 ≡ line_info (breaks_of self.now) (text_of self.now) line_idx }
     {
         let total = self.info().break_count + 1;
-        let before = self.before_line(line_idx);
-        let (span, inside) = Span::behind(self, before);
+        let (caret, before) = self.caret_at(line_idx);
         let lines = Lines {
             slice: *self,
             breaks: self.line_breaks(),
-            caret: Caret { span, inside },
+            caret,
             before,
             line: line_idx,
             total,
@@ -236,12 +251,15 @@ impl<'a> Lines<'a> {
         let here = self.before;
         if is_left {
             let line = self.line - 1;
-            let skip = here.break_count - line;
-            let held = self.caret.pass_line_back(&mut self.before, skip, breaks);
+            let held = self
+                .caret
+                .go_back(&mut self.before, &self.slice, line, breaks);
             self.line = line;
             return Some(self.slice.between(breaks, self.before, here, held));
         }
-        let held = self.caret.pass_line(&mut self.before, breaks);
+        let held = self
+            .caret
+            .go_on(&mut self.before, &self.slice, self.line, breaks);
         self.line += 1;
         Some(self.slice.between(breaks, here, self.before, held))
     }
@@ -336,118 +354,179 @@ impl<'a> Model for Caret<'a> {
     ghost invariant = { λ a. IsCaret a.span a.inside };
 }
 
-// From the end of a chunk to the end of a line: the place in the last chunk, and in `more` the
-// counts of what was passed: for counts that it answered, a caller would clear stack at each line.
-// Never inlined, so that a step within one chunk is kept short.
+// Passes the rest of a line, from the end of a chunk on, if it ends in the next chunk: returns the
+// byte of that chunk at which it ends, and puts the counts of what was passed in `more`: for counts
+// that it returned, a caller would clear stack at each line. Where it ends later the span may have
+// moved. Never inlined, so that a step within one chunk is kept short.
 #[inline(never)]
-fn pass_chunks(span: &mut Span<'_>, more: &mut TextInfo, breaks: LineBreaks) -> usize
+fn pass_chunk(span: &mut Span<'_>, more: &mut TextInfo, breaks: LineBreaks) -> Option<usize>
     requires { AreChunks span.old }
-    ensures passes { PassesLine breaks (concat span.old.before ++ span.old.here)
-        (concat span.old.after) span.new result more.new }
+    ensures passes { IfSome result (λ end. PassesLine breaks (concat span.old.before
+        ++ span.old.here) (concat span.old.after) span.new end more.new) }
+    ensures chunks { AreChunks span.new }
     ensures same { leaves span.new ≡ leaves span.old }
 {
-    let mut passed = TextInfo::new();
-    while span.step(false, Heads::Left) {
-        let line = TextInfo::of_first_line(span.chunk(), breaks);
-        passed = passed.plus(line);
-        if line.break_count > 0 {
-            *more = passed;
-            return line.bytes;
-        }
+    if !span.has_break_beside(false) || !span.step(false, Heads::Left) {
+        return None;
     }
-    *more = passed;
-    byte_len_of(span.chunk())
+    let line = TextInfo::of_first_line(span.chunk(), breaks);
+    *more = line;
+    if line.break_count == 0 {
+        return None;
+    }
+    Some(line.bytes)
 }
 
-// From the start of a chunk back to the start of a line: the place in the last chunk, and in `more`
-// the counts of what was passed.
+// Passes line breaks backward from the start of a chunk, if the line starts in the chunk before:
+// returns the byte of that chunk at which it starts, and puts the counts of what was passed in
+// `more`. Where it starts earlier the span may have moved.
 #[inline(never)]
-fn pass_chunks_back(
+fn pass_chunk_back(
     span: &mut Span<'_>,
     skip: usize,
     more: &mut TextInfo,
     breaks: LineBreaks,
-) -> usize
+) -> Option<usize>
     requires { AreChunks span.old }
-    ensures passes { PassesBack breaks skip (concat span.old.before)
-        (span.old.here ++ concat span.old.after) span.new result more.new }
+    ensures passes { IfSome result (λ start. PassesBack breaks skip (concat span.old.before)
+        (span.old.here ++ concat span.old.after) span.new start more.new) }
+    ensures chunks { AreChunks span.new }
     ensures same { leaves span.new ≡ leaves span.old }
 {
-    let mut passed = TextInfo::new();
-    let mut left = skip;
-    while span.step(true, Heads::Left) {
-        let chunk = span.chunk();
-        let end = byte_len_of(chunk);
-        let (start, line) = TextInfo::of_last_line(chunk, end, left, breaks);
-        passed = line.plus(passed);
-        if start > 0 {
-            *more = passed;
-            return start;
-        }
-        left -= line.break_count;
+    if !span.has_break_beside(true) || !span.step(true, Heads::Left) {
+        return None;
     }
-    *more = passed;
-    0
+    let chunk = span.chunk();
+    let end = byte_len_of(chunk);
+    let (start, line) = TextInfo::of_last_line(chunk, end, skip, breaks);
+    *more = line;
+    if start == 0 {
+        return None;
+    }
+    Some(start)
 }
 
 impl<'a> Caret<'a> {
-    // Goes on past the next line break, or to the end, and adds what it passed to the counts of the
-    // text before. Answers what the chunk in which that starts has from there on. The counts are
-    // kept by the callee: were they answered, the caller would load as vectors what was just stored
-    // in words, and stall.
+    // Returns the rest of the chunk.
+    #[inline(always)]
+    fn held(&self) -> &'a str
+        ensures { HoldsAhead self.now (chars result.now) }
+    {
+        &self.span.chunk()[self.inside..]
+    }
+
+    // Passes the next line break and adds what it passed to the counts of the text before. Returns
+    // whether it did: it looks in this chunk and in the next one, and may stand anywhere if the
+    // break is in neither. The counts are kept by the callee: were they returned, the caller would
+    // load as vectors what was just stored in words, and stall.
     #[inline(never)]
-    fn pass_line(&mut self, before: &mut TextInfo, breaks: LineBreaks) -> &'a str
+    fn pass_line(&mut self, before: &mut TextInfo, breaks: LineBreaks) -> bool
         requires { HasSum before.old (info_of breaks (first_line breaks self.old.back)) }
-        ensures front { self.new.front ≡ self.old.front ++ first_line breaks self.old.back }
-        ensures back { self.old.back ≡ first_line breaks self.old.back ++ self.new.back }
-        ensures chunks { self.new.chunks ≡ self.old.chunks }
-        ensures counts { before.new
-            ≡ info_sum before.old (info_of breaks (first_line breaks self.old.back)) }
-        ensures held { HoldsAhead self.old (chars result.now) }
+        ensures { OnTrue result (IsPassed breaks self.old before.old self.new before.new) }
     {
         let held = &self.span.chunk()[self.inside..];
         let first = TextInfo::of_first_line(held, breaks);
         if first.break_count > 0 {
             self.inside += first.bytes;
             *before = before.plus(first);
-            return held;
+            return true;
         }
         let mut more = TextInfo::new();
-        self.inside = pass_chunks(&mut self.span, &mut more, breaks);
+        let Some(inside) = pass_chunk(&mut self.span, &mut more, breaks) else {
+            self.inside = 0;
+            return false;
+        };
+        self.inside = inside;
         *before = before.plus(first.plus(more));
-        held
+        true
     }
 
-    // Goes back past `skip` line breaks, and on to the end of the one before them, or to the start,
-    // and takes what it passed from the counts of the text before. Answers what the chunk has from
-    // the new place on. The place is in no CR LF.
+    // Passes `skip` line breaks backward, and goes on to the end of the one before them, and takes
+    // what it passed from the counts of the text before. Returns whether it did, as `pass_line`
+    // does. The place is in no CR LF.
     #[inline(never)]
-    fn pass_line_back(&mut self, before: &mut TextInfo, skip: usize, breaks: LineBreaks) -> &'a str
+    fn pass_line_back(&mut self, before: &mut TextInfo, skip: usize, breaks: LineBreaks) -> bool
         requires apart { parts_crlf self.old.front self.old.back ≡ false }
         requires part { HasPart before.old
             (info_of breaks (drop (last_start breaks self.old.front skip) self.old.front)) }
-        ensures front { self.new.front
-            ≡ take (last_start breaks self.old.front skip) self.old.front }
-        ensures back { self.new.back
-            ≡ drop (last_start breaks self.old.front skip) self.old.front ++ self.old.back }
-        ensures chunks { self.new.chunks ≡ self.old.chunks }
-        ensures counts { info_sum
-            (info_of breaks (drop (last_start breaks self.old.front skip) self.old.front))
-            before.new ≡ before.old }
-        ensures held { HoldsAhead self.new (chars result.now) }
+        ensures { OnTrue result (IsPassedBack breaks skip self.old before.old self.new before.new) }
     {
         let chunk = self.span.chunk();
         let (start, last) = TextInfo::of_last_line(chunk, self.inside, skip, breaks);
         if start > 0 {
             self.inside = start;
             *before = before.minus(last);
-            return &chunk[start..];
+            return true;
         }
         let mut more = TextInfo::new();
         let left = skip - last.break_count;
-        let inside = pass_chunks_back(&mut self.span, left, &mut more, breaks);
+        let Some(inside) = pass_chunk_back(&mut self.span, left, &mut more, breaks) else {
+            self.inside = 0;
+            return false;
+        };
         self.inside = inside;
         *before = before.minus(more.plus(last));
-        &self.span.chunk()[inside..]
+        true
+    }
+
+    // Goes to the start of a line, or to the end of the text, in a descent from the root.
+    #[inline(never)]
+    fn seek(&mut self, before: &mut TextInfo, slice: &RopeSlice<'a>, line_idx: usize)
+        requires { line_idx ≤ line_count (breaks_of slice.now) (text_of slice.now) }
+        ensures { IsLineStart (content_of slice.now) self.new before.new line_idx
+            (line_count (breaks_of slice.now) (text_of slice.now)) }
+    {
+        (*self, *before) = slice.caret_at(line_idx);
+    }
+
+    // Goes from the start of a line to the start of the next one. Returns the rest of the chunk
+    // from the line's start on.
+    #[inline(always)]
+    fn go_on(
+        &mut self,
+        before: &mut TextInfo,
+        slice: &RopeSlice<'a>,
+        line_idx: usize,
+        breaks: LineBreaks,
+    ) -> &'a str
+        requires start { IsLineStart (content_of slice.now) self.old before.old line_idx
+            (line_count (breaks_of slice.now) (text_of slice.now)) }
+        requires within { line_idx < line_count (breaks_of slice.now) (text_of slice.now) }
+        requires breaks_is { breaks ≡ breaks_of slice.now }
+        ensures start { IsLineStart (content_of slice.now) self.new before.new (line_idx + 1)
+            (line_count (breaks_of slice.now) (text_of slice.now)) }
+        ensures held { HoldsAhead self.old (chars result.now) }
+    {
+        let held = self.held();
+        if self.pass_line(before, breaks) {
+            return held;
+        }
+        self.seek(before, slice, line_idx + 1);
+        held
+    }
+
+    // Goes back to the start of a line from the start of the next one. Returns the rest of the
+    // chunk from there on.
+    #[inline(always)]
+    fn go_back(
+        &mut self,
+        before: &mut TextInfo,
+        slice: &RopeSlice<'a>,
+        line_idx: usize,
+        breaks: LineBreaks,
+    ) -> &'a str
+        requires start { IsLineStart (content_of slice.now) self.old before.old (line_idx + 1)
+            (line_count (breaks_of slice.now) (text_of slice.now)) }
+        requires breaks_is { breaks ≡ breaks_of slice.now }
+        ensures start { IsLineStart (content_of slice.now) self.new before.new line_idx
+            (line_count (breaks_of slice.now) (text_of slice.now)) }
+        ensures held { HoldsAhead self.new (chars result.now) }
+    {
+        let skip = before.break_count - line_idx;
+        if self.pass_line_back(before, skip, breaks) {
+            return self.held();
+        }
+        self.seek(before, slice, line_idx);
+        self.held()
     }
 }

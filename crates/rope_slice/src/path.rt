@@ -166,6 +166,21 @@ impl<'a> Path<'a> {
         Path::at(root, Unit::Byte, byte_idx).0
     }
 
+    /// Returns whether the next leaf, or backward the one before, is in the same list and has a
+    /// line break. The list's totals tell, so no leaf is read.
+    #[inline(always)]
+    fn has_break_beside(&self, is_backward: bool) -> bool {
+        let Some(totals) = self.totals else {
+            return false;
+        };
+        let at = if is_backward {
+            self.at.wrapping_sub(1)
+        } else {
+            self.at.wrapping_add(1)
+        };
+        at < totals.len() && total_before(totals, at).break_count < totals.get(at).break_count
+    }
+
     /// Goes to the next leaf, if there is one; else it stays.
     #[inline(always)]
     pub(crate) fn step_on(&mut self, heads: Heads) -> bool
@@ -267,6 +282,12 @@ impl<'a> TreeSpan<'a> {
         let (from, to) = (start.bytes, excerpt.end.bytes);
         let span = TreeSpan { path, from, to };
         (span, Before::since(before, start))
+    }
+
+    /// Returns whether the leaf beside this one is known at once to have a line break.
+    #[inline(always)]
+    pub(crate) fn has_break_beside(&self, is_backward: bool) -> bool {
+        self.path.has_break_beside(is_backward)
     }
 
     /// The same chunk, with a way of its own.

@@ -138,7 +138,7 @@ impl<'a> RopeSlice<'a> {
     }
 
     // The characters from `start` up to `end`: their text, and the chunks clipped to them.
-    fn char_range(&self, start: usize, end: usize) -> RopeSlice<'a>
+    pub(crate) fn char_range(&self, start: usize, end: usize) -> RopeSlice<'a>
         requires ordered { start ≤ end }
         requires within { end ≤ length (text_of self.now) }
         ensures text { text_of result ≡ slice_range (text_of self.now) start end }

@@ -136,6 +136,16 @@ impl<'a> Span<'a> {
         self.chunk
     }
 
+    /// Returns whether the next chunk, or backward the one before, is known at once to have a line
+    /// break. It may have one where this returns false: a caller looks elsewhere.
+    #[inline(always)]
+    pub(crate) fn has_break_beside(&self, is_backward: bool) -> bool {
+        match &self.way {
+            Some(way) => way.has_break_beside(is_backward),
+            None => false,
+        }
+    }
+
     /// Goes to the next chunk, or backward to the one before. Answers whether there is one; else it
     /// stays.
     // Inlined: a plain text has none, which costs no call.

@@ -1,11 +1,8 @@
-use Rattle.std.proofs.Common.{◌≡◌, ◌∙◌, ap, sym, subst, arith}
+use Rattle.std.proofs.Common.{◌≡◌, ◌∙◌, ap, sym, subst, refl, arith}
 use Rattle.rope_text.specs.TextInfo.{info_of, info_sum, HasSum}
-use Rattle.rope_text.specs.LineParts.{first_line}
-use Rattle.std.specs.Str.{chars}
-use Rattle.rope_text.specs.LineParts.{after_byte}
-use Rattle.rope_slice.specs.Caret.{halves_at, HoldsAhead}
-use Rattle.rope_slice.proofs.Carets.{between_boundary, between_after}
-use Rattle.rope_slice.proofs.CaretSteps.{holds_ahead, info_small, place_fits, pass_inside, more_small, pass_over}
+use Rattle.rope_text.specs.LineParts.{first_line, after_byte}
+use Rattle.rope_slice.proofs.Carets.{between_boundary, between_after, start_of_chunk}
+use Rattle.rope_slice.proofs.CaretSteps.{info_small, place_fits, pass_inside, more_small, pass_over}
 use Rattle.rope_slice.proofs.lines.Caret.pass_line.Goals.{After-of_first_line-first}
 use Rattle.rope_tree.proofs.Infos.{sum_of_small}
 use Rattle.rope_slice.proofs.lines.Caret.pass_line.Goals as goal
@@ -28,32 +25,26 @@ overflow_add-self c =
 pub invariant_of-self : goal.invariant_of-self
 invariant_of-self c =
     (pass_inside c.args.breaks c.self.inside.span c.self.inside.inside c.self.invariant c.of_first_line-first.result
-    (first_is (goal.at.invariant_of-self c).After-of_first_line-first)
-    c.if-first-gt0.true).caret
-
-pub returns-then-first-gt0-clause-front : goal.returns-then-first-gt0-clause-front
-returns-then-first-gt0-clause-front c =
-    rw (← c.self.view_is) (pass_inside c.args.breaks c.self.inside.span c.self.inside.inside c.self.invariant c.of_first_line-first.result
-    (first_is (goal.at.returns-then-first-gt0-clause-front c).After-of_first_line-first)
-    c.if-first-gt0.true).front_is
-
-pub returns-then-first-gt0-clause-back : goal.returns-then-first-gt0-clause-back
-returns-then-first-gt0-clause-back c =
-    rw (← c.self.view_is) (pass_inside c.args.breaks c.self.inside.span c.self.inside.inside c.self.invariant c.of_first_line-first.result
-    (first_is (goal.at.returns-then-first-gt0-clause-back c).After-of_first_line-first)
-    c.if-first-gt0.true).back_is
+    (first_is (goal.at.invariant_of-self c).After-of_first_line-first) c.if-first-gt0.true).caret
 
 pub plus-requires : goal.plus-requires
 plus-requires c =
     subst (HasSum c.args.before.now) (sym (pass_inside c.args.breaks c.self.inside.span c.self.inside.inside c.self.invariant c.of_first_line-first.result
-    (first_is (goal.at.plus-requires c).After-of_first_line-first)
-    c.if-first-gt0.true).counts) (rw (← c.self.view_is) at c.requires)
+    (first_is (goal.at.plus-requires c).After-of_first_line-first) c.if-first-gt0.true).counts) (rw (← c.self.view_is) at c.requires)
 
-pub returns-then-first-gt0-clause-counts : goal.returns-then-first-gt0-clause-counts
-returns-then-first-gt0-clause-counts c =
-    rw (← c.self.view_is) (c.plus.ensures.sum ∙ ap (info_sum c.args.before.now) (pass_inside c.args.breaks c.self.inside.span c.self.inside.inside c.self.invariant c.of_first_line-first.result
-    (first_is (goal.at.returns-then-first-gt0-clause-counts c).After-of_first_line-first)
-    c.if-first-gt0.true).counts)
+pub returns-then-first-gt0 : goal.returns-then-first-gt0
+returns-then-first-gt0 c =
+    let it = pass_inside c.args.breaks c.self.inside.span c.self.inside.inside c.self.invariant c.of_first_line-first.result
+    (first_is (goal.at.returns-then-first-gt0 c).After-of_first_line-first) c.if-first-gt0.true in
+    rw (← c.self.view_is) record {
+      front = it.front_is;
+      back = it.back_is;
+      chunks = refl;
+      counts = c.plus.ensures.sum ∙ ap (info_sum c.args.before.now) it.counts;
+    }
+
+pub invariant_of-self-in_default : goal.invariant_of-self-in_default
+invariant_of-self-in_default c = start_of_chunk c.pass_chunk.new.span c.pass_chunk.ensures.chunks
 
 pub plus-requires-2 : goal.plus-requires-2
 plus-requires-2 c =
@@ -61,41 +52,21 @@ plus-requires-2 c =
     (first_is (goal.at.plus-requires-2 c).After-of_first_line-first) in
     let two = more_small c.args.breaks c.self.inside.span c.self.inside.inside c.self.invariant c.of_first_line-first.result
     (first_is (goal.at.plus-requires-2 c).After-of_first_line-first)
-    c.pass_chunks-self-inside.new.span c.pass_chunks-self-inside.result c.pass_chunks-self-inside.new.more c.if-first-gt0.false c.pass_chunks-self-inside.ensures.passes in
+    c.pass_chunk.new.span c.in-Some.inside c.pass_chunk.new.more c.if-first-gt0.false (rw c.in-Some.is at c.pass_chunk.ensures.passes) in
     sum_of_small _ _ one two
 
-pub returns-clause-front : goal.returns-clause-front
-returns-clause-front c =
-    rw (← c.self.view_is) (pass_over c.args.breaks c.self.inside.span c.self.inside.inside c.self.invariant c.of_first_line-first.result
-    (first_is (goal.at.returns-clause-front c).After-of_first_line-first)
-    c.pass_chunks-self-inside.new.span c.pass_chunks-self-inside.result c.pass_chunks-self-inside.new.more c.if-first-gt0.false c.pass_chunks-self-inside.ensures.passes c.plus-2.result c.plus-2.ensures.sum).front_is
-
-pub returns-clause-back : goal.returns-clause-back
-returns-clause-back c =
-    rw (← c.self.view_is) (pass_over c.args.breaks c.self.inside.span c.self.inside.inside c.self.invariant c.of_first_line-first.result
-    (first_is (goal.at.returns-clause-back c).After-of_first_line-first)
-    c.pass_chunks-self-inside.new.span c.pass_chunks-self-inside.result c.pass_chunks-self-inside.new.more c.if-first-gt0.false c.pass_chunks-self-inside.ensures.passes c.plus-2.result c.plus-2.ensures.sum).back_is
-
 pub plus-requires-3 : goal.plus-requires-3
-plus-requires-3 c =
-    subst (HasSum c.args.before.now) (sym (pass_over c.args.breaks c.self.inside.span c.self.inside.inside c.self.invariant c.of_first_line-first.result
-    (first_is (goal.at.plus-requires-3 c).After-of_first_line-first)
-    c.pass_chunks-self-inside.new.span c.pass_chunks-self-inside.result c.pass_chunks-self-inside.new.more c.if-first-gt0.false c.pass_chunks-self-inside.ensures.passes c.plus-2.result c.plus-2.ensures.sum).counts) (rw (← c.self.view_is) at c.requires)
+plus-requires-3 c = subst (HasSum c.args.before.now) (sym (pass_over c.args.breaks c.self.inside.span c.self.inside.inside c.self.invariant c.of_first_line-first.result (first_is (goal.at.plus-requires-3 c).After-of_first_line-first)
+    c.pass_chunk.new.span c.in-Some.inside c.pass_chunk.new.more c.if-first-gt0.false (rw c.in-Some.is at c.pass_chunk.ensures.passes) c.plus-2.result c.plus-2.ensures.sum).counts) (rw (← c.self.view_is) at c.requires)
 
-pub returns-clause-counts : goal.returns-clause-counts
-returns-clause-counts c =
-    rw (← c.self.view_is) (c.plus-3.ensures.sum ∙ ap (info_sum c.args.before.now) (pass_over c.args.breaks c.self.inside.span c.self.inside.inside c.self.invariant c.of_first_line-first.result
-    (first_is (goal.at.returns-clause-counts c).After-of_first_line-first)
-    c.pass_chunks-self-inside.new.span c.pass_chunks-self-inside.result c.pass_chunks-self-inside.new.more c.if-first-gt0.false c.pass_chunks-self-inside.ensures.passes c.plus-2.result c.plus-2.ensures.sum).counts)
-
-ahead : (c : After-of_first_line-first) → HoldsAhead (halves_at c.self.inside.span c.self.inside.inside) (chars c.range_from-held.result.now)
-ahead c =
-    let b = c.self.inside.inside in
-    holds_ahead c.self.inside.span b (chars c.range_from-held.result.now)
-    (between_after c.chunk.result.now c.range_from-held.result.now b c.chunk.utf8 (rw c.chunk.ensures c.self.invariant.between) c.range_from-held.ensures.value ∙ ap (λ t. after_byte t b) c.chunk.ensures)
-
-pub returns-then-first-gt0-clause-held : goal.returns-then-first-gt0-clause-held
-returns-then-first-gt0-clause-held c = rw (← c.self.view_is) (ahead (goal.at.returns-then-first-gt0-clause-held c).After-of_first_line-first)
-
-pub returns-clause-held : goal.returns-clause-held
-returns-clause-held c = rw (← c.self.view_is) (ahead (goal.at.returns-clause-held c).After-of_first_line-first)
+pub returns : goal.returns
+returns c =
+    let it =
+    pass_over c.args.breaks c.self.inside.span c.self.inside.inside c.self.invariant c.of_first_line-first.result (first_is (goal.at.returns c).After-of_first_line-first)
+    c.pass_chunk.new.span c.in-Some.inside c.pass_chunk.new.more c.if-first-gt0.false (rw c.in-Some.is at c.pass_chunk.ensures.passes) c.plus-2.result c.plus-2.ensures.sum in
+    rw (← c.self.view_is) record {
+      front = it.front_is;
+      back = it.back_is;
+      chunks = c.pass_chunk.ensures.same;
+      counts = c.plus-3.ensures.sum ∙ ap (info_sum c.args.before.now) it.counts;
+    }
