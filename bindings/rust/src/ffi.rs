@@ -586,9 +586,8 @@ impl Drop for Window<'_> {
 
 impl<'a> Window<'a> {
     #[inline]
-    pub(crate) fn new(before: Option<Counts>, are_many: bool) -> Window<'a> {
-        let room = if are_many { LINES } else { 1 };
-        Window { list: Vec::new(), first: 0, is_back: false, room, before, text: PhantomData }
+    pub(crate) fn new(before: Option<Counts>) -> Window<'a> {
+        Window { list: Vec::new(), first: 0, is_back: false, room: 1, before, text: PhantomData }
     }
 
     /// Where among the lines one of the rope is, which has one of this number; it is fetched with those that a cursor will pass
@@ -630,12 +629,13 @@ impl<'a> Window<'a> {
 
     #[inline(never)]
     fn fetch(&mut self, root: &'a Root, line_idx: usize, is_back: bool, left: usize) {
-        // One for a cursor that has turned, as it may turn again.
-        let room = if is_back == self.is_back || self.list.is_empty() { self.room.min(left) } else { 1 };
-        if self.list.capacity() == 0 {
+        // One line for a fresh cursor and for one that has turned: either may soon be dropped or turned again.
+        let room = if is_back == self.is_back { self.room } else { 1 };
+        if self.list.capacity() < LINES {
             self.list = ROOM.try_with(Cell::take).unwrap_or_default();
+            self.list.reserve_exact(LINES);
         }
-        fill(&mut self.list, room, |lines, room, count| unsafe {
+        fill(&mut self.list, room.min(left), |lines, room, count| unsafe {
             match self.before {
                 None if room > 1 && !is_back => {
                     ropey_lines_from_at(&root.0, line_idx, lines, room, count, self.before.insert(Counts::NONE))
@@ -648,11 +648,12 @@ impl<'a> Window<'a> {
                 }
             }
         });
-        (self.first, self.is_back, self.room) = (line_idx, is_back, LINES);
+        (self.first, self.is_back, self.room) = (line_idx, is_back, LINES.min(2 * room));
     }
 }
 
-/// How many lines are fetched at once: as many as a screen has. In the midst of a slice it is one at first.
+/// The largest number of lines fetched at once: the lines of a screen. A cursor begins with one line, and doubles the number
+/// with each fetch in the same direction.
 const LINES: usize = 50;
 
 /// Conversions in a text, by the set of line breaks where it is given. An index past the end stands for the end.

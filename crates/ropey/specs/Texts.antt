@@ -1,8 +1,9 @@
 -- The texts that an iterator gives, joined, and the text of a reader's bytes.
-use Rattle.std.specs.Prelude.{◌≡◌, ℕ, List, map, Option, IfSome}
+use Rattle.std.specs.Prelude.{◌≡◌, ℕ, List, ◌++◌, map, Option, None, IfSome}
+use Rattle.std.specs.Option.{option_to_list}
 use Rattle.std.specs.List.{concat}
 use Rattle.std.specs.Str.{chars, encode_utf8_all}
-use Rattle.std.specs.Iterator.{Yields, Drains}
+use Rattle.std.specs.Iterator.{YieldsThen}
 use Rattle.rope_text.specs.declared.error.Error.{Error}
 use Rattle.rope_text.specs.Text.{byte_len}
 use Rattle.rope_text.specs.Edit.{size_error, IsRefusal}
@@ -15,17 +16,28 @@ AreUtf8Of bytes text = IfSome bytes (λ known. encode_utf8_all text ≡ known)
 abbrev pub joined_texts : {A : Type 0} → (A → List ℕ) → List A → List ℕ
 joined_texts bytes texts = concat (map (λ x. chars (bytes x)) texts)
 
-module _ {U S A : Type 0} (becomes : U → S → Type 0) (steps : S → Option A → S → Type 0) (bytes : A → List ℕ) where
-  -- all that the source gives until it ends
+module _ {S A : Type 0} (steps : S → Option A → S → Type 0) (bytes : A → List ℕ) where
+  -- the iterator yields texts that join to this one, and then ends
+  abbrev pub YieldsAll : S → S → List ℕ → Type 0
+  YieldsAll from to text = (texts : List A)
+      × YieldsThen steps from texts None to × (text ≡ joined_texts bytes texts)
+
+  -- the iterator yields texts that fit in a rope, and then one more text or its end: the error
+  -- refuses that one, for the size of all of them or for memory
+  abbrev pub StopsRefused : S → S → Error → Type 0
+  StopsRefused from to error = (texts : List A) × (last : Option A)
+      × YieldsThen steps from texts last to
+      × (size_error (byte_len (joined_texts bytes texts)) ≡ None)
+      × IsRefusal (size_error (byte_len (joined_texts bytes (texts ++ option_to_list last)))) error
+
+module _ {U S A : Type 0} (becomes : U → S → Type 0) (steps : S → Option A → S → Type 0)
+    (bytes : A → List ℕ) where
+  -- the text is all that the source yields until it ends
   abbrev pub IsAllOf : U → List ℕ → Type 0
-  IsAllOf source text = (it : S) × (texts : List A)
-      × becomes source it × Drains steps it texts × (text ≡ joined_texts bytes texts)
+  IsAllOf source text = (from : S) × (to : S)
+      × becomes source from × YieldsAll steps bytes from to text
 
-  -- what the source gives up to some point
-  abbrev pub IsBeginningOf : U → List ℕ → Type 0
-  IsBeginningOf source text = (it : S) × (texts : List A) × (rest : S)
-      × becomes source it × Yields steps it texts rest × (text ≡ joined_texts bytes texts)
-
-  -- what the source gives up to some point is refused so, for its size or for memory
+  -- the error refuses a text that the source yields, or the end, after texts that fit in a rope
   abbrev pub IsRefusedOf : U → Error → Type 0
-  IsRefusedOf source error = (text : List ℕ) × IsBeginningOf source text × IsRefusal (size_error (byte_len text)) error
+  IsRefusedOf source error = (from : S) × (to : S)
+      × becomes source from × StopsRefused steps bytes from to error

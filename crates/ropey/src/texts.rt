@@ -7,11 +7,11 @@ ghost use Rattle.std.specs.Prelude.{◌≡◌, IfOk, IfErr, ◌≤◌, ◌↔◌
 ghost use Rattle.std.specs.Str.{chars};
 ghost use Rattle.std.specs.String.{string_bytes};
 ghost use Rattle.std.specs.Cow.{cow_str_bytes, IsBorrowedStr, IsOwnedStr};
-ghost use Rattle.std.specs.Iterator.{IsFiniteIterable};
+ghost use Rattle.std.specs.Iterator.{IsFinite, IsFiniteIterable};
 ghost use Rattle.rope_text.specs.declared.error.Error.TheVariants.{OutOfMemory};
 ghost use Rattle.rope_text.specs.declared.line_breaks.LineBreaks.TheVariants.{Unicode};
 ghost use Rattle.ropey.specs.View.{IsBuilt};
-ghost use Rattle.ropey.specs.Texts.{IsAllOf, IsRefusedOf};
+ghost use Rattle.ropey.specs.Texts.{YieldsAll, StopsRefused, IsAllOf, IsRefusedOf};
 
 use crate::rope::Rope;
 use crate::rope_builder::RopeBuilder;
@@ -53,15 +53,15 @@ impl Rope {
         Rope::from_str(alloc, cow.as_str())
     }
 
-    /// A rope of the texts that the iterator gives, one behind the other, with Unicode's line
-    /// breaks. It has at most (n + 980) / 981 chunks for n bytes.
+    /// Returns a rope of all texts that the iterator yields, joined, with Unicode's line breaks.
+    /// It has at most (n + 980) / 981 chunks for n bytes.
     ///
     /// The iterator must end. Takes time and memory in proportion to the text.
     ///
     /// # Errors
     ///
-    /// `TooLong`, once the texts so far have more than `isize::MAX` bytes; else `OutOfMemory`. No
-    /// text is taken after a refusal.
+    /// `TooLong` at the first text with which there would be more than `isize::MAX` bytes; else
+    /// `OutOfMemory`. No text is taken from the iterator after the one that is refused.
     pub fn from_str_iter<'a, I: IntoIterator<Item = &'a str>>(
         alloc: Global,
         iter: I,
@@ -77,13 +77,15 @@ impl Rope {
         from_texts(alloc, iter)
     }
 
-    /// As `from_str_iter`, of owned texts.
+    /// Returns a rope of all owned texts that the iterator yields, joined, with Unicode's line
+    /// breaks. It has at most (n + 980) / 981 chunks for n bytes.
     ///
-    /// The iterator must end.
+    /// The iterator must end. Takes time and memory in proportion to the text.
     ///
     /// # Errors
     ///
-    /// `TooLong`, then `OutOfMemory`, as for `from_str_iter`.
+    /// `TooLong` at the first text with which there would be more than `isize::MAX` bytes; else
+    /// `OutOfMemory`. No text is taken from the iterator after the one that is refused.
     pub fn from_string_iter<I: IntoIterator<Item = String>>(alloc: Global, iter: I) -> Result<Rope>
         requires ends { IsFiniteIterable I.into_iter_gives I.IntoIter.can_next
             I.IntoIter.remaining iter }
@@ -96,13 +98,15 @@ impl Rope {
         from_texts(alloc, iter)
     }
 
-    /// As `from_str_iter`, of texts that are borrowed or owned.
+    /// Returns a rope of all texts, borrowed or owned, that the iterator yields, joined, with
+    /// Unicode's line breaks. It has at most (n + 980) / 981 chunks for n bytes.
     ///
-    /// The iterator must end.
+    /// The iterator must end. Takes time and memory in proportion to the text.
     ///
     /// # Errors
     ///
-    /// `TooLong`, then `OutOfMemory`, as for `from_str_iter`.
+    /// `TooLong` at the first text with which there would be more than `isize::MAX` bytes; else
+    /// `OutOfMemory`. No text is taken from the iterator after the one that is refused.
     pub fn from_cow_iter<'a, I: IntoIterator<Item = CowStr<'a>>>(
         alloc: Global,
         iter: I,
@@ -172,7 +176,7 @@ impl Rope {
     }
 }
 
-// Hands the texts to a builder, one after the other.
+// Returns a rope of the texts that the iterator yields.
 fn from_texts<T: AsStr + Drop, I: IntoIterator<Item = T>>(alloc: Global, iter: I) -> Result<Rope>
     requires ends { IsFiniteIterable I.into_iter_gives I.IntoIter.can_next
         I.IntoIter.remaining iter }
@@ -182,8 +186,21 @@ fn from_texts<T: AsStr + Drop, I: IntoIterator<Item = T>>(alloc: Global, iter: I
     ensures refused { IfErr result
         (IsRefusedOf I.into_iter_gives I.IntoIter.next_gives T.text iter) }
 {
+    take_texts(alloc, &mut iter.into_iter())
+}
+
+// Returns a rope of the texts that the iterator still yields. Once a text is refused, no other is
+// taken, so the iterator is left right after it.
+fn take_texts<T: AsStr + Drop, I: Iterator<Item = T>>(alloc: Global, texts: &mut I) -> Result<Rope>
+    requires can { I.can_next texts.old }
+    requires ends { IsFinite (I.remaining texts.old) }
+    ensures text { IfOk result (λ rope.
+        YieldsAll I.next_gives T.text texts.old texts.new rope.text) }
+    ensures kept { IfOk result (IsBuilt Unicode) }
+    ensures refused { IfErr result (StopsRefused I.next_gives T.text texts.old texts.new) }
+{
     let mut builder = RopeBuilder::new(alloc).unwrap();
-    for text in iter {
+    while let Some(text) = texts.next() {
         builder.append(text.as_str())?;
     }
     builder.finish()

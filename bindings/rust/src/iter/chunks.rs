@@ -1,5 +1,5 @@
 //! Chunks, fetched some at a time.
-use crate::ffi::{Before, Counts, Pieces, Root};
+use crate::ffi::{Before, Counts, Pieces, Root, FEW_PIECES};
 use crate::iter::cursor;
 use crate::slice::{cut, known};
 use crate::MAX_BYTES;
@@ -23,6 +23,8 @@ pub struct Chunks<'a> {
     first_char: usize,
     end: usize,
     at: usize,
+    // Whether the last fetch went back.
+    is_back: bool,
     is_reversed: bool,
 }
 
@@ -48,7 +50,8 @@ impl<'a> Chunks<'a> {
     #[inline(always)]
     pub(crate) fn over(root: Option<&'a Root>, start: Counts, len: usize, text: &'a str) -> Chunks<'a> {
         let (pieces, first_char, start) = (Pieces::of(text), start.chars, start.bytes);
-        Chunks { root, pieces, passed: 0, start, first_char, end: start + len, at: start, is_reversed: false }
+        let (end, at) = (start + len, start);
+        Chunks { root, pieces, passed: 0, start, first_char, end, at, is_back: false, is_reversed: false }
     }
 
     #[inline]
@@ -131,7 +134,7 @@ impl<'a> Chunks<'a> {
     #[inline(never)]
     fn fetch_behind(&mut self) -> Option<&'a str> {
         let (root, left) = (self.root?, self.at - self.start);
-        let next = self.set_room(left);
+        let next = self.set_room(left, true);
         let end = self.pieces.fetch_before(root, self.at, left);
         if end < self.at {
             self.pieces.room = 1;
@@ -144,10 +147,12 @@ impl<'a> Chunks<'a> {
         self.pieces.get(self.passed - 1)
     }
 
-    /// Has about as many fetched as full chunks would have the text that is left, and two at least; answers how many to fetch the
-    /// next time: few at first, as many a cursor is soon dropped.
-    fn set_room(&mut self, left: usize) -> usize {
-        let room = self.pieces.room;
+    /// Sets how many chunks to fetch: about as many as hold the text that is left if they are full, and at least two. Returns how
+    /// many to fetch the next time in the same direction: a few at first and after a turn, since many cursors are soon dropped or
+    /// turned again, and then twice as many each time.
+    fn set_room(&mut self, left: usize, is_back: bool) -> usize {
+        let room = if is_back == self.is_back { self.pieces.room } else { FEW_PIECES };
+        self.is_back = is_back;
         self.pieces.room = room.min((left + MAX_BYTES / 2) / MAX_BYTES + 1).max(2);
         MOST.min(2 * room)
     }
@@ -156,7 +161,7 @@ impl<'a> Chunks<'a> {
     /// chunks it keeps what lies in the range.
     #[inline]
     pub(crate) fn find(&mut self, look_up: impl FnOnce(&mut Pieces<'a>) -> Before) -> Before {
-        let next = self.set_room(self.end - self.at);
+        let next = self.set_room(self.end - self.at, false);
         let before = look_up(&mut self.pieces);
         self.pieces.room = next;
         self.at = before.0.max(self.start);

@@ -40,7 +40,7 @@ impl<'a> Lines<'a> {
     pub(crate) fn of(slice: RopeSlice<'a>, line_idx: usize) -> Lines<'a> {
         let idx = slice.as_str().filter(|_| line_idx > 0).map_or(0, |text| line_to_byte(text, line_idx));
         let (is_whole, total) = (slice.is_whole(), slice.len_lines());
-        let window = Window::new((line_idx == 0).then(|| slice.start()), is_whole || line_idx == 0);
+        let window = Window::new((line_idx == 0).then(|| slice.start()));
         Lines { slice, is_whole, window, idx, passed: line_idx, total, is_reversed: false }
     }
 

@@ -2,8 +2,10 @@
 //!
 //! A cursor stands between two items, or at an end of the text. `next` passes the item ahead of it, and `prev` the one
 //! behind it, so that either takes back what the other did; at an end both answer none, and may be called again. Turned
-//! round by `reverse`, a cursor goes back on `next`, from where it stands. It fetches chunks or lines some at a time, for
-//! which it takes at most 6 KB of memory. Of that a thread keeps 2.4 KB for its next cursor over lines.
+//! round by `reverse`, a cursor goes back on `next`, from where it stands.
+//!
+//! A cursor fetches one line or three chunks at first and after a turn, and with each further fetch twice as many, up to
+//! 50 lines or 256 chunks. It takes at most 6 KB of memory, of which a thread keeps 2.4 KB for its next cursor over lines.
 //!
 //! ```
 //! use ropey::Rope;
