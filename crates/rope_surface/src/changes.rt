@@ -1,22 +1,42 @@
-//! Changes as values: built, measured, listed, applied, inverted, and moved through.
-ghost use Rattle.std.specs.Prelude.{◌≡◌, [], ◌<◌, ◌≤◌, ◌↔◌, IsTrue, IfOk, MatchOption, OnOk, Some};
+//! Changes as values: built, measured, listed, applied, inverted, composed, rebased, and moved
+//! through.
+ghost use Rattle.std.specs.Prelude.{◌≡◌, [], ◌<◌, ◌≤◌, ◌↔◌, IsTrue, IfOk, MatchOption, OnOk, Some, map as list_map};
+ghost use Rattle.std.specs.List.{All};
 ghost use Rattle.std.specs.Str.{chars};
+ghost use Rattle.rope_changes.specs.Built.{built, unchanged};
 ghost use Rattle.rope_changes.specs.Change.{IsInOrder, after, before, last_end, ops, replaced};
 ghost use Rattle.rope_changes.specs.Inverted.{inverted};
-ghost use Rattle.rope_changes.specs.Laws.{ComposeApplies, Converges, InverseApplies, InvertsBack, LengthsAgree, MovesCompose, MovesKeepOrder, ReplacesRange};
+ghost use Rattle.rope_changes.specs.Laws.{ComposeApplies, Converges, InverseApplies, InvertsBack, LengthsAgree, MovesCompose, MovesKeepOrder, MovesThroughComposed, NormalFormApplies, NormalFormIsUnique, NormalFormKeepsLengths, OperationsTell, RebasesConverge, ReplacesRange, StartStays};
 ghost use Rattle.rope_changes.specs.Listed.{IsNext};
 ghost use Rattle.rope_changes.specs.Moved.{moved};
+ghost use Rattle.rope_changes.specs.Normal.{carried, composed};
 ghost use Rattle.rope_changes.specs.Ops.{run};
 
-use rope_changes::{ChangeError, ChangeSet, EditRange, Edits, Side, laws};
+use rope_changes::{ChangeError, ChangeSet, Edit, EditRange, Edits, Side, laws};
 use ropey::Rope;
 use std::alloc::Global;
+use std::fmt;
 
 /// Makes a change that keeps all of a text.
 pub fn new(alloc: Global, len: usize) -> Result<ChangeSet, ChangeError>
     ensures { IfOk result (λ change. change ≡ record { edits = []; rest = len }) }
 {
     ChangeSet::new(alloc, len)
+}
+
+/// Makes a change of a text from edits in order.
+pub fn of_edits(alloc: Global, len: usize, edits: &[Edit<'_>]) -> Result<ChangeSet, ChangeError>
+    ensures { IfOk result (λ change. change ≡ built (unchanged len) edits.now) }
+{
+    ChangeSet::of_edits(alloc, len, edits)
+}
+
+/// Returns an edit that replaces a range of characters by a text.
+pub fn edit<'a>(start: usize, end: usize, text: &'a str) -> Edit<'a>
+    ensures start { result.start ≡ start }
+    ensures end { result.end ≡ end }
+{
+    Edit { start, end, text }
 }
 
 /// Returns the lengths of the texts before and after a change.
@@ -116,6 +136,24 @@ pub fn invert(change: &ChangeSet, rope: &Rope) -> Result<ChangeSet, ChangeError>
     change.invert(rope)
 }
 
+/// Returns the change that does what a change and then a later one do.
+pub fn compose(change: &ChangeSet, later: &ChangeSet) -> Result<ChangeSet, ChangeError>
+    ensures { IfOk result (λ both. ops both ≡ composed (ops change.now) (ops later.now)) }
+{
+    change.compose(later)
+}
+
+/// Returns a change as one of the text after another change.
+pub fn rebase(
+    change: &ChangeSet,
+    over: &ChangeSet,
+    side: Side,
+) -> Result<ChangeSet, ChangeError>
+    ensures { IfOk result (λ rebased. ops rebased ≡ carried side (ops change.now) (ops over.now)) }
+{
+    change.rebase(over, side)
+}
+
 /// Returns the sides, in order.
 pub fn sides() -> [Side; 2] {
     [Side::Before, Side::After]
@@ -129,6 +167,19 @@ pub fn map(change: &ChangeSet, char_idx: usize, side: Side) -> usize
     change.map(char_idx, side)
 }
 
+/// Moves indices through a change.
+pub fn map_sorted(change: &ChangeSet, char_indices: &mut [usize], side: Side)
+    requires { All (λ i. i ≤ before change.now) char_indices.old }
+    ensures { char_indices.new ≡ list_map (moved side (ops change.now)) char_indices.old }
+{
+    change.map_sorted(char_indices, side);
+}
+
+/// Writes an error as its text.
+pub fn print_error<W: fmt::Write>(error: &ChangeError, f: &mut fmt::Formatter<W>) -> fmt::Result {
+    fmt::Display::fmt(error, f)
+}
+
 /// Holds by the laws of changes.
 pub fn changes_agree()
     ensures lengths { LengthsAgree }
@@ -139,9 +190,28 @@ pub fn changes_agree()
     laws::changes_agree();
 }
 
+/// Holds by the laws of normal forms.
+pub fn normal_forms_agree()
+    ensures applies { NormalFormApplies }
+    ensures lengths { NormalFormKeepsLengths }
+    ensures unique { NormalFormIsUnique }
+    ensures operations { OperationsTell }
+{
+    laws::normal_forms_agree();
+}
+
+/// Holds by the law of rebased changes.
+pub fn rebases_converge()
+    ensures { RebasesConverge }
+{
+    laws::rebases_converge();
+}
+
 /// Holds by the laws of moved indices.
 pub fn indices_move()
     ensures compose { MovesCompose }
+    ensures composed { MovesThroughComposed }
+    ensures start { StartStays }
     ensures order { MovesKeepOrder }
 {
     laws::indices_move();

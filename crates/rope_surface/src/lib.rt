@@ -1,5 +1,5 @@
-//! Every public item of `ropey`, `rope_position`, `rope_script`, `rope_language` and `rope_changes`,
-//! used under its name, with its arguments in their order and with its types.
+//! Every public item of `ropey`, `rope_position`, `rope_script`, `rope_language` and
+//! `rope_changes`, used under its name, with its arguments in their order and with its types.
 //!
 //! This crate fails to compile if an item is renamed or dropped, if a call takes an argument more
 //! or less, or if an argument, a field or a result has another type. Where two of them have the

@@ -1,7 +1,8 @@
 //! Slices, lines and cursors of slices.
-ghost use Rattle.std.specs.Prelude.{◌≡◌, ◌<◌, ◌≤◌, length, IfOk, IfSome};
+ghost use Rattle.std.specs.Prelude.{◌≡◌, ◌-◌, ◌<◌, ◌≤◌, length, IfOk, IfSome};
 ghost use Rattle.std.specs.Str.{encode_utf8_all};
-ghost use Rattle.rope_text.specs.LineParts.{line_of, lines_of};
+ghost use Rattle.rope_text.specs.LastBreak.{last_break_len};
+ghost use Rattle.rope_text.specs.LineParts.{line_of, lines_of, part_between};
 ghost use Rattle.rope_text.specs.Lines.{line_count};
 ghost use Rattle.rope_text.specs.Lookup.{chunk_place_at_byte, chunk_place_at_char, chunk_place_at_line_break};
 ghost use Rattle.rope_text.specs.Sides.{at_place, at_start};
@@ -68,6 +69,17 @@ pub fn get_line<'a>(slice: &RopeSlice<'a>, line_idx: usize) -> Option<RopeSlice<
     ensures { IfSome result (λ line. content_of line ≡ line_of (content_of slice.now) line_idx) }
 {
     slice.get_line(line_idx)
+}
+
+/// Returns a slice without its line break, and that line break.
+pub fn without_break<'a>(slice: &RopeSlice<'a>) -> (RopeSlice<'a>, RopeSlice<'a>)
+    ensures front { content_of result.0 ≡ part_between (content_of slice.now) 0
+        (length (text_of slice.now) - last_break_len (breaks_of slice.now) (text_of slice.now)) }
+    ensures rest { content_of result.1 ≡ part_between (content_of slice.now)
+        (length (text_of slice.now) - last_break_len (breaks_of slice.now) (text_of slice.now))
+        (length (text_of slice.now)) }
+{
+    (slice.without_break(), slice.line_break())
 }
 
 /// Starts a cursor at the first byte of a slice.
