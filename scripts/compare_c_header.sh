@@ -66,7 +66,7 @@ versions() {
     sed -nE 's/^#define ROPEY_VERSION "(.*)"$/bindings\/c\/ropey.h, its text: \1/p; 1s/^.*Ropey ([0-9.]+[0-9]).*$/bindings\/c\/ropey.h, its first line: \1/p' "$header"
     sed -nE 's/^## (.*)$/CHANGELOG.md: \1/p' "$top/CHANGELOG.md" | head -n 1
     sed -nE 's/^Version ([0-9.]+[0-9])\..*$/README.md: \1/p' "$top/README.md"
-    sed -nE 's/^version = "(.*)"$/bindings\/rust\/Cargo.toml: \1/p' "$top/bindings/rust/Cargo.toml"
+    sed -nE 's/^version = "1\.6\.1\+(.*)"$/bindings\/rust\/Cargo.toml: \1/p' "$top/bindings/rust/Cargo.toml"
 }
 
 from_source | sort > "$work/source"

@@ -9,6 +9,7 @@
 #     PREFIX/lib/libropey.a, libropey.sources
 #     PREFIX/lib/pkgconfig/ropey.pc              cc editor.c $(pkg-config --cflags --libs ropey)
 #     PREFIX/lib/cmake/ropey/ropey-config.cmake  find_package(ropey), target_link_libraries(editor ropey::ropey)
+#     PREFIX/share/licenses/ropey/               LICENSE, LICENSE-ropey
 set -euo pipefail
 
 top=$(cd "$(dirname "$0")/.." && pwd)
@@ -16,9 +17,16 @@ prefix=$(realpath -m "${1:?the folder to install below}")
 header=$top/bindings/c/ropey.h
 version=$(sed -n 's/^#define ROPEY_VERSION "\(.*\)"$/\1/p' "$header")
 
-mkdir -p "$prefix/include" "$prefix/lib/pkgconfig" "$prefix/lib/cmake/ropey"
+for tool in rt ar; do
+    command -v "$tool" > /dev/null || {
+        echo "install_c_library.sh: $tool is not found. rt comes with the Rattle kit, ar with binutils." >&2
+        exit 1
+    }
+done
+mkdir -p "$prefix/include" "$prefix/lib/pkgconfig" "$prefix/lib/cmake/ropey" "$prefix/share/licenses/ropey"
 "$top/scripts/build_c_library.sh" "$prefix/lib/libropey.a"
 cp "$header" "$top/bindings/c/ropey.hpp" "$prefix/include"
+cp "$top/LICENSE" "$top/LICENSE-ropey" "$prefix/share/licenses/ropey"
 
 cat > "$prefix/lib/pkgconfig/ropey.pc" <<EOF
 prefix=\${pcfiledir}/../..

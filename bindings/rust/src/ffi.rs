@@ -648,12 +648,12 @@ impl<'a> Window<'a> {
                 }
             }
         });
-        (self.first, self.is_back, self.room) = (line_idx, is_back, LINES.min(2 * room));
+        (self.first, self.is_back, self.room) = (line_idx, is_back, LINES.min(4 * room));
     }
 }
 
-/// The largest number of lines fetched at once: the lines of a screen. A cursor begins with one line, and doubles the number
-/// with each fetch in the same direction.
+/// The largest number of lines fetched at once: the lines of a screen. A cursor begins with one line, and fetches four
+/// times as many each time that it goes on in the same direction.
 const LINES: usize = 50;
 
 /// Conversions in a text, by the set of line breaks where it is given. An index past the end stands for the end.

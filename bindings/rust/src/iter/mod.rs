@@ -4,8 +4,8 @@
 //! behind it, so that either takes back what the other did; at an end both answer none, and may be called again. Turned
 //! round by `reverse`, a cursor goes back on `next`, from where it stands.
 //!
-//! A cursor fetches one line or three chunks at first and after a turn, and with each further fetch twice as many, up to
-//! 50 lines or 256 chunks. It takes at most 6 KB of memory, of which a thread keeps 2.4 KB for its next cursor over lines.
+//! A cursor fetches one line or three chunks at first and after a turn. Each further fetch has four times as many lines, up
+//! to 50, or twice as many chunks, up to 256. It takes at most 6 KB of memory, of which a thread keeps 2.4 KB for its next cursor over lines.
 //!
 //! ```
 //! use ropey::Rope;
