@@ -61,3 +61,33 @@ try "Unicode's line breaks"
 try 'LF, CR and CR LF' --no-default-features --features cr_lines
 try 'LF alone' --no-default-features
 try 'shared between threads' --features threads
+
+# A workspace whose member asks for ropey 1.6 is served by a patch.
+mkdir -p "$work/editor/app/src"
+cat > "$work/editor/Cargo.toml" <<TOML
+[workspace]
+members = ["app"]
+resolver = "2"
+[patch.crates-io]
+ropey = { path = "$work/bindings/rust" }
+TOML
+cat > "$work/editor/app/Cargo.toml" <<'TOML'
+[package]
+name = "app"
+version = "0.1.0"
+edition = "2021"
+[dependencies]
+ropey = "1.6"
+TOML
+cat > "$work/editor/app/src/main.rs" <<'RUST'
+fn main() {
+    println!("{}", ropey::Rope::from_str("one\r\ntwo").len_lines());
+}
+RUST
+cd "$work/editor"
+if ! said=$(cargo run --quiet --offline 2> "$work/log") || [ "$said" != 2 ]; then
+    tail -n 60 "$work/log"
+    echo "Rust crate, in place of ropey 1.6: FAILED"
+    exit 1
+fi
+echo "Rust crate, in place of ropey 1.6: a workspace that patches it runs"
