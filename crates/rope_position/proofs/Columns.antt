@@ -2,7 +2,7 @@
 use Rattle.std.proofs.Common.{◌≡◌, ℕ, ◌+◌, ◌-◌, ◌≤◌, List, Option, Some, None, Result, Ok, length, take, drop, ap, sym, ◌∙◌, arith}
 use Rattle.std.specs.List.{slice_range}
 use Rattle.std.proofs.Math.Seq.{take-add}
-use Rattle.std.proofs.lemmas.List.{take-take, length-take, length-drop}
+use Rattle.std.proofs.lemmas.List.{take-take, length-take, length-drop, length-append}
 use Rattle.std.proofs.lemmas.Bool.{le-leb}
 use Rattle.std.proofs.lemmas.Bool.Decides.{nat_tests}
 use Rattle.rope_text.specs.declared.error.Error.{Error}
@@ -11,13 +11,16 @@ use Rattle.rope_text.specs.Conversions.{char_to_line, utf16_to_char}
 use Rattle.rope_text.specs.Edit.{char_index_error}
 use Rattle.rope_text.specs.Lines.{line_start, line}
 use Rattle.rope_text.specs.Position.{char_to_column, position_to_char}
-use Rattle.rope_text.specs.Text.{utf16_len}
+use Rattle.rope_text.specs.Text.{byte_len, utf16_len}
 use Rattle.rope_text.proofs.ConversionLaws.{char_to_line-less}
 use Rattle.rope_text.proofs.LineLaws.{line_start-le-length, line_start_before, line_start_after}
-use Rattle.rope_text.proofs.Measures.{IsMeasure-utf16_len, size_le_all, front-le-length}
+use Rattle.rope_text.proofs.Measures.{IsMeasure-byte_len, IsMeasure-utf16_len, size_le_all, front-le-length}
 use Rattle.rope_text.proofs.PositionLaws.{position_to_char-char_to_position}
 use Rattle.rope_position.specs.declared.position.Position.{Position}
 use Rattle.rope_text.specs.Answer.{checked}
+use Rattle.rope_position.specs.declared.encoding.Encoding.{Encoding}
+use Rattle.rope_position.specs.declared.encoding.Encoding.TheVariants.{Utf8, Utf16, Utf32}
+use Rattle.rope_position.specs.Encodings.{unit_len, position_in}
 use Rattle.rope_position.specs.Positions.{position_at, PositionsReturn}
 
 -- the code units before a place are those before an earlier one and those between
@@ -79,3 +82,42 @@ position_fine i len p q l e = rw (le-leb i len l) (ap Ok e)
 pub value_is : (error : Option Error) (value found : ℕ) → ◌≡◌ {A = Result ℕ Error} (Ok found) (checked error value) → found ≡ value
 value_is None value found e = cc
 value_is (Some error) value found e = absurd (cc)
+
+-- the code units before a place are those before an earlier one and those between, in any encoding
+encoded_between : (encoding : Encoding) (text : List ℕ) (a i : ℕ) → a ≤ i → unit_len encoding (take i text) ≡ unit_len encoding (take a text) + unit_len encoding (slice_range text a i)
+encoded_between Utf8 text a i l =
+    let whole : a + (i - a) ≡ i = omega arith in
+    ap (λ k. byte_len (take k text)) (sym whole) ∙ ap byte_len (take-add a (i - a) text) ∙ IsMeasure-byte_len.joined (take a text) (take (i - a) (drop a text))
+encoded_between Utf16 text a i l = units_between text a i l
+encoded_between Utf32 text a i l =
+    let whole : a + (i - a) ≡ i = omega arith in
+    ap (λ k. length (take k text)) (sym whole) ∙ ap length (take-add a (i - a) text) ∙ length-append (take a text) (take (i - a) (drop a text))
+
+-- a position in an encoding that was found by the code units before its line and before its place
+pub encoded_by : (encoding : Encoding) (breaks : LineBreaks) (text : List ℕ) (i line start before all : ℕ) → i ≤ length text → line ≡ char_to_line breaks text i → start ≡ line_start breaks text line
+    → before ≡ unit_len encoding (take start text) → all ≡ unit_len encoding (take i text)
+    → (before ≤ all) × ◌≡◌ {A = Position} (record { line = line; column = all - before }) (position_in encoding breaks text i)
+encoded_by encoding breaks text i line start before all l line_is start_is before_is all_is =
+    let first : ℕ = line_start breaks text (char_to_line breaks text i) in
+    let sum = encoded_between encoding text first i (line_start_before breaks text i l) in
+    let place : start ≡ first = start_is ∙ ap (line_start breaks text) line_is in
+    let units : before ≡ unit_len encoding (take first text) = before_is ∙ ap (λ k. unit_len encoding (take k text)) place in
+    (omega arith, same_position line (char_to_line breaks text i) (all - before) (unit_len encoding (slice_range text first i)) line_is (omega arith))
+
+-- the character at a code unit is one of the text, or its end
+pub utf16_within : (text : List ℕ) (unit : ℕ) → utf16_to_char text unit ≤ length text
+unfolding utf16_to_char
+utf16_within text unit = front-le-length utf16_len IsMeasure-utf16_len text unit
+
+-- a part of a line lies in the text
+pub line_within : (breaks : LineBreaks) (text part : List ℕ) (l n : ℕ) → length part ≡ length (slice_range (line breaks text l) 0 n) → line_start breaks text l + length part ≤ length text
+line_within breaks text part l n long =
+    omega (
+      arith,
+      long,
+      length-take (n - 0) (drop 0 (line breaks text l)),
+      length-drop 0 (line breaks text l),
+      length-take (line_start breaks text (l + 1) - line_start breaks text l) (drop (line_start breaks text l) text),
+      length-drop (line_start breaks text l) text,
+      line_start-le-length breaks text l,
+    )

@@ -7,7 +7,9 @@ ghost use Rattle.rope_text.specs.Edit.{char_index_error};
 ghost use Rattle.rope_text.specs.Position as of_text;
 ghost use Rattle.rope_text.specs.Answer.{checked};
 ghost use Rattle.rope_position.specs.Positions.{position_at};
+ghost use Rattle.rope_position.specs.Encodings.{position_in, clamped_char};
 
+use crate::encoding::Encoding;
 use ropey::Result;
 
 /// A place in a text as an editor shows it: a line, and a column in UTF-16 code units.
@@ -79,4 +81,39 @@ pub trait Positions {
             Err(_) => unreachable!(),
         }
     }
+
+    /// Returns the position of the character `char_idx`, counted from 0, or of the end of the text,
+    /// with its column in an encoding's code units.
+    ///
+    /// # Errors
+    ///
+    /// `CharIndexOutOfBounds`, with the index and the number of characters, exactly if the index is
+    /// past `len_chars()`.
+    fn try_char_to_position_in(&self, char_idx: usize, encoding: Encoding) -> Result<Position>
+        ensures { result ≡ checked (char_index_error char_idx (length (shown self.now).text))
+            (position_in encoding (shown self.now).breaks (shown self.now).text char_idx) };
+
+    /// Returns the position of the character `char_idx`, counted from 0, or of the end of the text,
+    /// with its column in an encoding's code units.
+    ///
+    /// The index is at most `len_chars()`.
+    fn char_to_position_in(&self, char_idx: usize, encoding: Encoding) -> Position
+        requires { char_idx ≤ length (shown self.now).text }
+        ensures { result
+            ≡ position_in encoding (shown self.now).breaks (shown self.now).text char_idx }
+    {
+        match self.try_char_to_position_in(char_idx, encoding) {
+            Ok(position) => position,
+            Err(_) => unreachable!(),
+        }
+    }
+
+    /// Returns the character at any position, whose column counts an encoding's code units, as the
+    /// Language Server Protocol reads it: a column past the end of its line is the line's end
+    /// before its break, and a line past the last one is the end of the text. A column inside a
+    /// character is that character.
+    fn clamped_position_to_char(&self, position: Position, encoding: Encoding) -> usize
+        ensures value { result
+            ≡ clamped_char encoding (shown self.now).breaks (shown self.now).text position }
+        ensures within { result ≤ length (shown self.now).text };
 }

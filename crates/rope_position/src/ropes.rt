@@ -1,4 +1,5 @@
 //! Positions in ropes, by the slice of the whole rope.
+use crate::encoding::Encoding;
 use crate::position::{Position, Positions};
 use ropey::{Result, Rope};
 
@@ -14,5 +15,13 @@ impl Positions for Rope {
 
     fn try_position_to_char(&self, position: Position) -> Result<usize> {
         self.slice(..).try_position_to_char(position)
+    }
+
+    fn try_char_to_position_in(&self, char_idx: usize, encoding: Encoding) -> Result<Position> {
+        self.slice(..).try_char_to_position_in(char_idx, encoding)
+    }
+
+    fn clamped_position_to_char(&self, position: Position, encoding: Encoding) -> usize {
+        self.slice(..).clamped_position_to_char(position, encoding)
     }
 }
