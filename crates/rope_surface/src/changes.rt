@@ -144,11 +144,7 @@ pub fn compose(change: &ChangeSet, later: &ChangeSet) -> Result<ChangeSet, Chang
 }
 
 /// Returns a change as one of the text after another change.
-pub fn rebase(
-    change: &ChangeSet,
-    over: &ChangeSet,
-    side: Side,
-) -> Result<ChangeSet, ChangeError>
+pub fn rebase(change: &ChangeSet, over: &ChangeSet, side: Side) -> Result<ChangeSet, ChangeError>
     ensures { IfOk result (λ rebased. ops rebased ≡ carried side (ops change.now) (ops over.now)) }
 {
     change.rebase(over, side)

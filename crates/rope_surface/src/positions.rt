@@ -52,11 +52,7 @@ pub fn encodings() -> [Encoding; 3] {
 }
 
 /// Returns the position of a character in an encoding.
-pub fn char_to_position_in<T: Positions>(
-    text: &T,
-    char_idx: usize,
-    encoding: Encoding,
-) -> Position
+pub fn char_to_position_in<T: Positions>(text: &T, char_idx: usize, encoding: Encoding) -> Position
     requires { char_idx ≤ length (T.shown text.now).text }
     ensures { result
         ≡ position_in encoding (T.shown text.now).breaks (T.shown text.now).text char_idx }
