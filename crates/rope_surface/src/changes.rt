@@ -9,7 +9,7 @@ ghost use Rattle.rope_changes.specs.Inverted.{inverted};
 ghost use Rattle.rope_changes.specs.Laws.{ComposeApplies, Converges, InverseApplies, InvertsBack, LengthsAgree, MovesCompose, MovesKeepOrder, MovesThroughComposed, NormalFormApplies, NormalFormIsUnique, NormalFormKeepsLengths, OperationsTell, RebasesConverge, ReplacesRange, StartStays};
 ghost use Rattle.rope_changes.specs.Listed.{IsNext};
 ghost use Rattle.rope_changes.specs.Moved.{moved};
-ghost use Rattle.rope_changes.specs.Normal.{carried, composed};
+ghost use Rattle.rope_changes.specs.Normal.{composed, rebased};
 ghost use Rattle.rope_changes.specs.Ops.{run};
 
 use rope_changes::{ChangeError, ChangeSet, Edit, EditRange, Edits, Side, laws};
@@ -145,7 +145,7 @@ pub fn compose(change: &ChangeSet, later: &ChangeSet) -> Result<ChangeSet, Chang
 
 /// Returns a change as one of the text after another change.
 pub fn rebase(change: &ChangeSet, over: &ChangeSet, side: Side) -> Result<ChangeSet, ChangeError>
-    ensures { IfOk result (λ rebased. ops rebased ≡ carried side (ops change.now) (ops over.now)) }
+    ensures { IfOk result (λ new. ops new ≡ rebased side (ops change.now) (ops over.now)) }
 {
     change.rebase(over, side)
 }
