@@ -35,8 +35,7 @@ inverse (delete ∷ ops) (c ∷ text) = insert c ∷ inverse ops text
 inverse (insert c ∷ ops) text = delete ∷ inverse ops text
 
 -- a change of the text after another one, which kept the next character, or deleted it; `rest`
--- rebases the remaining
--- operations
+-- rebases the remaining operations
 abbrev pub past_kept : (List Op → List Op) → List Op → List Op
 past_kept rest [] = []
 past_kept rest (keep ∷ ops) = keep ∷ rest ops
@@ -50,8 +49,7 @@ past_deleted rest (delete ∷ ops) = rest ops
 past_deleted rest (insert c ∷ ops) = insert c ∷ past_deleted rest ops
 
 -- the second change as a change of the text after the first; where both insert at one place, what
--- the first inserts
--- comes first
+-- the first inserts comes first
 abbrev pub rebase_second : List Op → List Op → List Op
 rebase_second [] second = second
 rebase_second (keep ∷ ops) second = past_kept (rebase_second ops) second
@@ -72,8 +70,7 @@ over_deleted rest (delete ∷ second) = rest second
 over_deleted rest (insert c ∷ second) = keep ∷ over_deleted rest second
 
 -- the first change as a change of the text after the second; where both insert at one place, what
--- the first inserts
--- comes first
+-- the first inserts comes first
 abbrev pub rebase_first : List Op → List Op → List Op
 rebase_first [] second = keeping (len_after second) []
 rebase_first (keep ∷ ops) second = over_kept (rebase_first ops) second

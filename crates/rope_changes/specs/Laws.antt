@@ -64,8 +64,7 @@ MovesCompose =
     → moved_before (compose a b) index ≡ moved_before b (moved_before a index)
 
 -- an index after a character that a composition keeps moves through the composition in normal form
--- as through both
--- changes, if it stays before inserted text
+-- as through both changes, if it stays before inserted text
 abbrev pub MovesThroughComposed : Type 0
 MovesThroughComposed = (a b : List Op) (index : ℕ) → IsKept (compose a b) index
     → moved_before (composed a b) (suc index) ≡ moved_before b (moved_before a (suc index))
@@ -79,8 +78,7 @@ abbrev pub MovesKeepOrder : Type 0
 MovesKeepOrder = (side : Side) (a : List Op) (i j : ℕ) → i ≤ j → moved side a i ≤ moved side a j
 
 -- a range that is replaced after the last replacement is replaced in the text after the change, as
--- far from its end as
--- in the text before
+-- far from its end as in the text before
 abbrev pub ReplacesRange : Type 0
 ReplacesRange =
     (c : Change) (start end : ℕ) (new text : List ℕ) → IsInOrder c start end

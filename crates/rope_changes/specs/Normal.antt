@@ -24,8 +24,7 @@ abbrev pub composed : List Op → List Op → List Op
 composed ops later = normal_form (compose ops later)
 
 -- a change as one of the text after another change of the same text; where both insert at one
--- index, its text comes
--- first on the side before, and second on the side after
+-- index, its text comes first on the side before, and second on the side after
 abbrev pub carried : Side → List Op → List Op → List Op
 carried Before ops over = rebase_first ops over
 carried After ops over = rebase_second over ops

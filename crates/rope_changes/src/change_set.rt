@@ -1,5 +1,5 @@
 //! Change sets: the replacements of a change, in order.
-ghost use Rattle.std.specs.Prelude.{◌≡◌, ◌⊎◌, ◌+◌, ◌++◌, [], None, Some, ◌≢◌, ◌<◌, ◌≤◌, ◌^◌, ◌↔◌, IsTrue, IfOk, IfErr, IsOk, OnOk, OnErr, MatchOption, List, length, map};
+ghost use Rattle.std.specs.Prelude.{◌≡◌, ◌+◌, ◌++◌, [], None, ◌≢◌, ◌<◌, ◌≤◌, ◌^◌, ◌↔◌, IsTrue, IfOk, IfErr, IsOk, OnOk, OnErr, MatchOption, List, length, map};
 ghost use Rattle.std.specs.List.{All};
 ghost use Rattle.std.specs.Str.{chars};
 ghost use Rattle.rope_changes.specs.declared.error.ChangeError.TheVariants.{RangeInvalid, RangeOutOfBounds, LengthDiffers, OutOfOrder, TooLong, OutOfMemory};
@@ -9,7 +9,7 @@ ghost use Rattle.rope_changes.specs.Ops.{Op, run, len_before, len_after};
 ghost use Rattle.rope_changes.specs.Runs.{run_ops, IsRun};
 ghost use Rattle.rope_changes.specs.Applied.{inserted_bytes};
 ghost use Rattle.rope_text.specs.Text.{byte_len};
-ghost use Rattle.rope_changes.specs.Built.{unchanged, built, replace_error, first_error};
+ghost use Rattle.rope_changes.specs.Built.{unchanged, built, replace_error, first_error, IsRefusal, RefusesOne};
 ghost use Rattle.rope_changes.specs.Inverted.{inverted};
 ghost use Rattle.rope_changes.specs.Moved.{moved};
 ghost use Rattle.rope_changes.specs.Passed.{IsPassed};
@@ -178,7 +178,7 @@ impl Passed {
     ghost use Rattle.rope_changes.specs.Change.{Change};
     ghost use Rattle.rope_changes.specs.Passed.{Reaches};
 
-    // None of the replacements.
+    // Creates a position before the first replacement.
     fn new() -> Passed
         ensures { (c : Change) → IsPassed c result }
     {
@@ -189,7 +189,8 @@ impl Passed {
         }
     }
 
-    // Passes none of the replacements, if the last one doesn't end before `char_idx`.
+    // Goes back to the first replacement, unless the last one that was passed ends before
+    // `char_idx`.
     fn rewind(&mut self, char_idx: usize)
         ensures reaches { Reaches self.new char_idx }
         ensures passed { (c : Change) → IsPassed c self.old → IsPassed c self.new }
@@ -280,11 +281,10 @@ impl ChangeSet {
     /// # Errors
     ///
     /// `TooLong`, if `len` is above `isize::MAX`; else the error that `replace` returns for the
-    /// first edit that it refuses, or `OutOfMemory`.
+    /// first edit that it refuses. That is `OutOfMemory` only for an edit that has no other error.
     pub fn of_edits(alloc: Global, len: usize, edits: &[Edit<'_>]) -> Result<ChangeSet, ChangeError>
         ensures too_long { 2 ^ 63 ≤ len → result ≡ Err TooLong }
-        ensures error { len < 2 ^ 63 → IfErr result (λ e. (e ≡ OutOfMemory)
-            ⊎ (first_error (unchanged len) edits.now ≡ Some e)) }
+        ensures error { len < 2 ^ 63 → IfErr result (RefusesOne (unchanged len) edits.now) }
         ensures valid { OnOk result (first_error (unchanged len) edits.now ≡ None) }
         ensures ok { IfOk result (λ change. change ≡ built (unchanged len) edits.now) }
         ensures len_before { IfOk result (λ change. before change ≡ len) }
@@ -353,8 +353,8 @@ impl ChangeSet {
             → IfErr result (λ e. e ≡ OutOfMemory) }
         ensures empty { IsInOrder self.old start end → start ≡ end → length (chars text.now) ≡ 0
             → IsOk result }
-        ensures error { IfErr result (λ e. (e ≡ OutOfMemory)
-            ⊎ (replace_error self.old start end (chars text.now) ≡ Some e)) }
+        ensures error { IfErr result
+            (IsRefusal (replace_error self.old start end (chars text.now))) }
         ensures valid { OnOk result (replace_error self.old start end (chars text.now) ≡ None) }
         ensures ok { OnOk result (self.new ≡ replaced self.old start end (chars text.now)) }
         ensures in_order { OnOk result (IsInOrder self.old start end) }

@@ -84,25 +84,35 @@ value_is None value found e = cc
 value_is (Some error) value found e = absurd (cc)
 
 -- the code units before a place are those before an earlier one and those between, in any encoding
-encoded_between : (encoding : Encoding) (text : List ℕ) (a i : ℕ) → a ≤ i → unit_len encoding (take i text) ≡ unit_len encoding (take a text) + unit_len encoding (slice_range text a i)
+encoded_between : (encoding : Encoding) (text : List ℕ) (a i : ℕ) → a ≤ i → unit_len encoding
+    (take i text) ≡ unit_len encoding (take a text) + unit_len encoding (slice_range text a i)
 encoded_between Utf8 text a i l =
     let whole : a + (i - a) ≡ i = omega arith in
-    ap (λ k. byte_len (take k text)) (sym whole) ∙ ap byte_len (take-add a (i - a) text) ∙ IsMeasure-byte_len.joined (take a text) (take (i - a) (drop a text))
+    ap (λ k. byte_len (take k text)) (sym whole) ∙ ap byte_len (take-add a (i - a) text) ∙
+    IsMeasure-byte_len.joined (take a text) (take (i - a) (drop a text))
 encoded_between Utf16 text a i l = units_between text a i l
 encoded_between Utf32 text a i l =
     let whole : a + (i - a) ≡ i = omega arith in
-    ap (λ k. length (take k text)) (sym whole) ∙ ap length (take-add a (i - a) text) ∙ length-append (take a text) (take (i - a) (drop a text))
+    ap (λ k. length (take k text)) (sym whole) ∙ ap length (take-add a (i - a) text) ∙ length-append
+    (take a text) (take (i - a) (drop a text))
 
 -- a position in an encoding that was found by the code units before its line and before its place
-pub encoded_by : (encoding : Encoding) (breaks : LineBreaks) (text : List ℕ) (i line start before all : ℕ) → i ≤ length text → line ≡ char_to_line breaks text i → start ≡ line_start breaks text line
+pub encoded_by : (encoding : Encoding) (breaks : LineBreaks) (text : List ℕ)
+    (i line start before all : ℕ) → i ≤ length text → line ≡ char_to_line breaks text i → start ≡
+    line_start breaks text line
     → before ≡ unit_len encoding (take start text) → all ≡ unit_len encoding (take i text)
-    → (before ≤ all) × ◌≡◌ {A = Position} (record { line = line; column = all - before }) (position_in encoding breaks text i)
+    → (before ≤ all) × ◌≡◌ {A = Position} (record { line = line; column = all - before })
+    (position_in encoding breaks text i)
 encoded_by encoding breaks text i line start before all l line_is start_is before_is all_is =
     let first : ℕ = line_start breaks text (char_to_line breaks text i) in
     let sum = encoded_between encoding text first i (line_start_before breaks text i l) in
     let place : start ≡ first = start_is ∙ ap (line_start breaks text) line_is in
-    let units : before ≡ unit_len encoding (take first text) = before_is ∙ ap (λ k. unit_len encoding (take k text)) place in
-    (omega arith, same_position line (char_to_line breaks text i) (all - before) (unit_len encoding (slice_range text first i)) line_is (omega arith))
+    let units : before ≡ unit_len encoding (take first text) = before_is ∙ ap
+    (λ k. unit_len encoding (take k text)) place in (
+      omega arith,
+      same_position line (char_to_line breaks text i) (all - before)
+          (unit_len encoding (slice_range text first i)) line_is (omega arith),
+    )
 
 -- the character at a code unit is one of the text, or its end
 pub utf16_within : (text : List ℕ) (unit : ℕ) → utf16_to_char text unit ≤ length text
@@ -110,14 +120,16 @@ unfolding utf16_to_char
 utf16_within text unit = front-le-length utf16_len IsMeasure-utf16_len text unit
 
 -- a part of a line lies in the text
-pub line_within : (breaks : LineBreaks) (text part : List ℕ) (l n : ℕ) → length part ≡ length (slice_range (line breaks text l) 0 n) → line_start breaks text l + length part ≤ length text
+pub line_within : (breaks : LineBreaks) (text part : List ℕ) (l n : ℕ) → length part ≡ length
+    (slice_range (line breaks text l) 0 n) → line_start breaks text l + length part ≤ length text
 line_within breaks text part l n long =
     omega (
       arith,
       long,
       length-take (n - 0) (drop 0 (line breaks text l)),
       length-drop 0 (line breaks text l),
-      length-take (line_start breaks text (l + 1) - line_start breaks text l) (drop (line_start breaks text l) text),
+      length-take (line_start breaks text (l + 1) - line_start breaks text l)
+          (drop (line_start breaks text l) text),
       length-drop (line_start breaks text l) text,
       line_start-le-length breaks text l,
     )

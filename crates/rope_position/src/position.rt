@@ -12,13 +12,14 @@ ghost use Rattle.rope_position.specs.Encodings.{position_in, clamped_char};
 use crate::encoding::Encoding;
 use ropey::Result;
 
-/// A place in a text as an editor shows it: a line, and a column in UTF-16 code units.
+/// A position in a text as an editor shows it: a line, and a column in code units. These are of
+/// UTF-16, unless a call takes an [`Encoding`].
 #[derive(Clone, Copy, PartialEq, Eq, PartialOrd, Ord, Hash, Debug)]
 pub struct Position {
     /// The line, counted from 0.
     pub line: usize,
-    /// The code units of UTF-16 from the start of the line up to the place. The line's break is
-    /// among them, so a place inside a break or behind the last line's text has a column too.
+    /// The code units from the start of the line up to the position. The line's break is among
+    /// them, so a position inside a break or after the last line's text has a column too.
     pub column: usize,
 }
 

@@ -12,37 +12,39 @@ and_nothing true true = refl
 and_nothing true false = refl
 and_nothing false y = refl
 
--- nothing ends in a break
-pub none_at_all : (breaks : LineBreaks) (text : List ℕ) → length text ≡ 0 → last_break_len breaks text ≡ 0
-none_at_all breaks text none = rw (ap (is_break_end breaks text) none) refl
+pub not_cr : (x : ℕ) (b : Bool) → (x ≡ 13 → ⊥) → (x == 13 && b) ≡ false
+not_cr x b off = grind (arith, nat_tests)
 
--- LF alone doesn't end in CR LF
+-- a text of one character doesn't end in CR LF
 pub too_short : (text : List ℕ) → length text ≤ 1 → ends_in_crlf text ≡ false
 too_short [] l = refl
 too_short (c ∷ []) l = refl
 too_short (c ∷ d ∷ text) l = absurd (omega arith)
 
--- the last two characters
-pub crlf_at_end : (text : List ℕ) (k : ℕ) → length text ≡ suc (suc k) → ends_in_crlf text ≡ (get_or text k 0 == 13 && get_or text (suc k) 0 == 10)
+-- whether CR LF ends a text, by its last two characters
+pub crlf_at_end : (text : List ℕ) (k : ℕ) → length text ≡ suc (suc k)
+    → ends_in_crlf text ≡ (get_or text k 0 == 13 && get_or text (suc k) 0 == 10)
 crlf_at_end text k long =
     let back : length text - 1 ≡ suc k = omega (arith, long) in
+    let next : suc k ≡ k + 1 = omega arith in
     let last : take (suc k) text ≡ take k text ++ get_or text k 0 ∷ [] =
-    ap (λ n. take n text) (let e : suc k ≡ k + 1 = omega arith in e) ∙ take_more text k 0 (omega (arith, long)) in
-    let cr : ends_in_cr (take (suc k) text) ≡ (get_or text k 0 == 13) = ap ends_in_cr last ∙ ends_in_cr-append (take k text) (get_or text k 0) [] in
-    ap (λ j. ends_in_cr (take j text) && get_or text j 0 == 10) back ∙ ap (λ b. b && get_or text (suc k) 0 == 10) cr
+    ap (λ n. take n text) next ∙ take_more text k 0 (omega (arith, long)) in
+    let cr : ends_in_cr (take (suc k) text) ≡ (get_or text k 0 == 13) =
+    ap ends_in_cr last ∙ ends_in_cr-append (take k text) (get_or text k 0) [] in
+    ap (λ j. ends_in_cr (take j text) && get_or text j 0 == 10) back
+    ∙ ap (λ b. b && get_or text (suc k) 0 == 10) cr
 
-pub not_cr : (x : ℕ) (b : Bool) → (x ≡ 13 → ⊥) → (x == 13 && b) ≡ false
-not_cr x b off = grind (arith, nat_tests)
-
+-- the line break at the end, by the last character and by whether it is CR LF
 module _ (breaks : LineBreaks) (text : List ℕ) (k : ℕ) (long : length text ≡ suc k) where
   ends_is : ends_in_break breaks text ≡ is_break_char breaks (get_or text k 0)
   ends_is =
       ap (is_break_end breaks text) long
-      ∙ ap (λ rest. is_break_char breaks (get_or text k 0) && not (get_or text k 0 == 13 && begins_with_lf rest)) (drop_all (suc k) text (omega (arith, long)))
+      ∙ ap (λ rest. is_break_char breaks (get_or text k 0)
+      && not (get_or text k 0 == 13 && begins_with_lf rest))
+      (drop_all (suc k) text (omega (arith, long)))
       ∙ and_nothing (is_break_char breaks (get_or text k 0)) (get_or text k 0 == 13)
 
-  pub no_end : is_break_char breaks (get_or text k 0) ≡ false → last_break_len breaks text ≡ 0
-  no_end none = rw (ends_is ∙ none) refl
-
-  pub some_end : is_break_char breaks (get_or text k 0) ≡ true → (pair : Bool) → (is_break_char breaks 13 && ends_in_crlf text) ≡ pair → last_break_len breaks text ≡ (if pair then 2 else 1)
+  pub some_end : is_break_char breaks (get_or text k 0) ≡ true → (pair : Bool)
+      → (is_break_char breaks 13 && ends_in_crlf text) ≡ pair
+      → last_break_len breaks text ≡ (if pair then 2 else 1)
   some_end some pair e = rw (ends_is ∙ some, e) refl

@@ -154,31 +154,34 @@ line_held c h before l total held s it =
     ]
 
 -- the number of lines is the line count, by either name
-pub at_count : (c : Content) (h : Halves) (before : TextInfo) (l m total : ℕ) → l ≡ m → IsLineStart c h before l total → IsLineStart c h before m (line_count c.breaks c.text)
+pub at_count : (c : Content) (h : Halves) (before : TextInfo) (l m total : ℕ) → l ≡ m
+    → IsLineStart c h before l total → IsLineStart c h before m (line_count c.breaks c.text)
 at_count c h before l m total e s = rw (e, s.total_is) at s
 
-pub of_count : (c : Content) (h : Halves) (before : TextInfo) (l m total : ℕ) → l ≡ m → total ≡ line_count c.breaks c.text → IsLineStart c h before l (line_count c.breaks c.text) → IsLineStart c h before m total
-of_count c h before l m total e t s = rw (e, ← t) at s
+pub of_count : (c : Content) (h : Halves) (before : TextInfo) (l total : ℕ)
+    → total ≡ line_count c.breaks c.text
+    → IsLineStart c h before l (line_count c.breaks c.text) → IsLineStart c h before l total
+of_count c h before l total e s = rw (← e) at s
 
--- what lies between the starts of a line and of the next one
-module _ (c : Content) (old new : Halves) (from to : TextInfo) (l : ℕ) (a : IsLineStart c old from l (line_count c.breaks c.text)) (b : IsLineStart c new to (l + 1) (line_count c.breaks c.text)) where
-  below : l < line_count c.breaks c.text
-  below = omega (arith, b.within)
-
-  pub part_from : from ≡ info_of c.breaks (take from.chars c.text)
-  part_from = line_from c l below from to a.before_is b.before_is
-
-  pub part_to : to ≡ info_of c.breaks (take to.chars c.text)
-  part_to = line_to c l below from to a.before_is b.before_is
-
-  pub part_ordered : from.chars ≤ to.chars
-  part_ordered = line_ordered c l below from to a.before_is b.before_is
-
-  pub part_within : to.chars ≤ length c.text
-  part_within = line_within c l below from to a.before_is b.before_is
-
-  pub part_apart : parts_crlf (take from.chars c.text) (drop from.chars c.text) ≡ false
-  part_apart = line_apart c l below from to a.before_is b.before_is
-
+-- from the start of a line, with the counts `from` before it, to that of the next line
+pub record IsLinePart (c : Content) (from to : TextInfo) (l : ℕ) : Type 0 where
+  pub from_is : from ≡ info_of c.breaks (take from.chars c.text)
+  pub to_is : to ≡ info_of c.breaks (take to.chars c.text)
+  pub ordered : from.chars ≤ to.chars
+  pub within : to.chars ≤ length c.text
+  pub apart : parts_crlf (take from.chars c.text) (drop from.chars c.text) ≡ false
   pub part_is : part_between c from.chars to.chars ≡ line_of c l
-  part_is = line_is c l below from to a.before_is b.before_is
+
+pub line_part : (c : Content) (old new : Halves) (from to : TextInfo) (l : ℕ)
+    → IsLineStart c old from l (line_count c.breaks c.text)
+    → IsLineStart c new to (l + 1) (line_count c.breaks c.text) → IsLinePart c from to l
+line_part c old new from to l a b =
+    let below : l < line_count c.breaks c.text = omega (arith, b.within) in
+    record {
+      from_is = line_from c l below from to a.before_is b.before_is;
+      to_is = line_to c l below from to a.before_is b.before_is;
+      ordered = line_ordered c l below from to a.before_is b.before_is;
+      within = line_within c l below from to a.before_is b.before_is;
+      apart = line_apart c l below from to a.before_is b.before_is;
+      part_is = line_is c l below from to a.before_is b.before_is;
+    }

@@ -39,7 +39,7 @@ pub record PassesLine (breaks : LineBreaks) (front back : List ℕ) (p : Place) 
   pub back_is : back ≡ first_line breaks back ++ (halves_at p b).back
   pub counts : info ≡ info_of breaks (first_line breaks back)
 
--- line breaks were passed backward: up to the start of a line, so many breaks before the last
+-- line breaks were passed backward: up to the start of a line, `skip` breaks before the last
 pub record PassesBack (breaks : LineBreaks) (skip : ℕ) (front back : List ℕ) (p : Place) (b : ℕ) (info : TextInfo) : Type 0 where
   pub caret : IsCaret p b
   pub front_is : (halves_at p b).front ≡ take (last_start breaks front skip) front

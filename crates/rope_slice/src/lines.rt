@@ -156,7 +156,7 @@ impl<'a> RopeSlice<'a> {
         // For the proof: `info` says that a slice has at most `isize::MAX` bytes.
         let _ = self.info();
         let before = self.before_line(line_idx);
-        let (span, inside) = Span::behind(self, before);
+        let (span, inside) = Span::at_counts(self, before);
         let caret = Caret { span, inside };
         (caret, before)
     }

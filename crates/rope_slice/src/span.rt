@@ -97,11 +97,12 @@ impl<'a> Span<'a> {
         (span, byte)
     }
 
-    /// The chunk of a slice in which a place lies, or ends, and the byte of the chunk at which that
-    /// is. The caller has the counts of the text before the place, so no byte is read.
+    /// Returns the chunk of a slice in which a position lies, or which it ends, and the byte of the
+    /// chunk at which it is. The caller has the counts of the text before the position, so no byte
+    /// is read.
     // Inlined, since a call would answer the way through memory.
     #[inline(always)]
-    pub(crate) fn behind(slice: &RopeSlice<'a>, before: TextInfo) -> (Span<'a>, usize)
+    pub(crate) fn at_counts(slice: &RopeSlice<'a>, before: TextInfo) -> (Span<'a>, usize)
         requires within { before.chars ≤ length (text_of slice.now) }
         requires bytes { before.bytes ≡ byte_len (take before.chars (text_of slice.now)) }
         ensures text { concat (leaves result.0) ≡ text_of slice.now }

@@ -4,7 +4,9 @@ use Rattle.rope_position.proofs.Columns.{utf16_within}
 use Rattle.rope_position.proofs.slices.char_at_column.Goals as goal
 
 pub returns-in-Utf8-clause-within : goal.returns-in-Utf8-clause-within
-returns-in-Utf8-clause-within c = rw c.byte_to_char.ensures (byte_to_char-le-length (text_of c.args.text.now) _)
+returns-in-Utf8-clause-within c = rw c.byte_to_char.ensures
+    (byte_to_char-le-length (text_of c.args.text.now) _)
 
 pub returns-in-Utf16-clause-within : goal.returns-in-Utf16-clause-within
-returns-in-Utf16-clause-within c = rw c.utf16_cu_to_char.ensures (utf16_within (text_of c.args.text.now) _)
+returns-in-Utf16-clause-within c = rw c.utf16_cu_to_char.ensures
+    (utf16_within (text_of c.args.text.now) _)

@@ -7,20 +7,29 @@ use Rattle.rope_slice.proofs.CaretsBack.{chunks_prev, line_in_last, whole, apart
 use Rattle.rope_slice.proofs.lines.pass_chunk_back.Goals as goal
 
 pub of_last_line-start-requires-clause-between : goal.of_last_line-start-requires-clause-between
-of_last_line-start-requires-clause-between c = ap byte_len (whole _ _ c.byte_len_of-end.ensures) ∙ sym c.byte_len_of-end.ensures
+of_last_line-start-requires-clause-between c = ap byte_len (whole _ _ c.byte_len_of-end.ensures) ∙
+    sym c.byte_len_of-end.ensures
 
 pub of_last_line-start-requires-clause-apart : goal.of_last_line-start-requires-clause-apart
 of_last_line-start-requires-clause-apart c = apart_at_end _ _ c.byte_len_of-end.ensures
 
 pub returns-clause-passes : goal.returns-clause-passes
 returns-clause-passes c =
-    line_in_last c.args.breaks c.args.skip c.args.span.now c.step.new.self c.of_last_line-start.result.0 c.of_last_line-start.result.1 c.requires c.if-not-step.ensures.moved
-    (c.of_last_line-start.ensures.start ∙ ap (λ t. byte_len (take (last_start c.args.breaks t c.args.skip) t)) (whole _ _ c.byte_len_of-end.ensures ∙ c.chunk-chunk.ensures))
-    (c.of_last_line-start.ensures.counts ∙ ap (λ t. info_of c.args.breaks (drop (last_start c.args.breaks t c.args.skip) t)) (whole _ _ c.byte_len_of-end.ensures ∙ c.chunk-chunk.ensures))
+    line_in_last c.args.breaks c.args.skip c.args.span.now c.step.new.self
+    c.of_last_line-start.result.0 c.of_last_line-start.result.1 c.requires
+    c.if-not-step.ensures.moved
+    (c.of_last_line-start.ensures.start ∙ ap (λ t. byte_len
+    (take (last_start c.args.breaks t c.args.skip) t)) (whole _ _ c.byte_len_of-end.ensures ∙
+    c.chunk-chunk.ensures))
+    (c.of_last_line-start.ensures.counts ∙ ap (λ t. info_of c.args.breaks
+    (drop (last_start c.args.breaks t c.args.skip) t)) (whole _ _ c.byte_len_of-end.ensures ∙
+    c.chunk-chunk.ensures))
     (omega (arith, c.if-start-eq0.false))
 
 pub returns-clause-chunks : goal.returns-clause-chunks
-returns-clause-chunks c = chunks_prev c.args.span.now c.step.new.self c.if-not-step.ensures.moved c.requires
+returns-clause-chunks c = chunks_prev c.args.span.now c.step.new.self c.if-not-step.ensures.moved
+    c.requires
 
 pub returns-clause-same : goal.returns-clause-same
-returns-clause-same c = sym (leaves_next c.step.new.self c.args.span.now c.if-not-step.ensures.moved)
+returns-clause-same c = sym (leaves_next c.step.new.self c.args.span.now
+    c.if-not-step.ensures.moved)

@@ -1,11 +1,9 @@
 -- Each turn makes one edit.
-use Rattle.std.proofs.Common.{◌≡◌, ◌⊎◌, inl, inr, ◌<◌, [], length, drop, ap, sym, ◌∙◌, arith, rules}
-use Rattle.std.specs.Prelude.{Some}
+use Rattle.std.proofs.Common.{◌≡◌, ◌<◌, [], length, drop, ap, sym, ◌∙◌, arith, rules}
 use Rattle.std.proofs.lemmas.List.{drop_all}
-use Rattle.rope_changes.specs.declared.error.ChangeError.TheVariants.{OutOfMemory}
 use Rattle.rope_changes.specs.Change.{Change, before}
-use Rattle.rope_changes.specs.Built.{unchanged, built, first_error}
-use Rattle.rope_changes.proofs.BuiltLaws.{built_next, error_next, error_here}
+use Rattle.rope_changes.specs.Built.{unchanged, built, first_error, RefusesOne}
+use Rattle.rope_changes.proofs.BuiltLaws.{built_next, error_next, refuse_next, refuse_here}
 use Rattle.rope_changes.proofs.Prefixes.{keeping_before}
 use Rattle.rope_changes.proofs.change_set.ChangeSet.of_edits.Goals as goal
 
@@ -15,6 +13,7 @@ loop-edit-init c =
     record {
       built = ap (λ (x : Change). built x c.args.edits.now) is;
       error = ap (λ (x : Change). first_error x c.args.edits.now) is;
+      refuses = λ e refused. rw is refused;
       len = omega (arith, ap (λ (x : Change). before x) is, keeping_before c.args.len []);
     }
 
@@ -29,6 +28,9 @@ loop-edit-preserved c =
       error = l.invariant.error
           ∙ error_next l.change all l.edit-index _ below _ c.in_ok-replace.ensures.ok
           c.in_ok-replace.ensures.valid;
+      refuses = λ e refused. l.invariant.refuses e
+          (refuse_next l.change all l.edit-index _ below _ c.in_ok-replace.ensures.ok
+          c.in_ok-replace.ensures.valid e refused);
       len = c.in_ok-replace.ensures.len_before ∙ l.invariant.len;
     }
 
@@ -38,12 +40,8 @@ returns-in_err-replace-clause-error c = λ short.
     let all = c.args.edits.now in
     let below : l.edit-index < length all = omega arith in
     let error = c.in_err-replace.field-0.0 in
-    let is : (error ≡ OutOfMemory) ⊎
-    (first_error (unchanged c.args.len) all ≡ Some error) = elim c.in_err-replace.ensures.error [
-      | inl memory ↦ inl memory
-      | inr wrong ↦ inr
-          (l.invariant.error ∙ error_here l.change all l.edit-index _ below error wrong)
-    ] in
+    let is : RefusesOne (unchanged c.args.len) all error = l.invariant.refuses error
+    (refuse_here l.change all l.edit-index _ below error c.in_err-replace.ensures.error) in
     search rules
 
 -- no edit is left

@@ -6,10 +6,13 @@ use Rattle.rope_slice.proofs.CaretSteps.{holds_ahead}
 use Rattle.rope_slice.proofs.lines.Caret.held.Goals as goal
 
 pub range_from-requires : goal.range_from-requires
-range_from-requires c = λ _. between_boundary c.chunk.result.now c.self.inside.inside c.chunk.utf8 (rw c.chunk.ensures c.self.invariant.between)
+range_from-requires c = λ _. between_boundary c.chunk.result.now c.self.inside.inside c.chunk.utf8
+    (rw c.chunk.ensures c.self.invariant.between)
 
 pub returns : goal.returns
 returns c =
     let b = c.self.inside.inside in
     rw (← c.self.view_is) (holds_ahead c.self.inside.span b (chars c.range_from.result.now)
-    (between_after c.chunk.result.now c.range_from.result.now b c.chunk.utf8 (rw c.chunk.ensures c.self.invariant.between) c.range_from.ensures.value ∙ ap (λ t. after_byte t b) c.chunk.ensures))
+    (between_after c.chunk.result.now c.range_from.result.now b c.chunk.utf8
+    (rw c.chunk.ensures c.self.invariant.between) c.range_from.ensures.value ∙ ap
+    (λ t. after_byte t b) c.chunk.ensures))

@@ -10,10 +10,12 @@ returns-then-len-lt2 c =
     let t = text_of c.args.self.now in
     let k : ℕ = c.len_chars-len.result - 2 in
     elim c.then-len-lt2.branch [
-      | then-len-lt2-via-then-len-lt2 w ↦ sym (too_short t (omega (arith, c.len_chars-len.ensures, w.if-len-lt2.true)))
+      | then-len-lt2-via-then-len-lt2 w ↦ sym (too_short t
+          (omega (arith, c.len_chars-len.ensures, w.if-len-lt2.true)))
       | then-len-lt2-via-else-len-lt2+then-char-ne13 w ↦
           sym (crlf_at_end t k (omega (arith, c.len_chars-len.ensures, w.if-len-lt2.false))
-          ∙ ap (λ x. x == 13 && get_or t (suc k) 0 == 10) (get_or_from_slice_get t k w.char.result 0 w.char.ensures)
+          ∙ ap (λ x. x == 13 && get_or t (suc k) 0 == 10)
+          (get_or_from_slice_get t k w.char.result 0 w.char.ensures)
           ∙ not_cr w.char.result (get_or t (suc k) 0 == 10) w.if-char-ne13.true)
     ]
 
@@ -23,5 +25,7 @@ returns c =
     let k : ℕ = c.len_chars-len.result - 2 in
     let next : suc k ≡ c.len_chars-len.result - 1 = omega (arith, c.if-len-lt2.false) in
     let cr = get_or_from_slice_get t k c.char.result 0 c.char.ensures ∙ c.if-char-ne13.false in
-    let lf = ap (λ j. get_or t j 0) next ∙ get_or_from_slice_get t (c.len_chars-len.result - 1) c.char-2.result 0 c.char-2.ensures in
-    sym (crlf_at_end t k (omega (arith, c.len_chars-len.ensures, c.if-len-lt2.false)) ∙ ap₂ (λ x y. x == 13 && y == 10) cr lf)
+    let lf = ap (λ j. get_or t j 0) next ∙ get_or_from_slice_get t (c.len_chars-len.result - 1)
+    c.char-2.result 0 c.char-2.ensures in
+    sym (crlf_at_end t k (omega (arith, c.len_chars-len.ensures, c.if-len-lt2.false)) ∙ ap₂
+    (λ x y. x == 13 && y == 10) cr lf)

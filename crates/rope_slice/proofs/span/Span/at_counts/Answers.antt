@@ -2,8 +2,8 @@ use Rattle.std.proofs.Common.{arith}
 use Rattle.rope_slice.specs.Slice.{text_of}
 use Rattle.rope_slice.proofs.Carets.{size_front}
 use Rattle.rope_slice.proofs.KnownPlaces as known
-use Rattle.rope_slice.proofs.span.Span.behind.Goals.{After-holding-span}
-use Rattle.rope_slice.proofs.span.Span.behind.Goals as goal
+use Rattle.rope_slice.proofs.span.Span.at_counts.Goals.{After-holding-span}
+use Rattle.rope_slice.proofs.span.Span.at_counts.Goals as goal
 
 pub holding-span-requires-clause-within : goal.holding-span-requires-clause-within
 holding-span-requires-clause-within c = omega (arith, c.requires.bytes, size_front c.args.before.chars (text_of c.args.slice.now))
