@@ -1,8 +1,10 @@
 #!/usr/bin/env python3
-"""Draws docs/speed.svg, docs/growth.svg and docs/tree.svg, and prints what docs/figures.tsv says.
+"""Draws docs/speed.svg, docs/growth.svg, docs/scale.svg and docs/tree.svg, and prints what docs/figures.tsv says.
 
 Every number comes from docs/figures.tsv, which holds what benchmarks/turns.py wrote with --tsv: a line a workload. The groups are
-the headings of benchmarks/WORKLOADS.md.
+the headings of benchmarks/WORKLOADS.md. docs/scale.svg shows the rows of the workloads `scale_`, and is drawn once there are some:
+
+    benchmarks/turns.py OURS THEIRS scale_ --turns 5 --tsv TABLE; tail -n +2 TABLE >> docs/figures.tsv
 
     scripts/draw.py            # draws the pictures anew
     scripts/draw.py --tables   # prints the tables of the document
@@ -20,6 +22,9 @@ WORKLOADS = TOP / "benchmarks" / "WORKLOADS.md"
 BENCHMARKS = TOP / "docs" / "BENCHMARKS.md"
 TEXTS = ("P", "M", "C")
 LENGTHS = ("1MB", "10MB", "100MB", "1GB")
+SCALE = "scale_"
+LINES = {"1": "1", "10": "10", "80": "80", "1000": "1k", "10000": "10k", "100000": "100k", "whole": "all"}
+PORTIONS = {"1B": "1", "10B": "10", "100B": "100", "1KB": "1k", "10KB": "10k", "1%": "1%", "half": "50%"}
 
 STYLE = """<style>
 text { font: 15px system-ui, sans-serif; fill: #24292f }
@@ -211,6 +216,49 @@ def growth_picture():
     return picture(width, top + len(panels) * (tall + 60) + 20, parts, "Time by the length of the text")
 
 
+def scaled():
+    """For each workload of line lengths and of portions its ratios, by length or portion."""
+    found = {}
+    for row in rows():
+        workload, _, length = row[0].partition("/")
+        if workload.startswith(SCALE) and float(row[4]) > 0:
+            found.setdefault(workload.removeprefix(SCALE), {})[length] = float(row[2]) / float(row[4])
+    return found
+
+
+def ratio_panel(left, base, tall, powers, name, of_lengths):
+    """The ratios of a workload, with a line for each power of ten; that of 1 is dashed."""
+    low, high = powers
+    known = LINES if LINES.keys() & of_lengths.keys() else PORTIONS
+    height = {length: base - (math.log10(ratio) - low) * tall / (high - low) for length, ratio in of_lengths.items()}
+    places = {length: left + 52 + k * 34 for k, length in enumerate(known)}
+    parts = [text(left, base - tall - 14, name)]
+    for power in range(low, high + 1):
+        y = round(base - (power - low) * tall / (high - low))
+        parts.append(line(left + 34, y, left + 274, y, "axis" if power else "even"))
+        parts.append(text(left + 28, y + 5, f"{10.0 ** power:g}", "small", "end"))
+    parts.append(curve([(places[length], height[length]) for length in known if length in of_lengths], "ours"))
+    for length, shown in known.items():
+        parts.append(text(places[length], base + 18, shown, "small", "middle"))
+        if length in of_lengths:
+            parts.append(text(places[length], round(height[length]) - 8, f"{of_lengths[length]:.2g}", "small", "middle"))
+    return parts
+
+
+def scale_picture():
+    """The ratio of the times by the length of lines, and by how much an edit inserts or removes; a panel a workload."""
+    found = scaled()
+    logs = [math.log10(ratio) for of_lengths in found.values() for ratio in of_lengths.values()]
+    powers = min(math.floor(min(logs)), -1), max(math.ceil(max(logs)), 1)
+    tall, top = 110, 80
+    parts = [text(16, 30, "Time over that of the Rust crate ropey 1.6.1, on 3 MB", "title"),
+             text(16, 54, "by the characters of a line, and for insert and remove by the bytes of a call", "small")]
+    for at, (name, of_lengths) in enumerate(found.items()):
+        base = top + at // 2 * (tall + 66) + tall + 24
+        parts += ratio_panel(16 + at % 2 * 300, base, tall, powers, name, of_lengths)
+    return picture(610, top + (len(found) + 1) // 2 * (tall + 66) + 10, parts, "Speed by the length of lines and of edits")
+
+
 def box(x, y, wide, words, name):
     return (f'<rect x="{x - wide / 2:.0f}" y="{y}" width="{wide}" height="30" rx="5" class="{name}"/>'
             + text(round(x), y + 20, words, "small", "middle"))
@@ -236,7 +284,8 @@ def tree():
 
 
 def drawn():
-    return {"speed.svg": speed(), "growth.svg": growth_picture(), "tree.svg": tree()}
+    pictures = {"speed.svg": speed(), "growth.svg": growth_picture(), "tree.svg": tree()}
+    return {**pictures, "scale.svg": scale_picture()} if scaled() else pictures
 
 
 def main(words):

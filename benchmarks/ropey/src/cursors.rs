@@ -122,7 +122,7 @@ pub fn lines(sample: &Sample) -> Outcome {
     timed_sum(rope.len_lines(), || mix_of_lines(0, rope.lines()))
 }
 
-fn lines_back(sample: &Sample) -> Outcome {
+pub fn lines_back(sample: &Sample) -> Outcome {
     let rope = &sample.rope;
     timed_sum(rope.len_lines(), || {
         let mut lines = rope.lines_at(rope.len_lines());
@@ -331,5 +331,61 @@ fn clone_lines(sample: &Sample) -> Outcome {
             }
         }
         sum
+    })
+}
+
+/// The sum of what cursors at random indices from 0 to `most` give first, 0 where they give none.
+fn first_steps(count: usize, most: usize, first: impl Fn(usize) -> Option<usize>) -> Outcome {
+    timed_sum(count, || {
+        let mut numbers = Numbers::new();
+        let mut sum: u64 = 0;
+        for _ in 0..count {
+            sum = sum.wrapping_add(first(numbers.up_to(most)).unwrap_or(0) as u64);
+        }
+        sum
+    })
+}
+
+pub fn first_bytes(sample: &Sample) -> Outcome {
+    let rope = &sample.rope;
+    first_steps(sample.operations(100_000), rope.len_bytes(), |i| {
+        rope.bytes_at(i).next().map(usize::from)
+    })
+}
+
+pub fn first_chars(sample: &Sample) -> Outcome {
+    let rope = &sample.rope;
+    first_steps(sample.operations(100_000), rope.len_chars(), |i| {
+        rope.chars_at(i).next().map(|c| c as usize)
+    })
+}
+
+pub fn first_chunks(sample: &Sample) -> Outcome {
+    let rope = &sample.rope;
+    first_steps(sample.operations(100_000), rope.len_bytes() - 1, |i| {
+        let (mut chunks, before, _, _) = rope.chunks_at_byte(i);
+        chunks
+            .next()
+            .map(|chunk| byte_of(chunk, i.wrapping_sub(before)))
+    })
+}
+
+/// Returns how many lines to visit: about those of 20,000,000 bytes, at least 100.
+fn lines_to_visit(sample: &Sample) -> usize {
+    let lines = sample.rope.len_lines() * sample.operations(20_000_000) / sample.text.len();
+    lines.min(sample.operations(20_000)).max(100)
+}
+
+pub fn first_lines(sample: &Sample) -> Outcome {
+    let rope = &sample.rope;
+    first_steps(lines_to_visit(sample), rope.len_lines() - 1, |i| {
+        rope.lines_at(i).next().map(|line| line.len_chars())
+    })
+}
+
+pub fn first_lines_back(sample: &Sample) -> Outcome {
+    let rope = &sample.rope;
+    first_steps(lines_to_visit(sample), rope.len_lines(), |i| {
+        rope.lines_at(i).prev().map(|line| line.len_chars())
     })
 }

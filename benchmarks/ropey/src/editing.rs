@@ -7,6 +7,7 @@ use crate::edits::{
 };
 use crate::measure::{lens, timed, whole, Outcome};
 use crate::sample::Sample;
+use crate::scaling::Portion;
 use crate::texts::{first_lines, lines_of};
 use crate::workloads::Workload;
 use ropey::Rope;
@@ -153,4 +154,23 @@ fn shrink_to_fit_long(sample: &Sample) -> Outcome {
         },
         lens,
     )
+}
+
+/// Inserts a portion of a text at random places.
+pub fn insert_portion(sample: &Sample, portion: Portion) -> Outcome {
+    let len = sample.text.len();
+    let count = portion.count_in(len, sample.operations(10_000)).max(3);
+    let piece = portion.piece(len);
+    edited(sample.fresh(), count, |rope| {
+        insert_text_at_random(rope, &piece, count)
+    })
+}
+
+/// Removes a portion of the text at random places.
+pub fn remove_portion(sample: &Sample, portion: Portion) -> Outcome {
+    let len = sample.text.len();
+    let count = (portion.count_in(len, sample.operations(10_000)) / 2).max(1);
+    edited(sample.fresh(), count, |rope| {
+        remove_long_at_random(rope, portion.bytes_of(len), count)
+    })
 }

@@ -116,7 +116,7 @@ fn chunk_at_char(sample: &Sample) -> Outcome {
 
 /// Which chunk it is depends on where chunks end: it has no more line breaks before it than are
 /// asked for.
-fn chunk_at_line_break(sample: &Sample) -> Outcome {
+pub fn chunk_at_line_break(sample: &Sample) -> Outcome {
     let rope = &sample.rope;
     ask(sample, rope.len_lines() - 1, |i| {
         let (_, _, _, before) = rope.chunk_at_line_break(i);
@@ -124,7 +124,7 @@ fn chunk_at_line_break(sample: &Sample) -> Outcome {
     })
 }
 
-fn line(sample: &Sample) -> Outcome {
+pub fn line(sample: &Sample) -> Outcome {
     let count = sample.operations(100_000);
     timed_sum(count, || {
         let mut numbers = Numbers::new();

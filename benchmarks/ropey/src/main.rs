@@ -15,6 +15,7 @@ mod numbers;
 mod reading;
 mod report;
 mod sample;
+mod scaling;
 mod screens;
 mod slicing;
 mod task;

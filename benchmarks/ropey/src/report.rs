@@ -3,10 +3,11 @@
 use crate::growing::{fill, LENGTHS, MEMORIES};
 use crate::measure::Outcome;
 use crate::sample::{Sample, Size, Wear};
+use crate::scaling::{BYTES, EIGHTY, LINE_LENGTHS, OF_PORTIONS, PORTIONS, START};
 use crate::task::{Mode, Task};
-use crate::texts::{Text, TEXTS};
+use crate::texts::{letters, Text, TEXTS};
 use crate::traces::{keystrokes, replay};
-use crate::workloads::{of_texts, Workload, OF_LENGTHS, OF_NONE};
+use crate::workloads::{of_texts, OF_LENGTHS, OF_LINE_LENGTHS, OF_NONE};
 
 /// Does what the task names.
 pub fn run(task: &Task) {
@@ -17,7 +18,8 @@ pub fn run(task: &Task) {
     }
 }
 
-/// The workloads of each text, of worn ropes, of no text, and of a person's edits.
+/// The workloads of each text, of worn ropes, of no text, of line lengths and portions, and of a
+/// person's edits.
 fn run_all(task: &Task) {
     // The memory of a text that is let go tells the allocator how much to keep when a rope goes,
     // and so what a rope costs: it is to be the same for all workloads.
@@ -32,20 +34,36 @@ fn run_all(task: &Task) {
     run_round(task, "", OF_NONE, "", || {
         Sample::new(String::new(), task.size(), Wear::New)
     });
+    run_scaled(task);
     run_trace(task);
 }
 
+/// Runs the workloads of each length of lines, and the edits of each portion.
+fn run_scaled(task: &Task) {
+    let sample = |width| {
+        let text = letters(width, task.size().of(BYTES));
+        Sample::new(text, task.size(), Wear::New)
+    };
+    for (width, ending) in LINE_LENGTHS {
+        run_round(task, START, OF_LINE_LENGTHS, ending, || sample(width));
+    }
+    for (portion, ending) in PORTIONS {
+        let edits = OF_PORTIONS.map(|(name, edit)| (name, move |of: &Sample| edit(of, portion)));
+        run_round(task, START, &edits, ending, || sample(EIGHTY));
+    }
+}
+
 /// Workloads on a sample, which is made only where one of them is asked for.
-fn run_round(
+fn run_round<W: Fn(&Sample) -> Outcome>(
     task: &Task,
     start: &str,
-    workloads: &[Workload],
+    workloads: &[(&'static str, W)],
     ending: &str,
     sample: impl FnOnce() -> Sample,
 ) {
     let wanted: Vec<_> = workloads
         .iter()
-        .map(|&(name, work)| (format!("{start}{name}{ending}"), work))
+        .map(|(name, work)| (format!("{start}{name}{ending}"), work))
         .filter(|(name, _)| task.wants(name))
         .collect();
     if wanted.is_empty() {

@@ -73,6 +73,23 @@ fn letter(numbers: &mut Numbers, first: char, count: usize) -> char {
     char::from_u32(code).expect("the ranges have no surrogates")
 }
 
+/// Returns a text of `bytes` bytes, in lines of `width` small letters that end in LF.
+pub fn letters(width: usize, bytes: usize) -> String {
+    let mut numbers = Numbers::new();
+    let mut text = String::new();
+    let mut column = 0;
+    for _ in 0..bytes {
+        if column == width {
+            text.push('\n');
+            column = 0;
+        } else {
+            text.push(letter(&mut numbers, 'a', 26));
+            column += 1;
+        }
+    }
+    text
+}
+
 fn mixed(least: usize) -> String {
     let mut numbers = Numbers::new();
     let mut text = String::new();

@@ -42,6 +42,21 @@ pub const OF_LENGTHS: &[Workload] = &[
     ("insert_char_random", editing::insert_char_random),
 ];
 
+/// Those that are done on lines of several lengths, in order.
+pub const OF_LINE_LENGTHS: &[Workload] = &[
+    ("iter_lines", cursors::lines),
+    ("iter_lines_back", cursors::lines_back),
+    ("lines_at", cursors::first_lines),
+    ("lines_at_back", cursors::first_lines_back),
+    ("line", lookups::line),
+    ("chunk_at_line_break", lookups::chunk_at_line_break),
+    ("char_to_line", lookups::char_to_line),
+    ("line_to_char", lookups::line_to_char),
+    ("bytes_at", cursors::first_bytes),
+    ("chars_at", cursors::first_chars),
+    ("chunks_at_byte", cursors::first_chunks),
+];
+
 /// Those that are done on each of the texts, in order.
 pub fn of_texts(wear: Wear) -> Vec<Workload> {
     match wear {

@@ -1,6 +1,6 @@
 //! Cursors over a rope: their starts, and all their steps in each direction.
 use crate::fault::Fault;
-use crate::lookups::byte_of;
+use crate::lookups::{byte_of, sum_of};
 use crate::measure::{Outcome, mix, now, since};
 use crate::numbers::Numbers;
 use crate::sample::Sample;
@@ -35,6 +35,11 @@ pub enum Walk {
     Zigzag,
     CloneChars,
     CloneLines,
+    BytesAt,
+    CharsAt,
+    ChunksAtByte,
+    LinesAt,
+    LinesAtBack,
 }
 
 impl Walk {
@@ -62,6 +67,11 @@ impl Walk {
             Walk::Zigzag => "chars_zigzag",
             Walk::CloneChars => "clone_chars",
             Walk::CloneLines => "clone_lines",
+            Walk::BytesAt => "bytes_at",
+            Walk::CharsAt => "chars_at",
+            Walk::ChunksAtByte => "chunks_at_byte",
+            Walk::LinesAt => "lines_at",
+            Walk::LinesAtBack => "lines_at_back",
         }
     }
 
@@ -76,7 +86,11 @@ impl Walk {
             | Walk::CharsAtAnd10
             | Walk::ChunksAtByteAnd3
             | Walk::ChunksAtCharAnd3
-            | Walk::ChunksAtBreakAnd3 => sample.operations(100_000),
+            | Walk::ChunksAtBreakAnd3
+            | Walk::BytesAt
+            | Walk::CharsAt
+            | Walk::ChunksAtByte => sample.operations(100_000),
+            Walk::LinesAt | Walk::LinesAtBack => lines_to_visit(sample),
             Walk::NextPrev | Walk::Zigzag | Walk::CloneChars => sample.operations(1_000_000),
             Walk::CloneLines => sample.operations(50_000),
         }
@@ -106,6 +120,11 @@ impl Walk {
             Walk::Zigzag => zigzag(rope, count),
             Walk::CloneChars => clone_chars(rope, count)?,
             Walk::CloneLines => clone_lines(rope, count)?,
+            Walk::BytesAt => first_bytes(rope, count),
+            Walk::CharsAt => first_chars(rope, count),
+            Walk::ChunksAtByte => first_chunks(rope, count),
+            Walk::LinesAt => first_lines(rope, count),
+            Walk::LinesAtBack => first_lines_back(rope, count),
         })
     }
 }
@@ -342,4 +361,61 @@ fn clone_lines(rope: &Rope, count: usize) -> Result<u64, Fault> {
         }
     }
     Ok(sum)
+}
+
+/// Returns how many lines to visit: about those of 20,000,000 bytes, at least 100.
+fn lines_to_visit(sample: &Sample) -> usize {
+    let lines = sample
+        .rope
+        .len_lines()
+        .saturating_mul(sample.operations(20_000_000));
+    let lines = lines.checked_div(sample.text.len()).unwrap_or(0);
+    lines.min(sample.operations(20_000)).max(100)
+}
+
+/// Returns the sum of the first bytes of cursors at random indices.
+fn first_bytes(rope: &Rope, count: usize) -> u64 {
+    sum_of(count, rope.len_bytes(), |i| match rope.bytes_at(i).next() {
+        Some(byte) => usize::from(byte),
+        None => 0,
+    })
+}
+
+/// Returns the sum of the first scalar values of cursors at random indices.
+fn first_chars(rope: &Rope, count: usize) -> u64 {
+    sum_of(count, rope.len_chars(), |i| match rope.chars_at(i).next() {
+        Some(c) => u32::from(c) as usize,
+        None => 0,
+    })
+}
+
+/// Returns the sum of the bytes at random indices, each read from the first chunk of a cursor.
+fn first_chunks(rope: &Rope, count: usize) -> u64 {
+    sum_of(count, rope.len_bytes().saturating_sub(1), |i| {
+        let (mut chunks, before, _, _) = rope.chunks_at_byte(i);
+        match chunks.next() {
+            Some(chunk) => usize::from(byte_of(chunk, i.wrapping_sub(before))),
+            None => 0,
+        }
+    })
+}
+
+/// Returns the sum of the characters of the first lines of cursors at random lines.
+fn first_lines(rope: &Rope, count: usize) -> u64 {
+    sum_of(
+        count,
+        rope.len_lines().saturating_sub(1),
+        |i| match rope.lines_at(i).next() {
+            Some(line) => line.len_chars(),
+            None => 0,
+        },
+    )
+}
+
+/// Returns the sum of the characters of the lines before cursors at random lines.
+fn first_lines_back(rope: &Rope, count: usize) -> u64 {
+    sum_of(count, rope.len_lines(), |i| match rope.lines_at(i).prev() {
+        Some(line) => line.len_chars(),
+        None => 0,
+    })
 }

@@ -7,6 +7,7 @@ use crate::edits::{
 use crate::fault::Fault;
 use crate::measure::{Outcome, lens, now, since, whole};
 use crate::sample::Sample;
+use crate::scaling::Portion;
 use crate::texts::first_lines;
 use ropey::Rope;
 use std::time::CpuClock;
@@ -50,6 +51,10 @@ pub enum Edit {
     ShrinkToFit,
     /// The rope ten times, which shares its nodes with the sample's, re-chunked.
     ShrinkToFitLong,
+    /// A portion of a text inserted at random places.
+    Insert(Portion),
+    /// A portion of the text removed at random places.
+    Remove(Portion),
 }
 
 impl Edit {
@@ -71,6 +76,8 @@ impl Edit {
             Edit::GrowFromEmpty => "grow_from_empty",
             Edit::ShrinkToFit => "shrink_to_fit",
             Edit::ShrinkToFitLong => "shrink_to_fit_100MB",
+            Edit::Insert(_) => "insert",
+            Edit::Remove(_) => "remove",
         }
     }
 
@@ -91,6 +98,8 @@ impl Edit {
             | Edit::AppendSmallFromEmpty => sample.operations(1_000),
             Edit::RemoveLong => sample.operations(500),
             Edit::ShrinkToFit | Edit::ShrinkToFitLong => 1,
+            Edit::Insert(portion) => portions_of(sample, portion).max(3),
+            Edit::Remove(portion) => (portions_of(sample, portion) / 2).max(1),
         }
     }
 
@@ -109,6 +118,7 @@ impl Edit {
     fn piece(self, sample: &Sample) -> Result<String, Fault> {
         match self {
             Edit::InsertLong => first_lines(sample.alloc, sample.text.as_str(), LONG),
+            Edit::Insert(portion) => portion.piece(sample.alloc, sample.text.len()),
             _ => Ok(String::from_str(sample.alloc, TWO_LINES)?),
         }
     }
@@ -133,12 +143,15 @@ impl Edit {
         match self {
             Edit::InsertCharRandom => insert_chars_at_random(rope, count),
             Edit::InsertCharCoherent => insert_chars_in_a_row(rope, count),
-            Edit::InsertStrRandom | Edit::InsertLong | Edit::GrowFromEmpty => {
+            Edit::InsertStrRandom | Edit::InsertLong | Edit::GrowFromEmpty | Edit::Insert(_) => {
                 insert_text_at_random(rope, piece, count)
             }
             Edit::RemoveRandom => remove_at_random(rope, count),
             Edit::RemoveInsertRandom => replace_at_random(rope, count),
             Edit::RemoveLong => remove_long_at_random(rope, sample.chars_of_bytes(LONG), count),
+            Edit::Remove(portion) => {
+                remove_long_at_random(rope, portion.bytes_of(sample.text.len()), count)
+            }
             Edit::SplitAndAppend => split_near_middle(rope, count),
             Edit::SplitAnywhere => split_at_random(rope, count),
             Edit::AppendSmall | Edit::AppendSmallFromEmpty => append_all(rope, others),
@@ -170,6 +183,11 @@ pub fn edit_rope<C: CpuClock>(clock: &C, sample: &Sample, what: Edit) -> Result<
         nanos,
         checksum: what.checksum(&rope),
     })
+}
+
+/// Returns how many portions the text has, at most 10,000.
+fn portions_of(sample: &Sample, portion: Portion) -> usize {
+    portion.count_in(sample.text.len(), sample.operations(10_000))
 }
 
 /// The sample's rope ten times, in one that shares its nodes with it.

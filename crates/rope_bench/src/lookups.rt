@@ -113,7 +113,7 @@ fn ask<C: CpuClock>(
 }
 
 /// The answers at random places from 0 to `most`.
-fn sum_of<F: Fn(usize) -> usize>(count: usize, most: usize, answer: F) -> u64
+pub fn sum_of<F: Fn(usize) -> usize>(count: usize, most: usize, answer: F) -> u64
     requires { (i : ℕ) → i ≤ most → F.pre answer i }
 {
     let mut numbers = Numbers::new();

@@ -21,6 +21,7 @@ mod numbers;
 mod reading;
 mod report;
 mod sample;
+mod scaling;
 mod screens;
 mod slicing;
 mod task;

@@ -1,12 +1,14 @@
 //! Runs the workloads that are asked for, and prints a line for each.
+use crate::editing::Edit;
 use crate::fault::Fault;
 use crate::growing::{LENGTHS, MEMORIES, Memory, fill};
 use crate::measure::Outcome;
 use crate::sample::{Sample, Size, Wear};
+use crate::scaling::{BYTES, LINE_LENGTHS, LineLength, PORTIONS, START};
 use crate::task::{Mode, Task};
 use crate::texts::{TEXTS, Text};
 use crate::traces::{Keystroke, keystrokes, replay};
-use crate::workloads::{OF_LENGTHS, OF_NONE, OF_TEXTS, OF_WORN, Workload};
+use crate::workloads::{OF_LENGTHS, OF_LINE_LENGTHS, OF_NONE, OF_TEXTS, OF_WORN, Workload};
 use std::alloc::Global;
 use std::time::CpuClock;
 
@@ -29,7 +31,8 @@ pub fn run<R: CpuClock + Print + Input + AllocGlobal>(
     }
 }
 
-/// The workloads of each text, of worn ropes, of no text, and of a person's edits.
+/// The workloads of each text, of worn ropes, of no text, of line lengths and portions, and of a
+/// person's edits.
 fn run_all<R: CpuClock + Print + Input + AllocGlobal>(
     rt: &R,
     alloc: Global,
@@ -41,6 +44,8 @@ fn run_all<R: CpuClock + Print + Input + AllocGlobal>(
         run_on_text(rt, alloc, task, *text, Wear::Worn)?;
     }
     run_on_none(rt, alloc, task)?;
+    run_line_lengths(rt, alloc, task)?;
+    run_portions(rt, alloc, task)?;
     run_trace(rt, alloc, task)
 }
 
@@ -129,6 +134,51 @@ fn run_on_none<R: CpuClock + Print>(rt: &R, alloc: Global, task: &Task) -> Resul
         ending: "",
     };
     let sample = Sample::new(alloc, String::new(alloc), task.size(), Wear::New)?;
+    round.run(rt, task, &sample)
+}
+
+/// Runs the workloads of each length of lines.
+fn run_line_lengths<R: CpuClock + Print>(rt: &R, alloc: Global, task: &Task) -> Result<(), Fault> {
+    for length in &LINE_LENGTHS {
+        let round = Round {
+            start: START,
+            workloads: &OF_LINE_LENGTHS,
+            ending: length.ending(),
+        };
+        run_scaled(rt, alloc, task, &round, *length)?;
+    }
+    Ok(())
+}
+
+/// Runs the edits of each portion, in lines of 80 characters.
+fn run_portions<R: CpuClock + Print>(rt: &R, alloc: Global, task: &Task) -> Result<(), Fault> {
+    for portion in &PORTIONS {
+        let round = Round {
+            start: START,
+            workloads: &[
+                Workload::Edit(Edit::Insert(*portion)),
+                Workload::Edit(Edit::Remove(*portion)),
+            ],
+            ending: portion.ending(),
+        };
+        run_scaled(rt, alloc, task, &round, LineLength::Eighty)?;
+    }
+    Ok(())
+}
+
+/// Runs those of these workloads that are asked for, on lines of this length.
+fn run_scaled<R: CpuClock + Print>(
+    rt: &R,
+    alloc: Global,
+    task: &Task,
+    round: &Round<'_>,
+    length: LineLength,
+) -> Result<(), Fault> {
+    if !round.is_wanted(alloc, task)? {
+        return Ok(());
+    }
+    let text = length.text(alloc, task.size().of(BYTES))?;
+    let sample = Sample::new(alloc, text, task.size(), Wear::New)?;
     round.run(rt, task, &sample)
 }
 

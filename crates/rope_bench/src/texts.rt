@@ -82,6 +82,23 @@ fn letter(numbers: &mut Numbers, first: char, count: u32) -> char {
     char::from_u32(code).unwrap_or(first)
 }
 
+/// Returns a text of `bytes` bytes, in lines of `width` small letters that end in LF.
+pub fn letters(alloc: Global, width: usize, bytes: usize) -> Result<String, Fault> {
+    let mut numbers = Numbers::new();
+    let mut text = String::new(alloc);
+    let mut column: usize = 0;
+    for _ in 0..bytes {
+        if column == width {
+            text.push('\n')?;
+            column = 0;
+        } else {
+            text.push(letter(&mut numbers, 'a', 26))?;
+            column = column.wrapping_add(1);
+        }
+    }
+    Ok(text)
+}
+
 /// A mixed text of at least so many bytes.
 fn mixed(alloc: Global, least: usize) -> Result<String, Fault> {
     let mut numbers = Numbers::new();

@@ -164,6 +164,21 @@ pub const OF_LENGTHS: [Workload; 4] = [
     Workload::Edit(Edit::InsertCharRandom),
 ];
 
+/// Those that are done on lines of several lengths, in order.
+pub const OF_LINE_LENGTHS: [Workload; 11] = [
+    Workload::Walk(Walk::Lines),
+    Workload::Walk(Walk::LinesBack),
+    Workload::Walk(Walk::LinesAt),
+    Workload::Walk(Walk::LinesAtBack),
+    Workload::LookUp(LookUp::Line),
+    Workload::LookUp(LookUp::ChunkAtLineBreak),
+    Workload::LookUp(LookUp::CharToLine),
+    Workload::LookUp(LookUp::LineToChar),
+    Workload::Walk(Walk::BytesAt),
+    Workload::Walk(Walk::CharsAt),
+    Workload::Walk(Walk::ChunksAtByte),
+];
+
 impl Workload {
     /// Its name.
     pub fn name(self) -> &'static str {
