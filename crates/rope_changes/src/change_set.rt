@@ -476,6 +476,10 @@ impl ChangeSet {
     /// Applies the change to the text of a rope, whose set of line breaks stays. An empty change
     /// takes no memory and leaves the rope as it was.
     ///
+    /// A change that is one insert or one removal costs what that costs. Any other is made in a
+    /// clone that takes the rope's place last, so each replacement also copies the nodes on its
+    /// path.
+    ///
     /// # Errors
     ///
     /// First `LengthDiffers`, with both lengths, if the rope's length isn't `len_before()`; then
@@ -507,6 +511,9 @@ impl ChangeSet {
         if !has_room(&self.edits, MAX_TEXT_BYTES - rope.len_bytes()) {
             return Err(ChangeError::TooLong);
         }
+        if self.edits.len() == 1 {
+            return self.apply_only(rope);
+        }
         let Ok(mut edited) = rope.clone() else {
             return Err(ChangeError::OutOfMemory);
         };
@@ -516,6 +523,32 @@ impl ChangeSet {
             splice(&mut edited, start, start + edit.deleted, edit.text.as_str())?;
             at = start + edit.inserted;
         }
+        *rope = edited;
+        Ok(())
+    }
+
+    /// Applies a change of one replacement. A rope undoes an insert or a removal that it refuses, so
+    /// either alone is done where the rope stands; both are done in a clone.
+    fn apply_only(&self, rope: &mut Rope) -> Result<(), ChangeError>
+        requires only { length self.now.edits ≡ 1 }
+        requires len { length rope.old.text ≡ before self.now }
+        ensures ok { OnOk result (rope.new.text ≡ run (ops self.now) rope.old.text) }
+        ensures refused { IfErr result (λ e. e ≡ OutOfMemory) }
+        ensures err { OnErr result (rope.new ≡ rope.old) }
+        ensures breaks { rope.new.breaks ≡ rope.old.breaks }
+        ensures kept { OnOk result (IsRope rope.new) }
+    {
+        let edits = self.edits.as_slice();
+        let edit = &edits[0];
+        let (start, end) = (edit.kept, edit.kept + edit.deleted);
+        let text = edit.text.as_str();
+        if start == end || text.is_empty() {
+            return splice(rope, start, end, text);
+        }
+        let Ok(mut edited) = rope.clone() else {
+            return Err(ChangeError::OutOfMemory);
+        };
+        splice(&mut edited, start, end, text)?;
         *rope = edited;
         Ok(())
     }

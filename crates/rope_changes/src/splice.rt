@@ -1,5 +1,5 @@
 //! A range of a rope's characters: replaced by a text, and copied.
-ghost use Rattle.std.specs.Prelude.{◌≡◌, ◌-◌, ◌≤◌, length, take, drop, IfOk, IfErr, OnOk};
+ghost use Rattle.std.specs.Prelude.{◌≡◌, ◌-◌, ◌≤◌, length, take, drop, IfOk, IfErr, OnOk, OnErr};
 ghost use Rattle.std.specs.Str.{chars};
 ghost use Rattle.std.specs.String.{string_bytes};
 ghost use Rattle.std.specs.List.{replace_range};
@@ -11,7 +11,8 @@ use ropey::Rope;
 use std::alloc::Global;
 
 /// Replaces the characters from `start` up to `end` by a text that the rope has room for. A call
-/// that fails may leave the range removed.
+/// that fails leaves the rope as it was where it only inserts or only removes; else it may leave
+/// the range removed.
 pub(crate) fn splice(
     rope: &mut Rope,
     start: usize,
@@ -23,6 +24,8 @@ pub(crate) fn splice(
     ensures ok { OnOk result
         (rope.new.text ≡ replace_range rope.old.text start end (chars text.now)) }
     ensures refused { IfErr result (λ e. e ≡ OutOfMemory) }
+    ensures inserts { start ≡ end → OnErr result (rope.new ≡ rope.old) }
+    ensures removes { length text.now ≡ 0 → OnErr result (rope.new ≡ rope.old) }
     ensures breaks { rope.new.breaks ≡ rope.old.breaks }
     ensures kept { IsRope rope.new }
 {

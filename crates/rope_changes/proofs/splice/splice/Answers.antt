@@ -1,7 +1,11 @@
-use Rattle.std.proofs.Common.{◌≡◌, ap, rules, ◌∙◌}
+use Rattle.std.proofs.Common.{◌≡◌, ℕ, List, ◌≤◌, [], length, take, drop, ap, rules, arith, ◌∙◌, length-append}
 use Rattle.std.specs.Str.{chars}
 use Rattle.rope_text.specs.Edit.{inserted, removed}
+use Rattle.std.proofs.lemmas.List.{nil_from_length, length-take}
+use Rattle.rope_text.specs.Text.{byte_len}
+use Rattle.ropey.proofs.Refusals.{insert_error-none}
 use Rattle.rope_changes.proofs.Spliced.{spliced_is}
+use Rattle.rope_changes.proofs.splice.splice.Goals.{then-is_err-via-then-is_err, then-is_err-via-else-is_err+then-is_err-2}
 use Rattle.rope_changes.proofs.splice.splice.Goals as goal
 
 pub returns-clause-ok : goal.returns-clause-ok
@@ -10,3 +14,24 @@ returns-clause-ok c =
     let new : c.insert.new.self.text ≡ inserted c.remove.new.self.text c.args.start (chars c.args.text.now) = search rules in
     new ∙ ap (λ t. inserted t c.args.start (chars c.args.text.now)) gone
     ∙ spliced_is c.args.rope.now.text c.args.start c.args.end (chars c.args.text.now) c.requires.ordered c.requires.within
+
+no_chars : (l : List ℕ) → length l ≡ 0 → chars l ≡ []
+unfolding chars
+no_chars l none = ap chars (nil_from_length l none)
+
+removed_len : (t : List ℕ) (start end : ℕ) → start ≤ end → end ≤ length t → start ≤ length (removed t start end)
+removed_len t start end ordered within = omega (arith, length-append (take start t) (drop end t), length-take start t)
+
+-- An empty text is always inserted, so a removal was refused.
+pub returns-then-is_err-clause-removes : goal.returns-then-is_err-clause-removes
+returns-then-is_err-clause-removes c none = elim c.then-is_err.branch [
+  | then-is_err-via-then-is_err w ↦ search rules
+  | then-is_err-via-else-is_err+then-is_err-2 w ↦
+      let gone : c.remove.new.self.text ≡ removed c.args.rope.now.text c.args.start c.args.end = search rules in
+      let nothing = no_chars c.args.text.now none in
+      let can = insert_error-none c.remove.new.self.text c.args.start (chars c.args.text.now)
+      (omega (arith, ap length gone, removed_len c.args.rope.now.text c.args.start c.args.end c.requires.ordered c.requires.within))
+      (omega (arith, ap byte_len nothing, c.remove.ensures.kept.2.content.fits)) in
+      let idle = w.insert.ensures.empty (ap length nothing) can in
+      search rules
+]
