@@ -1,6 +1,7 @@
 //! The workloads of `crates/rope_bench`, done with the Rust crate ropey 1.6.1: the same names,
 //! operations and checksums, and the same lines of output.
 
+mod changing;
 mod comparing;
 mod counting;
 mod cursors;

@@ -4,7 +4,8 @@ use crate::measure::Outcome;
 use crate::numbers::Fnv;
 use crate::sample::{Sample, Wear};
 use crate::{
-    comparing, counting, cursors, editing, keeping, lookups, making, reading, screens, slicing,
+    changing, comparing, counting, cursors, editing, keeping, lookups, making, reading, screens,
+    slicing,
 };
 
 /// A name, and what is timed.
@@ -66,6 +67,7 @@ pub fn of_texts(wear: Wear) -> Vec<Workload> {
             reading::WORKLOADS,
             editing::WORKLOADS,
             keeping::WORKLOADS,
+            changing::WORKLOADS,
             lookups::WORKLOADS,
             slicing::WORKLOADS,
             cursors::WORKLOADS,

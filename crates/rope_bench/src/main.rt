@@ -6,6 +6,7 @@
 //! `stdout` expects, which the gate compares, is confirmed by an independent program.
 #![tactic(auto)]
 
+mod changing;
 mod comparing;
 mod counting;
 mod cursors;

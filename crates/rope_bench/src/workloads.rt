@@ -1,4 +1,5 @@
 //! The workloads by name, and the lists of those that each kind of sample runs.
+use crate::changing::{Changing, change};
 use crate::comparing::{Comparing, compare};
 use crate::counting::{Counting, count};
 use crate::cursors::{Walk, go_over};
@@ -25,6 +26,7 @@ pub enum Workload {
     Read(Reading),
     Edit(Edit),
     Keep(Keeping),
+    Change(Changing),
     LookUp(LookUp),
     Slice(Slicing),
     Walk(Walk),
@@ -34,7 +36,7 @@ pub enum Workload {
 }
 
 /// Those that are done on each of the texts, in order.
-pub const OF_TEXTS: [Workload; 98] = [
+pub const OF_TEXTS: [Workload; 104] = [
     Workload::Text,
     Workload::Make(Making::FromStr),
     Workload::Make(Making::BuilderByLines),
@@ -65,6 +67,12 @@ pub const OF_TEXTS: [Workload; 98] = [
     Workload::Keep(Keeping::CloneAndInsert),
     Workload::Keep(Keeping::Undo),
     Workload::Keep(Keeping::UndoDrop),
+    Workload::Change(Changing::Type),
+    Workload::Change(Changing::Carets),
+    Workload::Change(Changing::Words),
+    Workload::Change(Changing::Invert),
+    Workload::Change(Changing::Compose),
+    Workload::Change(Changing::Indices),
     Workload::LookUp(LookUp::CharToByte),
     Workload::LookUp(LookUp::CharToLine),
     Workload::LookUp(LookUp::CharToUtf16),
@@ -188,6 +196,7 @@ impl Workload {
             Workload::Read(what) => what.name(),
             Workload::Edit(what) => what.name(),
             Workload::Keep(what) => what.name(),
+            Workload::Change(what) => what.name(),
             Workload::LookUp(what) => what.name(),
             Workload::Slice(what) => what.name(),
             Workload::Walk(what) => what.name(),
@@ -224,6 +233,7 @@ impl Workload {
             Workload::Read(what) => read(clock, sample, what),
             Workload::Edit(what) => edit_rope(clock, sample, what),
             Workload::Keep(what) => keep(clock, sample, what),
+            Workload::Change(what) => change(clock, sample, what),
             Workload::LookUp(what) => look_up(clock, sample, what),
             Workload::Slice(what) => slice(clock, sample, what),
             Workload::Walk(what) => go_over(clock, sample, what),
