@@ -1,3 +1,4 @@
 pub mod TextLaws
 pub mod VersionLaws
 pub mod StandsLaws
+pub mod MarkLaws

@@ -1,5 +1,5 @@
 //! Each public call once, against texts and numbers by hand.
-use crate::History;
+use crate::{History, Marks};
 use rope_changes::{ChangeError, ChangeSet, Side};
 use ropey::Rope;
 use std::alloc::Global;
@@ -87,5 +87,48 @@ fn lengths_that_differ_are_refused(rt: HostRuntime) -> Result<(), Fail> {
     );
     assert!(rt; rope.eq_str("one"));
     assert_eq!(rt; history.len_versions(), 1);
+    Ok(())
+}
+
+#[test]
+fn marks_move_with_changes(rt: HostRuntime) -> Result<(), Fail> {
+    let mut marks = Marks::new(rt.alloc(), 7);
+    assert!(rt; marks.is_empty());
+    let word = marks.add(4, 7, Side::After, Side::Before)?;
+    let caret = marks.add(3, 3, Side::After, Side::Before)?;
+    let all = marks.add(0, 7, Side::Before, Side::After)?;
+    assert_eq!(rt; [word, caret, all], [0, 1, 2]);
+    assert_eq!(rt; marks.len(), 3);
+    let mut touching = marks.within(3, 3);
+    assert_eq!(rt; touching.next().ok_or("none")?.id, all);
+    assert_eq!(rt; touching.next().ok_or("one")?.id, caret);
+    assert!(rt; touching.next().is_none());
+    marks.apply(&replacing(rt.alloc(), 7, 3, 4, " - ")?)?;
+    assert_eq!(rt; marks.len_chars(), 9);
+    let moved = marks.get(word).ok_or("no word")?;
+    assert_eq!(rt; [moved.start, moved.end], [6, 9]);
+    let moved = marks.get(caret).ok_or("no caret")?;
+    assert_eq!(rt; [moved.start, moved.end], [6, 6]);
+    assert_eq!(rt; marks.remove(caret), Some(moved));
+    assert_eq!(rt; marks.get(caret), None);
+    assert_eq!(rt; marks.remove(caret), None);
+    Ok(())
+}
+
+#[test]
+fn marks_outside_the_text_are_refused(rt: HostRuntime) -> Result<(), Fail> {
+    let mut marks = Marks::new(rt.alloc(), 7);
+    assert_eq!(rt;
+        marks.add(5, 4, Side::Before, Side::After),
+        Err(ChangeError::RangeInvalid(5, 4))
+    );
+    assert_eq!(rt;
+        marks.add(4, 8, Side::Before, Side::After),
+        Err(ChangeError::RangeOutOfBounds(8, 7))
+    );
+    assert_eq!(rt;
+        marks.apply(&ChangeSet::new(rt.alloc(), 8)?),
+        Err(ChangeError::LengthDiffers(8, 7))
+    );
     Ok(())
 }

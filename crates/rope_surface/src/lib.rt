@@ -20,7 +20,7 @@
 //! - `positions`: positions in lines
 //! - `commands`: commands, replies, and the line language
 //! - `changes`: changes as values, the laws of changes
-//! - `history`: histories of a text
+//! - `history`: histories of a text, and marks
 #![tactic(auto)]
 
 pub mod changes;
