@@ -130,7 +130,8 @@ pub fn get(marks: &Marks, id: usize) -> Option<Mark>
 
 /// Removes a mark by its number.
 pub fn remove(marks: &mut Marks, id: usize) -> Option<Mark>
-    ensures { IfSome result (λ m. (m.id ≡ id) × IsPermutation marks.old.marks (m ∷ marks.new.marks)) }
+    ensures { IfSome result (λ m. (m.id ≡ id)
+        × IsPermutation marks.old.marks (m ∷ marks.new.marks)) }
 {
     marks.remove(id)
 }
