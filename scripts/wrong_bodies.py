@@ -15,7 +15,7 @@ sys.dont_write_bytecode = True
 from functions import CRATES, function_at, names_at, public_functions  # noqa: E402
 
 # The crates whose public functions users call.
-SURFACE = "rope_text rope_slice rope_io ropey rope_position rope_script rope_language rope_changes ropey_c".split()
+SURFACE = "rope_text rope_slice rope_io ropey rope_position rope_script rope_language rope_changes rope_history ropey_c".split()
 
 
 def changes(edit):

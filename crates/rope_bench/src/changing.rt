@@ -74,7 +74,7 @@ fn change_of(
     let mut change = ChangeSet::new(alloc, len)?;
     let span = len.checked_div(count).unwrap_or(0);
     for k in 0..count {
-        let within = numbers.up_to(span.saturating_sub(deleted + 1));
+        let within = numbers.up_to(span.saturating_sub(deleted).saturating_sub(1));
         let start = k.saturating_mul(span).saturating_add(within);
         change.replace(start, start.saturating_add(deleted), text)?;
     }

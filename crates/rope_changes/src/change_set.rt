@@ -527,8 +527,8 @@ impl ChangeSet {
         Ok(())
     }
 
-    /// Applies a change of one replacement. A rope undoes an insert or a removal that it refuses, so
-    /// either alone is done where the rope stands; both are done in a clone.
+    // Applies a change of one replacement. A refused insert or removal leaves the rope as it was,
+    // so either alone is done where the rope stands; both are done in a clone.
     fn apply_only(&self, rope: &mut Rope) -> Result<(), ChangeError>
         requires only { length self.now.edits ≡ 1 }
         requires len { length rope.old.text ≡ before self.now }

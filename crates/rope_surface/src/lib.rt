@@ -1,5 +1,5 @@
-//! Every public item of `ropey`, `rope_position`, `rope_script`, `rope_language` and
-//! `rope_changes`, used under its name, with its arguments in their order and with its types.
+//! Every public item of `ropey`, `rope_position`, `rope_script`, `rope_language`, `rope_changes`
+//! and `rope_history`, used under its name, with its arguments in their order and with its types.
 //!
 //! This crate fails to compile if an item is renamed or dropped, if a call takes an argument more
 //! or less, or if an argument, a field or a result has another type. Where two of them have the
@@ -20,6 +20,7 @@
 //! - `positions`: positions in lines
 //! - `commands`: commands, replies, and the line language
 //! - `changes`: changes as values, the laws of changes
+//! - `history`: histories of a text, and marks
 #![tactic(auto)]
 
 pub mod changes;
@@ -28,6 +29,7 @@ pub mod cursors;
 pub mod devices;
 pub mod edits;
 pub mod errors;
+pub mod history;
 pub mod positions;
 pub mod rope_lookups;
 pub mod rope_parts;

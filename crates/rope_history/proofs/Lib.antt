@@ -1,0 +1,4 @@
+pub mod TextLaws
+pub mod VersionLaws
+pub mod StandsLaws
+pub mod MarkLaws

@@ -1,0 +1,186 @@
+-- Histories after each move.
+use Rattle.std.proofs.Common.{◌≡◌, ℕ, ◌+◌, ◌<◌, ◌≤◌, List, [], ◌∷◌, ◌++◌, length, ap, sym, ◌∙◌, subst, arith, length-append, inl, inr}
+use Rattle.std.specs.Prelude.{Option, Some, None}
+use Rattle.std.proofs.Math.ListN.{get_or-append}
+use Rattle.std.proofs.Math.Seq.{get_or-append_seam}
+use Rattle.std.proofs.lemmas.Bool.{cases_lt, cases_eq}
+use Rattle.std.proofs.lemmas.Grind.{get_or-set_at}
+use Rattle.std.proofs.lemmas.List.{get_or-set_other, length-set}
+use Rattle.rope_changes.specs.Change.{Change, before, after}
+use Rattle.rope_changes.proofs.Prefixes.{keeping_before, keeping_after}
+use Rattle.rope_history.specs.declared.history.Version.{Version}
+use Rattle.rope_history.specs.Versions.{Versions, IsHistory, root, version_at, parent_of, redo_of, len_of, first_version, with_child, back_at, standing_at}
+
+abbrev parent : Version → Option ℕ
+parent v = v.parent
+
+abbrev BeginsAtEnd : Version → Type 0
+BeginsAtEnd v = before v.inverse ≡ after v.change
+
+pub first_is_history : (len : ℕ) → IsHistory (first_version len)
+first_is_history len =
+    let both : before (root len).change ≡ after (root len).change =
+    keeping_before len [] ∙ sym (keeping_after len []) in
+    record {
+      within = omega arith;
+      marked = omega arith;
+      earlier = λ v p lt is. absurd (none v p lt is);
+      follows = λ v p lt is. absurd (none v p lt is);
+      inverses = λ v lt.
+          let e : v ≡ 0 = omega arith in
+          subst (λ k. BeginsAtEnd (version_at (first_version len) k)) (sym e) both;
+      children = λ v c lt is. absurd (unmarked v c lt is);
+    }
+  where
+    none : (v p : ℕ) → v < 1 → parent_of (first_version len) v ≡ Some p → ⊥
+    none v p lt is =
+        let e : v ≡ 0 = omega arith in
+        let root_is : parent_of (first_version len) v ≡ None =
+        ap (parent_of (first_version len)) e in
+        cc
+
+    unmarked : (v c : ℕ) → v < 1 → redo_of (first_version len) v ≡ Some c → ⊥
+    unmarked v c lt is =
+        let e : v ≡ 0 = omega arith in
+        let root_is : redo_of (first_version len) v ≡ None =
+        ap (redo_of (first_version len)) e in
+        cc
+
+-- a history with a child of its current version
+module _ (h : Versions) (change inverse : Change) where
+  abbrev new : Versions
+  new = with_child h change inverse
+
+  abbrev added : Version
+  added = record { parent = Some h.current; change = change; inverse = inverse }
+
+  len_with_child : length new.versions ≡ length h.versions + 1
+  len_with_child = omega (arith, length-append h.versions (added ∷ []))
+
+  version_kept : (v : ℕ) → v < length h.versions → version_at new v ≡ version_at h v
+  version_kept v lt = get_or-append h.versions _ (root 0) v lt
+
+  version_added : (v : ℕ) → length h.versions ≤ v → v < length new.versions
+      → version_at new v ≡ added
+  version_added v last lt =
+      let e : v ≡ length h.versions = omega (arith, len_with_child) in
+      ap (version_at new) e ∙ get_or-append_seam h.versions _ [] (root 0)
+
+  redo_kept : IsHistory h → (v : ℕ) → v < length h.versions → redo_of new v ≡ redo_of h v
+  redo_kept kept v lt = get_or-append h.redo _ None v (omega (arith, kept.marked))
+
+  redo_added : IsHistory h → (v : ℕ) → length h.versions ≤ v → v < length new.versions
+      → redo_of new v ≡ None
+  redo_added kept v last lt =
+      let e : v ≡ length h.redo = omega (arith, len_with_child, kept.marked) in
+      ap (redo_of new) e ∙ get_or-append_seam h.redo _ [] None
+
+  -- a parent's number is below the one of its child
+  child_earlier : IsHistory h → (v p : ℕ) → v < length new.versions
+      → parent_of new v ≡ Some p → p < v
+  child_earlier kept v p lt is =
+      elim (cases_lt v (length h.versions)) [
+        | inl less ↦ kept.earlier v p less (ap parent (sym (version_kept v less)) ∙ is)
+        | inr last ↦
+            let e : Some h.current ≡ Some p = ap parent (sym (version_added v last lt)) ∙ is in
+            let same : h.current ≡ p = cc in
+            omega (arith, kept.within)
+      ]
+
+  child_follows : IsHistory h → before change ≡ len_of h → (v p : ℕ)
+      → v < length new.versions
+      → parent_of new v ≡ Some p
+      → before (version_at new v).change ≡ after (version_at new p).change
+  child_follows kept fits v p lt is =
+      elim (cases_lt v (length h.versions)) [
+        | inl less ↦
+            let was : parent_of h v ≡ Some p = ap parent (sym (version_kept v less)) ∙ is in
+            let earlier = kept.earlier v p less was in
+            ap (λ (x : Version). before x.change) (version_kept v less) ∙ kept.follows v p less was
+            ∙ ap (λ (x : Version). after x.change) (sym (version_kept p (omega arith)))
+        | inr last ↦
+            let e : Some h.current ≡ Some p = ap parent (sym (version_added v last lt)) ∙ is in
+            let same : h.current ≡ p = cc in
+            ap (λ (x : Version). before x.change) (version_added v last lt) ∙ fits
+            ∙ ap (λ (x : Version). after x.change) (sym (version_kept h.current kept.within))
+            ∙ ap (λ k. after (version_at new k).change) same
+      ]
+
+  child_inverses : IsHistory h → before inverse ≡ after change → (v : ℕ)
+      → v < length new.versions
+      → before (version_at new v).inverse ≡ after (version_at new v).change
+  child_inverses kept back v lt =
+      elim (cases_lt v (length h.versions)) [
+        | inl less ↦ subst BeginsAtEnd (sym (version_kept v less)) (kept.inverses v less)
+        | inr last ↦ subst BeginsAtEnd (sym (version_added v last lt)) back
+      ]
+
+  child_children : IsHistory h → (v c : ℕ) → v < length new.versions
+      → redo_of new v ≡ Some c
+      → (c < length new.versions) × (parent_of new c ≡ Some v)
+  child_children kept v c lt is =
+      elim (cases_lt v (length h.versions)) [
+        | inl less ↦
+            let was = kept.children v c less (sym (redo_kept kept v less) ∙ is) in (
+              omega (arith, was.0, len_with_child),
+              ap parent (version_kept c was.0) ∙ was.1,
+            )
+        | inr last ↦
+            let none = redo_added kept v last lt in
+            absurd (let e : None ≡ Some c = sym none ∙ is in cc)
+      ]
+
+  pub child_is_history : IsHistory h → before change ≡ len_of h → before inverse ≡ after change
+      → IsHistory new
+  child_is_history kept fits back =
+      record {
+        within = omega (arith, len_with_child);
+        marked = omega (arith, len_with_child, length-append h.redo (None ∷ []), kept.marked);
+        earlier = child_earlier kept;
+        follows = child_follows kept fits;
+        inverses = child_inverses kept back;
+        children = child_children kept;
+      }
+
+-- `redo` leads from the parent to the version that was left
+back_children : (h : Versions) (p : ℕ) → IsHistory h → parent_of h h.current ≡ Some p
+    → (v c : ℕ) → v < length h.versions → redo_of (back_at h (Some p)) v ≡ Some c
+    → (c < length h.versions) × (parent_of h c ≡ Some v)
+back_children h p kept up v c lt is =
+    elim (cases_eq v p) [
+      | inl same ↦
+          let set_is : redo_of (back_at h (Some p)) v ≡ Some h.current =
+          get_or-set_at h.redo p v (Some h.current) None same (omega (arith, kept.marked)) in
+          let e : Some h.current ≡ Some c = sym set_is ∙ is in
+          let current_is : h.current ≡ c = cc in (
+            omega (arith, kept.within),
+            ap (parent_of h) (sym current_is) ∙ up ∙ ap Some (sym same),
+          )
+      | inr other ↦
+          let kept_is = get_or-set_other h.redo p v (Some h.current) None other in
+          kept.children v c lt (sym kept_is ∙ is)
+    ]
+
+pub back_is_history : (h : Versions) (p : ℕ) → IsHistory h → parent_of h h.current ≡ Some p
+    → IsHistory (back_at h (Some p))
+back_is_history h p kept up =
+    record {
+      within = omega (arith, kept.earlier h.current p kept.within up, kept.within);
+      marked = length-set h.redo p (Some h.current) ∙ kept.marked;
+      earlier = kept.earlier;
+      follows = kept.follows;
+      inverses = kept.inverses;
+      children = back_children h p kept up;
+    }
+
+pub standing_is_history : (h : Versions) (v : ℕ) → IsHistory h → v < length h.versions
+    → IsHistory (standing_at h (Some v))
+standing_is_history h v kept lt =
+    record {
+      within = lt;
+      marked = kept.marked;
+      earlier = kept.earlier;
+      follows = kept.follows;
+      inverses = kept.inverses;
+      children = kept.children;
+    }

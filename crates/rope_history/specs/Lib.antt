@@ -1,0 +1,5 @@
+pub mod Versions
+pub mod Texts
+pub mod Views
+pub mod Marking
+pub mod MarkViews

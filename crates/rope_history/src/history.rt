@@ -1,0 +1,309 @@
+//! The versions that a text went through.
+ghost use Rattle.std.specs.Prelude.{◌≡◌, ◌≢◌, ◌⊎◌, ◌+◌, ◌<◌, ◌≤◌, ◌^◌, ℕ, List, length, Some, None, IfOk, IfErr, IsOk, OnOk, OnErr};
+ghost use Rattle.rope_text.specs.Text.{byte_len};
+ghost use Rattle.rope_changes.specs.declared.error.ChangeError.TheVariants.{LengthDiffers, TooLong, OutOfMemory};
+ghost use Rattle.rope_changes.specs.Applied.{inserted_bytes};
+ghost use Rattle.rope_changes.specs.Change.{after, before, ops};
+ghost use Rattle.rope_changes.specs.Ops.{run};
+ghost use Rattle.rope_history.specs.Texts.{StandsAt, text_at, text_before};
+ghost use Rattle.rope_history.specs.Versions.{IsHistory, change_ahead, change_back, committed, first_version, left_by_undo, len_of, parent_of, redo_of, redone, undone, version_at, with_child};
+ghost use Rattle.ropey.specs.View.{IsRope};
+
+use rope_changes::{ChangeError, ChangeSet};
+use ropey::Rope;
+use std::alloc::Global;
+use std::marker::Model;
+
+/// A version of a text: the version that it was made of, and the changes from there and back.
+#[derive(Drop)]
+pub(crate) struct Version {
+    /// `None` for the first version, whose changes change nothing.
+    pub(crate) parent: Option<usize>,
+    pub(crate) change: ChangeSet,
+    pub(crate) inverse: ChangeSet,
+}
+
+/// The versions that a text went through: a tree, whose branches are all kept. Versions are
+/// numbered from 0 in the order in which they were made. Contracts see it as its versions, the
+/// version to which `redo` leads from each of them, and the current version.
+#[derive(Drop)]
+pub struct History {
+    versions: Vec<Version>,
+    redo: Vec<Option<usize>>,
+    current: usize,
+}
+
+impl Model for History {
+    ghost use Rattle.rope_history.specs.Views.{history_of, KeepsHistory};
+    ghost use Rattle.rope_history.specs.Versions.{Versions};
+
+    ghost Value = { Versions };
+
+    ghost view = { history_of };
+
+    ghost invariant = { KeepsHistory };
+}
+
+impl History {
+    /// Creates the history of a text of `len` characters, with one version.
+    ///
+    /// # Errors
+    ///
+    /// `TooLong`, exactly if `len` is above `isize::MAX`; else `OutOfMemory`.
+    pub fn new(alloc: Global, len: usize) -> Result<History, ChangeError>
+        ensures too_long { 2 ^ 63 ≤ len → result ≡ Err TooLong }
+        ensures memory { len < 2 ^ 63 → IfErr result (λ e. e ≡ OutOfMemory) }
+        ensures ok { IfOk result (λ history. history ≡ first_version len) }
+        ensures stands { IfOk result (λ history.
+            (text : List ℕ) → length text ≡ len → StandsAt text history text) }
+    {
+        let root = Version {
+            parent: None,
+            change: ChangeSet::new(alloc, len)?,
+            inverse: ChangeSet::new(alloc, len)?,
+        };
+        let mut versions = Vec::new(alloc);
+        let mut redo = Vec::new(alloc);
+        if versions.push(root).is_err() || redo.push(None).is_err() {
+            return Err(ChangeError::OutOfMemory);
+        }
+        Ok(History {
+            versions,
+            redo,
+            current: 0,
+        })
+    }
+
+    /// Returns the number of the current version.
+    pub fn current(&self) -> usize
+        ensures { result ≡ self.now.current }
+    {
+        self.current
+    }
+
+    /// Returns the number of versions, which is at least 1.
+    pub fn len_versions(&self) -> usize
+        ensures value { result ≡ length self.now.versions }
+        ensures kept { IsHistory self.now }
+    {
+        self.versions.len()
+    }
+
+    /// Returns the length of the text of the current version, in characters.
+    pub fn len_chars(&self) -> usize
+        ensures value { result ≡ len_of self.now }
+        ensures stands { (first text : List ℕ) → StandsAt first self.now text
+            → result ≡ length text }
+    {
+        self.versions[self.current].change.len_after()
+    }
+
+    /// Returns the version that `version` was made of, or `None` for the first version.
+    pub fn parent(&self, version: usize) -> Option<usize>
+        requires { version < length self.now.versions }
+        ensures { result ≡ parent_of self.now version }
+    {
+        self.versions[version].parent
+    }
+
+    /// Returns the version to which `redo` leads: the child of the current version that was left
+    /// last, or `None` if none was left.
+    pub fn redo_version(&self) -> Option<usize>
+        ensures { result ≡ redo_of self.now self.now.current }
+    {
+        self.redo[self.current]
+    }
+
+    /// Returns the change that made `version` of its parent. The change of the first version
+    /// changes nothing.
+    pub fn change(&self, version: usize) -> &ChangeSet
+        requires { version < length self.now.versions }
+        ensures value { result.now ≡ (version_at self.now version).change }
+        ensures text { (first : List ℕ) → text_at first self.now version
+            ≡ run (ops result.now) (text_before first self.now version) }
+    {
+        &self.versions[version].change
+    }
+
+    /// Returns the change that leads from `version` back to its parent.
+    pub fn inverse(&self, version: usize) -> &ChangeSet
+        requires { version < length self.now.versions }
+        ensures value { result.now ≡ (version_at self.now version).inverse }
+        ensures text { (first text : List ℕ) → StandsAt first self.now text
+            → run (ops result.now) (text_at first self.now version)
+            ≡ text_before first self.now version }
+    {
+        &self.versions[version].inverse
+    }
+
+    // Refuses a rope whose length isn't that of the current version.
+    fn check_len(&self, rope: &Rope) -> Result<(), ChangeError>
+        ensures same { length rope.now.text ≡ len_of self.now → IsOk result }
+        ensures differs { length rope.now.text ≢ len_of self.now
+            → result ≡ Err (LengthDiffers (len_of self.now) (length rope.now.text)) }
+        ensures kept { IsRope rope.now }
+    {
+        let len = rope.len_chars();
+        let expected = self.len_chars();
+        if len != expected {
+            return Err(ChangeError::LengthDiffers(expected, len));
+        }
+        Ok(())
+    }
+
+    // Adds a child of the current version, and makes it the current version.
+    fn add(&mut self, change: ChangeSet, inverse: ChangeSet) -> Result<(), ChangeError>
+        requires follows { before change ≡ len_of self.old }
+        requires inverse { before inverse ≡ after change }
+        ensures ok { OnOk result (self.new ≡ with_child self.old change inverse) }
+        ensures refused { IfErr result (λ e. e ≡ OutOfMemory) }
+        ensures err { OnErr result (self.new ≡ self.old) }
+    {
+        let version = Version {
+            parent: Some(self.current),
+            change,
+            inverse,
+        };
+        if self.redo.push(None).is_err() {
+            return Err(ChangeError::OutOfMemory);
+        }
+        if self.versions.push(version).is_err() {
+            self.redo.pop();
+            return Err(ChangeError::OutOfMemory);
+        }
+        self.current = self.redo.len() - 1;
+        Ok(())
+    }
+
+    /// Applies a change of the current version's text to the rope, and keeps it with its inverse as
+    /// a new version, which is a child of the current one and then the current one itself.
+    ///
+    /// # Errors
+    ///
+    /// First `LengthDiffers`, with `len_chars()` and the rope's length, if they differ; then
+    /// `LengthDiffers`, with the change's `len_before()` and `len_chars()`, if these differ; then
+    /// `TooLong`, if the rope's text and the texts that the change inserts have more than
+    /// `isize::MAX` bytes together; and `OutOfMemory`. A call that fails leaves the history and the
+    /// rope as they were.
+    pub fn commit(&mut self, rope: &mut Rope, change: ChangeSet) -> Result<(), ChangeError>
+        ensures rope_differs { length rope.old.text ≢ len_of self.old
+            → result ≡ Err (LengthDiffers (len_of self.old) (length rope.old.text)) }
+        ensures change_differs { length rope.old.text ≡ len_of self.old
+            → before change ≢ len_of self.old
+            → result ≡ Err (LengthDiffers (before change) (len_of self.old)) }
+        ensures too_long { length rope.old.text ≡ len_of self.old → before change ≡ len_of self.old
+            → 2 ^ 63 ≤ byte_len rope.old.text + inserted_bytes change.edits
+            → (result ≡ Err TooLong) ⊎ (result ≡ Err OutOfMemory) }
+        ensures memory { length rope.old.text ≡ len_of self.old → before change ≡ len_of self.old
+            → byte_len rope.old.text + inserted_bytes change.edits < 2 ^ 63
+            → IfErr result (λ e. e ≡ OutOfMemory) }
+        ensures ok { OnOk result (self.new ≡ committed self.old change rope.old.text) }
+        ensures text { OnOk result (rope.new.text ≡ run (ops change) rope.old.text) }
+        ensures err { OnErr result ((self.new ≡ self.old) × (rope.new ≡ rope.old)) }
+
+        // The rope keeps the text of the current version, and each version keeps its text.
+        ensures stands { (first : List ℕ) → StandsAt first self.old rope.old.text
+            → StandsAt first self.new rope.new.text }
+        ensures texts { (first : List ℕ) (v : ℕ) → v < length self.old.versions
+            → text_at first self.new v ≡ text_at first self.old v }
+        ensures breaks { rope.new.breaks ≡ rope.old.breaks }
+        ensures kept { IsRope rope.new }
+    {
+        self.check_len(rope)?;
+        if change.len_before() != self.len_chars() {
+            return Err(ChangeError::LengthDiffers(change.len_before(), self.len_chars()));
+        }
+        let Ok(mut edited) = rope.clone() else {
+            return Err(ChangeError::OutOfMemory);
+        };
+        change.apply(&mut edited)?;
+        let inverse = change.invert(rope)?;
+        self.add(change, inverse)?;
+        *rope = edited;
+        Ok(())
+    }
+
+    /// Applies the inverse of the current version to the rope, and makes its parent the current
+    /// version. Returns the version that was left, whose `inverse` was applied, or `None` at the
+    /// first version, which stays.
+    ///
+    /// # Errors
+    ///
+    /// First `LengthDiffers`, with `len_chars()` and the rope's length, if they differ; then
+    /// `TooLong`, if the rope's text and the texts that are inserted have more than `isize::MAX`
+    /// bytes together; then `OutOfMemory`. A call that fails leaves the history and the rope as
+    /// they were.
+    pub fn undo(&mut self, rope: &mut Rope) -> Result<Option<usize>, ChangeError>
+        ensures differs { length rope.old.text ≢ len_of self.old
+            → result ≡ Err (LengthDiffers (len_of self.old) (length rope.old.text)) }
+        ensures too_long { length rope.old.text ≡ len_of self.old
+            → 2 ^ 63 ≤ byte_len rope.old.text + inserted_bytes (change_back self.old).edits
+            → result ≡ Err TooLong }
+        ensures memory { length rope.old.text ≡ len_of self.old
+            → byte_len rope.old.text + inserted_bytes (change_back self.old).edits < 2 ^ 63
+            → IfErr result (λ e. e ≡ OutOfMemory) }
+        ensures left { IfOk result (λ left. left ≡ left_by_undo self.old) }
+        ensures ok { OnOk result (self.new ≡ undone self.old) }
+        ensures text { OnOk result
+            (rope.new.text ≡ run (ops (change_back self.old)) rope.old.text) }
+        ensures none { parent_of self.old self.old.current ≡ None → rope.new ≡ rope.old }
+        ensures err { OnErr result ((self.new ≡ self.old) × (rope.new ≡ rope.old)) }
+        ensures stands { (first : List ℕ) → StandsAt first self.old rope.old.text
+            → StandsAt first self.new rope.new.text }
+        ensures texts { (first : List ℕ) (v : ℕ)
+            → text_at first self.new v ≡ text_at first self.old v }
+        ensures breaks { rope.new.breaks ≡ rope.old.breaks }
+        ensures kept { IsRope rope.new }
+    {
+        self.check_len(rope)?;
+        let left = self.current;
+        let version = &self.versions[left];
+        let Some(parent) = version.parent else {
+            return Ok(None);
+        };
+        version.inverse.apply(rope)?;
+        self.redo[parent] = Some(left);
+        self.current = parent;
+        Ok(Some(left))
+    }
+
+    /// Applies the change of the child that was left last to the rope, and makes that child the
+    /// current version. Returns it, or `None` if no child was left, and then changes nothing.
+    ///
+    /// # Errors
+    ///
+    /// First `LengthDiffers`, with `len_chars()` and the rope's length, if they differ; then
+    /// `TooLong`, if the rope's text and the texts that are inserted have more than `isize::MAX`
+    /// bytes together; then `OutOfMemory`. A call that fails leaves the history and the rope as
+    /// they were.
+    pub fn redo(&mut self, rope: &mut Rope) -> Result<Option<usize>, ChangeError>
+        ensures differs { length rope.old.text ≢ len_of self.old
+            → result ≡ Err (LengthDiffers (len_of self.old) (length rope.old.text)) }
+        ensures too_long { length rope.old.text ≡ len_of self.old
+            → 2 ^ 63 ≤ byte_len rope.old.text + inserted_bytes (change_ahead self.old).edits
+            → result ≡ Err TooLong }
+        ensures memory { length rope.old.text ≡ len_of self.old
+            → byte_len rope.old.text + inserted_bytes (change_ahead self.old).edits < 2 ^ 63
+            → IfErr result (λ e. e ≡ OutOfMemory) }
+        ensures reached { IfOk result (λ child. child ≡ redo_of self.old self.old.current) }
+        ensures ok { OnOk result (self.new ≡ redone self.old) }
+        ensures text { OnOk result
+            (rope.new.text ≡ run (ops (change_ahead self.old)) rope.old.text) }
+        ensures none { redo_of self.old self.old.current ≡ None → rope.new ≡ rope.old }
+        ensures err { OnErr result ((self.new ≡ self.old) × (rope.new ≡ rope.old)) }
+        ensures stands { (first : List ℕ) → StandsAt first self.old rope.old.text
+            → StandsAt first self.new rope.new.text }
+        ensures texts { (first : List ℕ) (v : ℕ)
+            → text_at first self.new v ≡ text_at first self.old v }
+        ensures breaks { rope.new.breaks ≡ rope.old.breaks }
+        ensures kept { IsRope rope.new }
+    {
+        self.check_len(rope)?;
+        let Some(child) = self.redo_version() else {
+            return Ok(None);
+        };
+        self.versions[child].change.apply(rope)?;
+        self.current = child;
+        Ok(Some(child))
+    }
+}
