@@ -6,7 +6,8 @@ use Rattle.rope_changes.specs.Normal.{delete_after, normal_form, composed}
 use Rattle.rope_changes.proofs.NormalLaws.{normal_twice}
 
 -- the first change begins with a character that is kept, or inserted; `rest` composes what follows
-module _ (a : List Op) (rest : (b c : List Op) → compose (compose a b) c ≡ compose a (compose b c)) where
+module _ (a : List Op)
+    (rest : (b c : List Op) → compose (compose a b) c ≡ compose a (compose b c)) where
   kept_none : (c : List Op) → onto_kept (compose (compose a [])) c ≡ onto_kept (compose a) c
   kept_none [] = ap (λ u. keep ∷ u) (rest [] [])
   kept_none (keep ∷ c) = ap (λ u. keep ∷ u) (rest [] c)
@@ -76,7 +77,8 @@ compose_twice (delete ∷ a) b c = ap (λ u. delete ∷ u) (compose_twice a b c)
 compose_twice (insert x ∷ a) b c = inserted a (λ d e. compose_twice a d e) x b c
 
 -- changes with one normal form, before a later change
-module _ (f g : List Op → List Op) (same : (c : List Op) → normal_form (f c) ≡ normal_form (g c)) where
+module _ (f g : List Op → List Op)
+    (same : (c : List Op) → normal_form (f c) ≡ normal_form (g c)) where
   kept_same : (c : List Op) → normal_form (onto_kept f c) ≡ normal_form (onto_kept g c)
   kept_same [] = ap (λ u. keep ∷ u) (same [])
   kept_same (keep ∷ c) = ap (λ u. keep ∷ u) (same c)
@@ -143,7 +145,8 @@ inserted_deletes x a (insert y ∷ n) =
     ap (λ u. insert y ∷ u) (inserted_deletes x a n) ∙ sym (insert_leads a y n)
 
 module _ (a : List Op)
-    (rest : (c : List Op) → normal_form (compose a (normal_form c)) ≡ normal_form (compose a c)) where
+    (rest : (c : List Op)
+    → normal_form (compose a (normal_form c)) ≡ normal_form (compose a c)) where
   kept_later : (c : List Op)
       → normal_form (onto_kept (compose a) (normal_form c)) ≡ normal_form (onto_kept (compose a) c)
   kept_later [] = refl

@@ -169,7 +169,8 @@ module _ (breaks : LineBreaks) (text : List ℕ) (i : ℕ) (within : i ≤ lengt
                 | inr lone ↦
                     let none : pair ≡ false =
                     ap (λ b. is_break_char breaks 13 && b) lone ∙ never (is_break_char breaks 13) in
-                    let one : cond {A = ℕ} pair 2 1 ≡ 1 = ap (λ (b : Bool). cond {A = ℕ} b 2 1) none in
+                    let one : cond {A = ℕ} pair 2 1 ≡ 1 =
+                    ap (λ (b : Bool). cond {A = ℕ} b 2 1) none in
                     omega (arith, some, one, break_after on)
               ]
         ]
@@ -196,7 +197,8 @@ module _ (breaks : LineBreaks) (text : List ℕ) (i : ℕ) (within : i ≤ lengt
             length-take (length here - last_break_len breaks here) here,
           )
 
-      pub clamped_returns : clamped_char encoding breaks text (position_in encoding breaks text i) ≡ i
+      pub clamped_returns : clamped_char encoding breaks text
+          (position_in encoding breaks text i) ≡ i
       clamped_returns =
           let less : nat_le (line_count breaks text) l ≡ false =
           lt-leb (line_count breaks text) l (char_to_line-less breaks text i) in
@@ -206,7 +208,8 @@ module _ (breaks : LineBreaks) (text : List ℕ) (i : ℕ) (within : i ≤ lengt
           ∙ column_returns encoding whole (i - start) long in
           let sum : start + (i - start) ≡ i = omega (arith, before) in
           ap (λ (b : Bool). cond {A = ℕ} b (length text)
-          (start + clamped_column encoding whole (unit_len encoding (slice_range text start i)))) less
+          (start + clamped_column encoding whole (unit_len encoding (slice_range text start i))))
+          less
           ∙ ap (λ n. start + n) column ∙ sum
 
       -- it is the position of the end of the text before it

@@ -22,16 +22,19 @@ front_utf8 : (b : Bool) → IsUtf8 (cond {A = List ℕ} b (13 ∷ []) [])
 front_utf8 true = cr_utf8
 front_utf8 false = IsUtf8-nil
 
-front_chars : (b : Bool) → chars (cond {A = List ℕ} b (13 ∷ []) []) ≡ cond {A = List ℕ} b (13 ∷ []) []
+front_chars : (b : Bool)
+    → chars (cond {A = List ℕ} b (13 ∷ []) []) ≡ cond {A = List ℕ} b (13 ∷ []) []
 front_chars true = one_char
 front_chars false = none
 
-back_chars : (b : Bool) → chars (cond {A = List ℕ} b (10 ∷ []) []) ≡ cond {A = List ℕ} b (10 ∷ []) []
+back_chars : (b : Bool)
+    → chars (cond {A = List ℕ} b (10 ∷ []) []) ≡ cond {A = List ℕ} b (10 ∷ []) []
 back_chars true = one_lf
 back_chars false = none
 
 pub ended_chars : (has_cr has_lf : Bool) (text whole : List ℕ) → IsUtf8 text
-    → whole ≡ (cond {A = List ℕ} has_cr (13 ∷ []) [] ++ text) ++ cond {A = List ℕ} has_lf (10 ∷ []) []
+    → whole ≡ (cond {A = List ℕ} has_cr (13 ∷ []) [] ++ text)
+    ++ cond {A = List ℕ} has_lf (10 ∷ []) []
     → chars whole ≡ cond {A = List ℕ} has_cr (13 ∷ []) []
     ++ (chars text ++ cond {A = List ℕ} has_lf (10 ∷ []) [])
 ended_chars has_cr has_lf text whole utf8 is =

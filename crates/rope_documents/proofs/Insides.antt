@@ -108,7 +108,8 @@ module _ (text new : List ℕ) (i : ℕ) (same : take (i + 1) new ≡ take (i + 
 
   pub inside_same : (j : ℕ) → j ≤ i → is_inside_crlf new j ≡ is_inside_crlf text j
   inside_same j le =
-      let next : (t : List ℕ) → begins_with_lf (drop j t) ≡ begins_with_lf (drop j (take (j + 1) t)) =
+      let next : (t : List ℕ)
+      → begins_with_lf (drop j t) ≡ begins_with_lf (drop j (take (j + 1) t)) =
       λ t. sym (begins_take (drop j t)) ∙ ap begins_with_lf (sym (drop-take j 1 t)) in
       ap₂ (λ x y. x && y) (ap ends_in_cr (front_same j (omega arith)))
       (next new ∙ ap (λ t. begins_with_lf (drop j t)) (front_same (j + 1) (omega arith))

@@ -165,7 +165,8 @@ module _ (encoding : Encoding) (breaks : LineBreaks) (text : List ℕ) where
       let same = kept_front text end edits rest normal.1 left in
       let front : length (take end text) ≡ end = length-take-le end text (omega arith) in
       let back : drop end new ≡ run later (drop end text) =
-      ap (λ n. drop n new) (sym front) ∙ drop-append_seam (take end text) (run later (drop end text)) in
+      ap (λ n. drop n new) (sym front)
+      ∙ drop-append_seam (take end text) (run later (drop end text)) in
       let step : take at text ++ run (ops_of (e ∷ edits) rest) (drop at text)
       ≡ (take start text ++ e.text) ++ run later (drop end text) =
       ap (λ u. take at text ++ u) (step_runs e.kept e.text e.deleted later (drop at text))
@@ -228,7 +229,8 @@ module _ (encoding : Encoding) (breaks : LineBreaks) (text : List ℕ) where
       let left : end + len_before (ops_of edits rest) ≡ length text = omega arith in
       let tail = apart_normal edits normal.1 in
       let is = sent_changes end edits rest tail left in
-      let same : take (end + 1) (all_changed encoding breaks text (sent encoding breaks text end edits))
+      let same : take (end + 1)
+      (all_changed encoding breaks text (sent encoding breaks text end edits))
       ≡ take (end + 1) text =
       ap (take (end + 1)) is ∙ kept_front text end edits rest normal.1 left in
       let new = all_changed encoding breaks text (sent encoding breaks text end edits) in

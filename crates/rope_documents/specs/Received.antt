@@ -1,4 +1,5 @@
--- Changes of a document in the order in which they were sent, each one of the text that the one before it left.
+-- Changes of a document in the order in which they were sent, each one of the text that the one
+-- before it left.
 use Rattle.std.specs.Prelude.{ℕ, ◌+◌, ◌^◌, List, [], ◌∷◌, length, nat_lt, Option, Some, None, if◌then◌else◌}
 use Rattle.std.specs.Cow.{cow_str_bytes}
 use Rattle.std.specs.List.{replace_range}
@@ -16,7 +17,8 @@ use Rattle.rope_documents.specs.declared.content_change.ContentChange.{ContentCh
 use Rattle.rope_documents.specs.declared.error.DocumentError.{DocumentError}
 use Rattle.rope_documents.specs.declared.error.DocumentError.TheVariants.{RangeInvalid, TooLong}
 
--- a change of a document: the range that is replaced, or none for the whole text, and the text in its place
+-- a change of a document: the range that is replaced, or none for the whole text, and the text in
+-- its place
 pub record TextChange : Type 0 where
   pub range : Option Range
   pub text : List ℕ
@@ -36,7 +38,8 @@ end_char encoding breaks text (Some range) = clamped_char encoding breaks text r
 -- the text after a change
 abbrev pub changed : Encoding → LineBreaks → List ℕ → TextChange → List ℕ
 changed encoding breaks text c =
-    replace_range text (first_char encoding breaks text c.range) (end_char encoding breaks text c.range) c.text
+    replace_range text (first_char encoding breaks text c.range)
+    (end_char encoding breaks text c.range) c.text
 
 -- the text after changes, one after the other
 abbrev pub all_changed : Encoding → LineBreaks → List ℕ → List TextChange → List ℕ
@@ -47,7 +50,8 @@ all_changed encoding breaks text (c ∷ changes) =
 -- a change of a document as a change of characters
 abbrev pub one_change : Encoding → LineBreaks → List ℕ → TextChange → Change
 one_change encoding breaks text c =
-    replaced (unchanged (length text)) (first_char encoding breaks text c.range) (end_char encoding breaks text c.range) c.text
+    replaced (unchanged (length text)) (first_char encoding breaks text c.range)
+    (end_char encoding breaks text c.range) c.text
 
 -- changes, one after the other, as one change of characters in normal form
 abbrev pub all_composed : Encoding → LineBreaks → List ℕ → List TextChange → List Op
@@ -66,7 +70,8 @@ or_next None next = next
 abbrev pub range_error : Encoding → LineBreaks → List ℕ → Option Range → Option DocumentError
 range_error encoding breaks text None = None
 range_error encoding breaks text (Some range) =
-    if nat_lt (clamped_char encoding breaks text range.end) (clamped_char encoding breaks text range.start)
+    if nat_lt (clamped_char encoding breaks text range.end)
+    (clamped_char encoding breaks text range.start)
     then Some (RangeInvalid range.start range.end) else None
 
 -- more bytes than a text may have
@@ -76,7 +81,8 @@ size_error bytes = if nat_lt bytes (2 ^ 63) then None else Some TooLong
 -- why a change is refused, where there is memory: its range comes before its size
 abbrev pub change_error : Encoding → LineBreaks → List ℕ → TextChange → Option DocumentError
 change_error encoding breaks text c =
-    or_next (range_error encoding breaks text c.range) (size_error (byte_len text + byte_len c.text))
+    or_next (range_error encoding breaks text c.range)
+    (size_error (byte_len text + byte_len c.text))
 
 -- the error of the first change that is refused
 abbrev pub first_error : Encoding → LineBreaks → List ℕ → List TextChange → Option DocumentError

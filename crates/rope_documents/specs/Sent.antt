@@ -1,11 +1,14 @@
 -- The changes that a peer is sent for a change of characters.
-use Rattle.std.specs.Prelude.{ℕ, ◌+◌, ◌-◌, Bool, List, [], ◌∷◌, ◌++◌, take, drop, Some, if◌then◌else◌}
+use Rattle.std.specs.Prelude.{ℕ, ◌+◌, ◌-◌, Bool, true, false, ◌||◌, List, [], ◌∷◌, ◌++◌, take, drop, Some, if◌then◌else◌}
+use Rattle.std.specs.declared.borrow.CowStr.{CowStr}
+use Rattle.std.specs.declared.borrow.CowStr.TheVariants.{Borrowed, Owned}
 use Rattle.rope_text.specs.declared.line_breaks.LineBreaks.{LineBreaks}
 use Rattle.rope_text.specs.Cutting.{parts_crlf}
 use Rattle.rope_text.specs.Text.{byte_len}
 use Rattle.rope_position.specs.declared.encoding.Encoding.{Encoding}
 use Rattle.rope_position.specs.Encodings.{position_in}
 use Rattle.rope_changes.specs.Change.{Edit}
+use Rattle.rope_documents.specs.declared.content_change.ContentChange.{ContentChange}
 use Rattle.rope_documents.specs.Received.{TextChange}
 
 -- whether CR stands before the character i and LF at it
@@ -37,12 +40,29 @@ sent_change encoding breaks text start end new =
       text = cr_before text start ++ (new ++ lf_after text end);
     }
 
--- what a peer is sent for replacements, of which the first keeps characters from `at` on: the last one comes first
+-- what `make` returns for the start, the end and the text of each replacement, from the last one to
+-- the first; the replacement before them ends at the character `at`
+abbrev pub from_last : {A : Type 0} → (ℕ → ℕ → List ℕ → A) → ℕ → List Edit → List A
+from_last make at [] = []
+from_last make at (e ∷ edits) =
+    from_last make (at + e.kept + e.deleted) edits
+    ++ make (at + e.kept) (at + e.kept + e.deleted) e.text ∷ []
+
+-- what a peer is sent for replacements
 abbrev pub sent : Encoding → LineBreaks → List ℕ → ℕ → List Edit → List TextChange
-sent encoding breaks text at [] = []
-sent encoding breaks text at (e ∷ edits) =
-    sent encoding breaks text (at + e.kept + e.deleted) edits
-    ++ sent_change encoding breaks text (at + e.kept) (at + e.kept + e.deleted) e.text ∷ []
+sent encoding breaks text at edits = from_last (sent_change encoding breaks text) at edits
+
+-- whether a replacement starts or ends between CR and LF, so that its text is sent with them
+abbrev pub is_widened : List ℕ → ℕ → ℕ → List ℕ → Bool
+is_widened text start end new = is_inside_crlf text start || is_inside_crlf text end
+
+-- whether the text of a change is a copy
+abbrev pub is_owned : {A : Type 0} → CowStr A → Bool
+is_owned (Borrowed text) = false
+is_owned (Owned text) = true
+
+abbrev pub is_copy : ContentChange → Bool
+is_copy c = is_owned c.text
 
 -- the number of bytes of their texts
 abbrev pub text_bytes : List TextChange → ℕ

@@ -1,6 +1,6 @@
 //! The list of content changes that leads a peer from the text before a change to the text after
 //! it.
-ghost use Rattle.std.specs.Prelude.{◌≡◌, ◌≢◌, ◌+◌, ◌<◌, ◌≤◌, ◌^◌, [], ◌∷◌, ◌++◌, false, length, map, None, IsTrue, IsOk, IfOk, IfErr, if◌then◌else◌};
+ghost use Rattle.std.specs.Prelude.{◌≡◌, ◌≢◌, ◌+◌, ◌<◌, ◌≤◌, ◌^◌, [], ◌∷◌, ◌++◌, ◌||◌, false, length, map, None, IsTrue, IsOk, IfOk, IfErr, if◌then◌else◌};
 ghost use Rattle.std.specs.Cow.{cow_str_bytes};
 ghost use Rattle.std.specs.Str.{chars};
 ghost use Rattle.rope_text.specs.Text.{byte_len};
@@ -9,7 +9,7 @@ ghost use Rattle.rope_changes.specs.Ops.{run};
 ghost use Rattle.rope_documents.specs.declared.error.DocumentError.TheVariants.{LengthDiffers, OutOfMemory};
 ghost use Rattle.rope_documents.specs.Received.{text_change, all_changed, first_error};
 ghost use Rattle.rope_documents.specs.Sent as of_sent;
-ghost use Rattle.rope_documents.specs.Sent.{sent_change, sent, text_bytes};
+ghost use Rattle.rope_documents.specs.Sent.{from_last, is_copy, is_owned, is_widened, sent_change, sent, text_bytes};
 
 use crate::content_change::{ContentChange, Range};
 use crate::error::DocumentError;
@@ -39,7 +39,9 @@ fn with_ends<'a>(
     has_lf: bool,
 ) -> Result<CowStr<'a>, AllocError>
     ensures text { IfOk result (λ whole. chars (cow_str_bytes whole)
-        ≡ (if has_cr then 13 ∷ [] else []) ++ (chars text.now ++ (if has_lf then 10 ∷ [] else []))) }
+        ≡ (if has_cr then 13 ∷ [] else [])
+        ++ (chars text.now ++ (if has_lf then 10 ∷ [] else []))) }
+    ensures copied { IfOk result (λ whole. is_owned whole ≡ (has_cr || has_lf)) }
     ensures borrowed { has_cr ≡ false → has_lf ≡ false → IsOk result }
 {
     if !has_cr && !has_lf {
@@ -65,8 +67,10 @@ fn content_change<'a>(
 ) -> Result<ContentChange<'a>, AllocError>
     requires ordered { edit.now.start ≤ edit.now.end }
     requires within { edit.now.end ≤ length rope.now.text }
-    ensures { IfOk result (λ made. text_change made ≡ sent_change encoding rope.now.breaks
+    ensures made { IfOk result (λ made. text_change made ≡ sent_change encoding rope.now.breaks
         rope.now.text edit.now.start edit.now.end (chars edit.now.text.now)) }
+    ensures copied { IfOk result (λ made. is_copy made
+        ≡ is_widened rope.now.text edit.now.start edit.now.end (chars edit.now.text.now)) }
 {
     let has_cr = is_inside_crlf(rope, edit.start);
     let has_lf = is_inside_crlf(rope, edit.end);
@@ -110,6 +114,8 @@ pub fn to_content_changes<'a>(
         → IsOk result }
     ensures list { IfOk result (λ changes. map text_change changes.items
         ≡ sent encoding rope.now.breaks rope.now.text 0 change.now.edits) }
+    ensures copies { IfOk result (λ changes. map is_copy changes.items
+        ≡ from_last (is_widened rope.now.text) 0 change.now.edits) }
     ensures leads { IfOk result (λ changes.
         all_changed encoding rope.now.breaks rope.now.text (map text_change changes.items)
         ≡ run (ops change.now) rope.now.text) }

@@ -19,7 +19,8 @@ use Rattle.rope_documents.proofs.apply.splice.Goals as goal
 
 pub returns-then-text-len_bytes-clause-error : goal.returns-then-text-len_bytes-clause-error
 returns-then-text-len_bytes-clause-error c =
-    let big : ltb (byte_len c.args.rope.now.text + byte_len (chars c.args.text.now)) (2 ^ 63) ≡ false =
+    let big : ltb (byte_len c.args.rope.now.text + byte_len (chars c.args.text.now)) (2 ^ 63)
+    ≡ false =
     le-ltb _ _ (omega (
       arith,
       c.if-text-len_bytes.true,
@@ -30,7 +31,8 @@ returns-then-text-len_bytes-clause-error c =
 
 pub returns-clause-valid : goal.returns-clause-valid
 returns-clause-valid c =
-    let small : ltb (byte_len c.args.rope.now.text + byte_len (chars c.args.text.now)) (2 ^ 63) ≡ true =
+    let small : ltb (byte_len c.args.rope.now.text + byte_len (chars c.args.text.now)) (2 ^ 63)
+    ≡ true =
     lt-ltb _ _ (omega (
       arith,
       c.if-text-len_bytes.false,
@@ -51,12 +53,14 @@ text_is c =
     ∙ spliced_is c.args.rope.now.text c.args.range.start c.args.range.end (chars c.args.text.now)
     c.requires.ordered c.requires.within
 
-made_is : (c : Else-is_err-3) → c.replace.new.self ≡ replaced (unchanged (length c.args.rope.now.text))
+made_is : (c : Else-is_err-3) → c.replace.new.self
+    ≡ replaced (unchanged (length c.args.rope.now.text))
     c.args.range.start c.args.range.end (chars c.args.text.now)
 made_is c =
     let made : c.replace.new.self ≡ replaced c.unchanged-change.result
     c.args.range.start c.args.range.end (chars c.args.text.now) = search rules in
-    made ∙ ap (λ (x : Change). replaced x c.args.range.start c.args.range.end (chars c.args.text.now))
+    made
+    ∙ ap (λ (x : Change). replaced x c.args.range.start c.args.range.end (chars c.args.text.now))
     c.unchanged-change.ensures.made
 
 len_before_is : (c : Else-is_err-3) → before c.replace.new.self ≡ length c.args.rope.now.text
@@ -64,7 +68,8 @@ len_before_is c =
     c.replace.ensures.len_before ∙ ap (λ (x : Change). before x) c.unchanged-change.ensures.made
     ∙ unchanged_before (length c.args.rope.now.text)
 
-applies : (c : Else-is_err-3) → run (ops c.replace.new.self) c.args.rope.now.text ≡ c.insert.new.self.text
+applies : (c : Else-is_err-3)
+    → run (ops c.replace.new.self) c.args.rope.now.text ≡ c.insert.new.self.text
 applies c =
     ap (λ (x : Change). run (ops x) c.args.rope.now.text) (made_is c)
     ∙ one_runs c.args.rope.now.text c.args.range.start c.args.range.end (chars c.args.text.now)

@@ -1,14 +1,15 @@
 -- Each turn adds the change of one replacement.
-use Rattle.std.proofs.Common.{◌≡◌, ◌+◌, [], ◌∷◌, ◌++◌, length, ap, sym, ◌∙◌, arith, rules}
+use Rattle.std.proofs.Common.{◌≡◌, ℕ, ◌+◌, List, [], ◌∷◌, ◌++◌, length, ap, sym, ◌∙◌, arith, rules}
 use Rattle.std.specs.Prelude.{map, reverse}
 use Rattle.std.specs.Str.{chars}
 use Rattle.rope_changes.specs.Ops.{run, len_before}
 use Rattle.rope_changes.specs.Change.{ops_of}
 use Rattle.rope_changes.specs.Listed.{IsNext}
 use Rattle.rope_changes.proofs.Runs.{run_kept}
+use Rattle.rope_documents.specs.declared.content_change.ContentChange.{ContentChange}
 use Rattle.rope_documents.specs.Received.{text_change, all_changed, first_error}
-use Rattle.rope_documents.specs.Sent.{sent_change, sent, text_bytes}
-use Rattle.rope_documents.proofs.Listed.{list_next, map_reverse, next_sent, next_within}
+use Rattle.rope_documents.specs.Sent.{from_last, is_copy, is_widened, sent_change, sent, text_bytes}
+use Rattle.rope_documents.proofs.Listed.{list_next, map_reverse, next_made, next_within}
 use Rattle.rope_documents.proofs.Sending.{all_accepted, sent_changes}
 use Rattle.rope_documents.proofs.send.to_content_changes.Goals.{In-Some, After-reverse}
 use Rattle.rope_documents.proofs.send.to_content_changes.Goals as goal
@@ -41,38 +42,62 @@ pub loop-edit-preserved : goal.loop-edit-preserved
 loop-edit-preserved c =
     let e = (goal.at.loop-edit-preserved c).In-Some in
     let text = c.args.rope.now.text in
-    let breaks = c.args.rope.now.breaks in
+    let make = sent_change c.args.encoding c.args.rope.now.breaks text in
     let old = c.loop-edit.edits in
     let new = c.next.new.self in
     let pushed : c.push.new.self.items ≡ c.loop-edit.changes.items ++ c.in-Ok.content ∷ [] =
     search rules in
     record {
-      list = list_next (sent c.args.encoding breaks text old.end old.edits)
-          (sent c.args.encoding breaks text new.end new.edits)
-          (sent_change c.args.encoding breaks text c.in-Some.edit.start c.in-Some.edit.end
-          (chars c.in-Some.edit.text.now))
-          c.loop-edit.changes.items c.push.new.self.items c.in-Ok.content c.in-Ok.ensures
-          (next_sent old new c.in-Some.edit (next e) c.args.encoding breaks text) pushed
-          ∙ c.loop-edit.invariant.list;
+      list = list_next text_change (from_last make old.end old.edits)
+          (from_last make new.end new.edits)
+          (make c.in-Some.edit.start c.in-Some.edit.end (chars c.in-Some.edit.text.now))
+          c.loop-edit.changes.items c.push.new.self.items c.in-Ok.content c.in-Ok.ensures.made
+          (next_made old new c.in-Some.edit (next e) make) pushed ∙ c.loop-edit.invariant.list;
+      copies = list_next is_copy (from_last (is_widened text) old.end old.edits)
+          (from_last (is_widened text) new.end new.edits)
+          (is_widened text c.in-Some.edit.start c.in-Some.edit.end (chars c.in-Some.edit.text.now))
+          c.loop-edit.changes.items c.push.new.self.items c.in-Ok.content c.in-Ok.ensures.copied
+          (next_made old new c.in-Some.edit (next e) (is_widened text)) pushed
+          ∙ c.loop-edit.invariant.copies;
       within = within e;
     }
+
+-- nothing is left of the replacements
+turned : (c : After-reverse) {A : Type 0} (shows : ContentChange → A)
+    (make : ℕ → ℕ → List ℕ → A) → from_last make c.loop-edit.edits.end c.loop-edit.edits.edits
+    ++ reverse (map shows c.loop-edit.changes.items) ≡ from_last make 0 c.args.change.now.edits
+    → map shows c.reverse.new.self.items ≡ from_last make 0 c.args.change.now.edits
+turned c shows make kept =
+    let none : c.loop-edit.edits.edits ≡ [] = search rules in
+    let items = c.loop-edit.changes.items in
+    ap (map shows) c.reverse.ensures.items ∙ map_reverse shows items
+    ∙ sym (ap (λ es. from_last make c.loop-edit.edits.end es ++ reverse (map shows items)) none)
+    ∙ kept
 
 list_is : (c : After-reverse) → map text_change c.reverse.new.self.items
     ≡ sent c.args.encoding c.args.rope.now.breaks c.args.rope.now.text 0 c.args.change.now.edits
 list_is c =
-    let none : c.loop-edit.edits.edits ≡ [] = search rules in
-    let items = c.loop-edit.changes.items in
-    ap (map text_change) c.reverse.ensures.items ∙ map_reverse text_change items
-    ∙ sym (ap (λ es. sent c.args.encoding c.args.rope.now.breaks c.args.rope.now.text
-    c.loop-edit.edits.end es ++ reverse (map text_change items)) none)
-    ∙ c.loop-edit.invariant.list
+    turned c text_change
+    (sent_change c.args.encoding c.args.rope.now.breaks c.args.rope.now.text)
+    c.loop-edit.invariant.list
 
 fits : (c : After-reverse)
-    → 0 + len_before (ops_of c.args.change.now.edits c.args.change.now.rest) ≡ length c.args.rope.now.text
-fits c = omega (arith, c.if-len-len_before.false, c.len_before.ensures, c.len_chars-len.ensures.value)
+    → 0 + len_before (ops_of c.args.change.now.edits c.args.change.now.rest)
+    ≡ length c.args.rope.now.text
+fits c =
+    omega (
+      arith,
+      c.if-len-len_before.false,
+      c.len_before.ensures,
+      c.len_chars-len.ensures.value,
+    )
 
 pub returns-clause-list : goal.returns-clause-list
 returns-clause-list c = list_is c
+
+pub returns-clause-copies : goal.returns-clause-copies
+returns-clause-copies c =
+    turned c is_copy (is_widened c.args.rope.now.text) c.loop-edit.invariant.copies
 
 pub returns-clause-leads : goal.returns-clause-leads
 returns-clause-leads c =

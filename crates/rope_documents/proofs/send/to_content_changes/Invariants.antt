@@ -4,7 +4,7 @@ use Rattle.std.specs.Prelude.{map, reverse}
 use Rattle.rope_changes.specs.Ops.{len_before}
 use Rattle.rope_changes.specs.Change.{ops_of}
 use Rattle.rope_documents.specs.Received.{text_change}
-use Rattle.rope_documents.specs.Sent.{sent}
+use Rattle.rope_documents.specs.Sent.{from_last, is_copy, is_widened, sent}
 use Rattle.rope_documents.proofs.send.to_content_changes.Given as goal
 
 abbrev pub invariant-loop-edit : goal.invariant-loop-edit
@@ -12,6 +12,9 @@ invariant-loop-edit l = record {
   list : sent l.encoding l.rope.breaks l.rope.text l.edits.end l.edits.edits
       ++ reverse (map text_change l.changes.items)
       ≡ sent l.encoding l.rope.breaks l.rope.text 0 l.change.edits;
+  copies : from_last (is_widened l.rope.text) l.edits.end l.edits.edits
+      ++ reverse (map is_copy l.changes.items)
+      ≡ from_last (is_widened l.rope.text) 0 l.change.edits;
   within : l.edits.end + len_before (ops_of l.edits.edits l.change.rest) ≡ length l.rope.text;
 }
 

@@ -29,7 +29,8 @@ returns-clause-text c =
           (sym (ap (λ b. cond {A = List ℕ} b (10 ∷ []) []) w.if-has_lf.false))
     ] in
     let bytes : string_bytes c.if-has_lf.whole ≡ (cr ++ c.args.text.now) ++ lf =
-    back ∙ ap (λ b. b ++ lf) (c.in_ok-push_str-2.ensures.bytes ∙ ap (λ b. b ++ c.args.text.now) front)
+    back ∙ ap (λ b. b ++ lf)
+    (c.in_ok-push_str-2.ensures.bytes ∙ ap (λ b. b ++ c.args.text.now) front)
     in
-    ended_chars c.args.has_cr c.args.has_lf c.args.text.now (string_bytes c.if-has_lf.whole) c.utf8.text
-    bytes
+    ended_chars c.args.has_cr c.args.has_lf c.args.text.now (string_bytes c.if-has_lf.whole)
+    c.utf8.text bytes
