@@ -1,5 +1,5 @@
-//! Every public item of `ropey`, `rope_position`, `rope_script`, `rope_language` and
-//! `rope_changes`, used under its name, with its arguments in their order and with its types.
+//! Every public item of `ropey`, `rope_position`, `rope_script`, `rope_language`, `rope_changes`
+//! and `rope_documents`, used under its name, with its arguments in their order and with its types.
 //!
 //! This crate fails to compile if an item is renamed or dropped, if a call takes an argument more
 //! or less, or if an argument, a field or a result has another type. Where two of them have the
@@ -20,12 +20,14 @@
 //! - `positions`: positions in lines
 //! - `commands`: commands, replies, and the line language
 //! - `changes`: changes as values, the laws of changes
+//! - `documents`: content changes of a language server
 #![tactic(auto)]
 
 pub mod changes;
 pub mod commands;
 pub mod cursors;
 pub mod devices;
+pub mod documents;
 pub mod edits;
 pub mod errors;
 pub mod positions;
