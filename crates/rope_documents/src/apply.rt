@@ -131,8 +131,8 @@ fn apply_one(
 }
 
 // Applies changes to a rope, each to the text that the one before it left. A call that fails may
-// leave some of them applied. The changes are composed in pairs, so that each is read once for
-// each doubling of their number.
+// leave some of them applied. Both halves of the list are composed, so each change is read log n
+// times, not n times.
 fn apply_all(
     alloc: Global,
     rope: &mut Rope,
@@ -170,10 +170,10 @@ fn apply_all(
     }
 }
 
-/// Replaces text of a document as a list of content changes says, each in the text that the one
-/// before it left, and returns the change of all of them. The positions' columns count an
-/// encoding's code units. They are read as
-/// [`clamped_position_to_char`](Positions::clamped_position_to_char) reads them, so no position is
+/// Applies a list of content changes to a document, each to the text that the one before it left,
+/// and returns the change of all of them. A change without a range replaces the whole text. The
+/// columns of positions count an encoding's code units. Positions are read as
+/// [`clamped_position_to_char`](Positions::clamped_position_to_char) reads them, so none is
 /// refused. The set of line breaks stays, and an empty list takes no memory.
 ///
 /// # Errors

@@ -19,10 +19,10 @@
 //! `LineBreaks::CrLf`. What is proved holds for any set of line breaks that both sides have.
 //!
 //! `apply_content_changes` takes memory for the nodes of the rope that it edits and for the change,
-//! and time for two edits of the rope per content change. The changes of n content changes are
-//! composed in pairs, so each of them is read some log n times. `to_content_changes` takes memory
-//! for the list, and for the texts of the replacements that start or end in a CR LF; other texts
-//! are borrowed from the change. It costs some ten lookups per replacement.
+//! and time for two edits and some lookups of the rope per content change. The n changes of a list
+//! are composed in halves, so each of them is read some log n times. `to_content_changes` takes
+//! memory for the list, and for the texts of the replacements that start or end between a CR and
+//! its LF; other texts are borrowed from the change. It costs some ten lookups per replacement.
 //!
 //! Modules, lowest first:
 //! - `content_change`: a change as the protocol sends it

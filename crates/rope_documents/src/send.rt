@@ -47,7 +47,7 @@ fn with_ends<'a>(
     if !has_cr && !has_lf {
         return Ok(CowStr::Borrowed(text));
     }
-    let mut whole = String::new(alloc);
+    let mut whole = String::with_capacity(alloc, text.len().saturating_add(2))?;
     if has_cr {
         whole.push_str("\r")?;
     }
@@ -93,8 +93,8 @@ fn content_change<'a>(
 ///
 /// A replacement that starts or ends between the CR and the LF of one line break is sent as one of
 /// the whole break, since no position lies there. Its text is then a copy, with the CR or the LF.
-/// Other texts are borrowed from the change. The peer refuses the list for no range, and for no
-/// size if the text before and the texts of the list have at most `isize::MAX` bytes together.
+/// Other texts are borrowed from the change. The list has no invalid range, and no change of it is
+/// too long if the text before and the texts of the list have at most `isize::MAX` bytes together.
 ///
 /// # Errors
 ///

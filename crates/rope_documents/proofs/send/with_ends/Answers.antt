@@ -11,10 +11,10 @@ returns-clause-text c =
     let front : string_bytes c.if-has_cr.whole ≡ cr = elim c.if-has_cr.branch [
       | then-has_cr+in_ok-push_str w ↦
           ap string_bytes w.whole-is ∙ w.in_ok-push_str.ensures.bytes
-          ∙ ap (λ b. b ++ 13 ∷ []) c.new-whole.ensures.bytes
+          ∙ ap (λ b. b ++ 13 ∷ []) c.in_ok-whole.ensures.bytes
           ∙ sym (ap (λ b. cond {A = List ℕ} b (13 ∷ []) []) w.if-has_cr.true)
       | else-has_cr w ↦
-          ap string_bytes w.whole-is ∙ c.new-whole.ensures.bytes
+          ap string_bytes w.whole-is ∙ c.in_ok-whole.ensures.bytes
           ∙ sym (ap (λ b. cond {A = List ℕ} b (13 ∷ []) []) w.if-has_cr.false)
     ] in
     let back : string_bytes c.if-has_lf.whole ≡ string_bytes c.push_str-2.new.self ++ lf =
