@@ -1,5 +1,6 @@
-//! Every public item of `ropey`, `rope_position`, `rope_script`, `rope_language`, `rope_changes`
-//! and `rope_history`, used under its name, with its arguments in their order and with its types.
+//! Every public item of `ropey`, `rope_position`, `rope_script`, `rope_language`, `rope_changes`,
+//! `rope_history` and `rope_documents`, used under its name, with its arguments in their order and
+//! with its types.
 //!
 //! This crate fails to compile if an item is renamed or dropped, if a call takes an argument more
 //! or less, or if an argument, a field or a result has another type. Where two of them have the
@@ -21,12 +22,14 @@
 //! - `commands`: commands, replies, and the line language
 //! - `changes`: changes as values, the laws of changes
 //! - `history`: histories of a text, and marks
+//! - `documents`: content changes of a language server
 #![tactic(auto)]
 
 pub mod changes;
 pub mod commands;
 pub mod cursors;
 pub mod devices;
+pub mod documents;
 pub mod edits;
 pub mod errors;
 pub mod history;

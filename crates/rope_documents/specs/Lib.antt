@@ -1,0 +1,4 @@
+pub mod Received
+pub mod Sent
+pub mod ErrorText
+pub mod Laws
