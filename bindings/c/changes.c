@@ -53,12 +53,14 @@ static void forget(list *drawn) {
     }
 }
 
-/* The text after the edits. */
+/* The text after the edits. One that changes nothing may lie before the one that it follows. */
 static model edited(const list *drawn, const model *text) {
     model after = part_of(text, 0, text->len);
     for (size_t i = drawn->count; i-- > 0;) {
         const model *new = &drawn->texts[i];
-        model_replace(&after, drawn->edits[i].start, drawn->edits[i].end, new->chars, new->len);
+        if (drawn->edits[i].start < drawn->edits[i].end || new->len > 0) {
+            model_replace(&after, drawn->edits[i].start, drawn->edits[i].end, new->chars, new->len);
+        }
     }
     return after;
 }
