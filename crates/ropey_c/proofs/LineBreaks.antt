@@ -15,11 +15,16 @@ at_most true true false n one two = one refl
 at_most true true true n one two = two refl
 
 pub break_within : (breaks : LineBreaks) (text : List ℕ) → last_break_len breaks text ≤ length text
-break_within breaks [] = at_most (ends_in_break breaks []) (is_break_char breaks 13) (ends_in_crlf []) 0 (λ ends. absurd (cc)) (λ crlf. absurd (cc))
+break_within breaks [] = at_most (ends_in_break breaks []) (is_break_char breaks 13)
+    (ends_in_crlf []) 0 (λ ends. absurd (cc)) (λ crlf. absurd (cc))
 break_within breaks (c ∷ []) =
-    at_most (ends_in_break breaks (c ∷ [])) (is_break_char breaks 13) (ends_in_crlf (c ∷ [])) 1 (λ _. omega arith) (λ crlf. let none = too_short (c ∷ []) (omega arith) in absurd (cc))
+    at_most (ends_in_break breaks (c ∷ [])) (is_break_char breaks 13) (ends_in_crlf (c ∷ [])) 1
+    (λ _. omega arith) (λ crlf. let none = too_short (c ∷ []) (omega arith) in absurd (cc))
 break_within breaks (c ∷ d ∷ text) =
-    at_most (ends_in_break breaks (c ∷ d ∷ text)) (is_break_char breaks 13) (ends_in_crlf (c ∷ d ∷ text)) (length (c ∷ d ∷ text)) (λ _. omega arith) (λ _. omega arith)
+    at_most (ends_in_break breaks (c ∷ d ∷ text)) (is_break_char breaks 13)
+    (ends_in_crlf (c ∷ d ∷ text)) (length (c ∷ d ∷ text)) (λ _. omega arith) (λ _. omega arith)
 
-pub last_part : (breaks : LineBreaks) (text : List ℕ) → length (slice_range text (length text - last_break_len breaks text) (length text)) ≡ last_break_len breaks text
+pub last_part : (breaks : LineBreaks) (text : List ℕ) → length
+    (slice_range text (length text - last_break_len breaks text) (length text)) ≡ last_break_len
+    breaks text
 last_part breaks text = simp (length-take, length-drop) (omega (arith, break_within breaks text))

@@ -69,7 +69,8 @@ abbrev pub FindsLineBreak : Option RopeView → ℕ → ℕ → ℕ → ℕ → 
 FindsLineBreak None i status old new = (status ≡ NO_ROPE_HELD) × (new ≡ old)
 FindsLineBreak (Some rope) i status old new =
     (line_count rope.breaks rope.text ≤ i → (status ≡ LINE_INDEX_OUT_OF_BOUNDS) × (new ≡ old))
-    × (i < line_count rope.breaks rope.text → (status ≡ OK) × (new ≡ last_break_len rope.breaks (line rope.breaks rope.text i)))
+    × (i < line_count rope.breaks rope.text
+    → (status ≡ OK) × (new ≡ last_break_len rope.breaks (line rope.breaks rope.text i)))
 
 -- a chunk as C sees it: the bytes that it lends are those of its text, and what lies before it
 pub record IsChunk (text : List ℕ) (bytes chars breaks : ℕ) (chunk : Chunk) : Type 0 where

@@ -31,9 +31,16 @@ pub record Listed : Type 0 where
   pub bytes : List ℕ
 
 abbrev pub shown_of : Replacement → Listed
-shown_of r = record { start = r.start; end = r.end; new_start = r.new_start; new_end = r.new_end; bytes = r.text.now }
+shown_of r = record {
+  start = r.start;
+  end = r.end;
+  new_start = r.new_start;
+  new_end = r.new_end;
+  bytes = r.text.now;
+}
 
--- replacements in order, after those that end at `end` in the text before and at `new_end` in the text after
+-- replacements in order, after those that end at `end` in the text before and at `new_end` in the
+-- text after
 abbrev pub listed : ℕ → ℕ → List change.Edit → List Listed
 listed end new_end [] = []
 listed end new_end (e ∷ edits) =
@@ -46,7 +53,8 @@ listed end new_end (e ∷ edits) =
     }
     ∷ listed (end + e.kept + e.deleted) (new_end + e.kept + length e.text) edits
 
--- the replacements are written to the front of a list as far as there is room, and the rest of it stays; they are counted
+-- the replacements are written to the front of a list as far as there is room, and the rest of it
+-- stays; they are counted
 pub record Lists (edits : List change.Edit) (old new : List Replacement) (count : ℕ) : Type 0 where
   pub count_is : count ≡ length edits
   pub written : map shown_of (take count new) ≡ take (length old) (listed 0 0 edits)
@@ -54,5 +62,6 @@ pub record Lists (edits : List change.Edit) (old new : List Replacement) (count 
   pub room : length new ≡ length old
 
 abbrev pub ListsAt : Option Change → ℕ → List Replacement → List Replacement → ℕ → ℕ → Type 0
-ListsAt None status old new count_old count = (status ≡ NO_CHANGES_HELD) × (new ≡ old) × (count ≡ count_old)
+ListsAt None status old new count_old count =
+    (status ≡ NO_CHANGES_HELD) × (new ≡ old) × (count ≡ count_old)
 ListsAt (Some c) status old new count_old count = (status ≡ OK) × Lists c.edits old new count

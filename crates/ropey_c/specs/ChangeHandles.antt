@@ -27,4 +27,5 @@ changes_lent_for p changes κ = fsep (lent_at the_row p changes κ) (lasts κ)
 -- no changes at null, and otherwise changes that are lent
 abbrev pub changes_lent : Ptr → Option Change → Fml
 changes_lent p None = feq Ptr p null_ptr
-changes_lent p (Some changes) = fsep (fex (Testable p) (λ _. ftrue)) (fex Lft (changes_lent_for p changes))
+changes_lent p (Some changes) = fsep (fex (Testable p) (λ _. ftrue))
+    (fex Lft (changes_lent_for p changes))

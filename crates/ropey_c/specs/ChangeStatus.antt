@@ -23,9 +23,11 @@ status_of_change OutOfMemory = OUT_OF_MEMORY
 
 -- the side that a number stands for
 abbrev pub given_side : ℕ → Option Side
-given_side number = if number == BEFORE then Some Before else if number == AFTER then Some After else None
+given_side number =
+    if number == BEFORE then Some Before else if number == AFTER then Some After else None
 
--- the status of a call that takes memory: that of the error that its arguments give, or else done or out of memory
+-- the status of a call that takes memory: that of the error of its arguments; without one the call
+-- is done, or out of memory
 abbrev pub IsChangeStatus : Option ChangeError → ℕ → Type 0
 IsChangeStatus (Some error) status = status ≡ status_of_change error
 IsChangeStatus None status = IsStatus None status
@@ -39,10 +41,13 @@ IsReplaceStatus c start end bytes status =
 -- the status of a change that is applied to a text
 pub record IsApplyStatus (c : Change) (text : List ℕ) (status : ℕ) : Type 0 where
   pub differs : length text ≢ before c → status ≡ LENGTHS_DIFFER
-  pub too_long : length text ≡ before c → 2 ^ 63 ≤ byte_len text + inserted_bytes c.edits → status ≡ TOO_LONG
-  pub memory : length text ≡ before c → byte_len text + inserted_bytes c.edits < 2 ^ 63 → IsStatus None status
+  pub too_long : length text ≡ before c → 2 ^ 63 ≤ byte_len text + inserted_bytes c.edits
+      → status ≡ TOO_LONG
+  pub memory : length text ≡ before c → byte_len text + inserted_bytes c.edits < 2 ^ 63
+      → IsStatus None status
 
--- the status of a change that is made of another one and of a text, or of two changes, which have to have one length
+-- the status of a call that makes a change of two values, one of which must have the length that
+-- the other is for
 pub record IsMadeStatus (expected len status : ℕ) : Type 0 where
   pub differs : len ≢ expected → status ≡ LENGTHS_DIFFER
   pub memory : len ≡ expected → IsStatus None status

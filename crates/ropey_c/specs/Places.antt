@@ -22,19 +22,26 @@ PlacesAt (Some rope) found status old new = IsPlace (found rope) status old new
 -- the encoding that a number stands for
 abbrev pub given_encoding : ℕ → Option Encoding
 given_encoding number =
-    if number == UTF8 then Some Utf8 else if number == UTF16 then Some Utf16 else if number == UTF32 then Some Utf32 else None
+    if number == UTF8 then Some Utf8
+    else if number == UTF16 then Some Utf16
+    else if number == UTF32 then Some Utf32
+    else None
 
 -- a position, from its two numbers
 abbrev pub place_of : ℕ → ℕ → Position
 place_of line column = record { line = line; column = column }
 
 -- a position, or a value, in an encoding, if the number that was given stands for one
-abbrev pub PlacesIn : Option RopeView → Option Encoding → (Encoding → RopeView → Result Position Error) → ℕ → Place → Place → Type 0
+abbrev pub PlacesIn : Option RopeView → Option Encoding
+    → (Encoding → RopeView → Result Position Error) → ℕ → Place → Place → Type 0
 PlacesIn None encoding found status old new = (status ≡ NO_ROPE_HELD) × (new ≡ old)
 PlacesIn (Some rope) None found status old new = (status ≡ UNKNOWN_ENCODING) × (new ≡ old)
-PlacesIn (Some rope) (Some encoding) found status old new = IsPlace (found encoding rope) status old new
+PlacesIn (Some rope) (Some encoding) found status old new =
+    IsPlace (found encoding rope) status old new
 
-abbrev pub AnswersIn : Option RopeView → Option Encoding → (Encoding → RopeView → Result ℕ Error) → ℕ → ℕ → ℕ → Type 0
+abbrev pub AnswersIn : Option RopeView → Option Encoding
+    → (Encoding → RopeView → Result ℕ Error) → ℕ → ℕ → ℕ → Type 0
 AnswersIn None encoding found status old new = (status ≡ NO_ROPE_HELD) × (new ≡ old)
 AnswersIn (Some rope) None found status old new = (status ≡ UNKNOWN_ENCODING) × (new ≡ old)
-AnswersIn (Some rope) (Some encoding) found status old new = Answers (found encoding rope) status old new
+AnswersIn (Some rope) (Some encoding) found status old new =
+    Answers (found encoding rope) status old new

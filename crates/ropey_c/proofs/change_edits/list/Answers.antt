@@ -17,7 +17,9 @@ loop-edit-preserved c =
       | then-count-edits w ↦
           let e = w.shown.ensures in
           let is : shown_of w.shown.result ≡ shown_edit c.in-Some.edit = cc in
-          rw w.edits-is (next_written _ _ _ _ _ _ _ _ _ _ l.invariant (shown_edit c.in-Some.edit) splits one w.shown.result is w.if-count-edits.true)
+          rw w.edits-is (next_written _ _ _ _ _ _ _ _ _ _ l.invariant (shown_edit c.in-Some.edit)
+          splits one w.shown.result is w.if-count-edits.true)
       | else-count-edits w ↦
-          rw w.edits-is (next_passed _ _ _ _ _ _ _ _ _ _ l.invariant (shown_edit c.in-Some.edit) splits one w.if-count-edits.false)
+          rw w.edits-is (next_passed _ _ _ _ _ _ _ _ _ _ l.invariant (shown_edit c.in-Some.edit)
+          splits one w.if-count-edits.false)
     ]

@@ -14,7 +14,8 @@ loop-edit-preserved c =
     let fine = rw (done, c.text_of.ensures) at c.replace-status.ensures.status in
     record {
       built = l.invariant.built ∙ given_next l.changes all l.edit-index _ below _ made;
-      status = λ s rest. l.invariant.status s (status_next l.changes all l.edit-index _ below _ made s fine rest);
+      status = λ s rest. l.invariant.status s (status_next l.changes all l.edit-index _ below _ made
+          s fine rest);
     }
 
 pub returns-then-status-ne-OK-clause-status : goal.returns-then-status-ne-OK-clause-status
@@ -23,4 +24,5 @@ returns-then-status-ne-OK-clause-status c =
     let all = c.args.edits.now in
     let below : l.edit-index < length all = omega arith in
     let refused = rw c.text_of.ensures at c.replace-status.ensures.status in
-    l.invariant.status c.replace-status.result (status_here l.changes all l.edit-index _ below c.replace-status.result (omega (arith, c.if-status-ne-OK.true)) refused)
+    l.invariant.status c.replace-status.result (status_here l.changes all l.edit-index _ below
+    c.replace-status.result (omega (arith, c.if-status-ne-OK.true)) refused)

@@ -6,6 +6,8 @@ use Rattle.ropey_c.proofs.change_edits.replace_all.Given as goal
 
 abbrev pub invariant-loop-edit : goal.invariant-loop-edit
 invariant-loop-edit l = record {
-  built : built l.fn.changes (map edit_of l.edits) ≡ built l.changes (map edit_of (drop l.edit-index l.edits));
-  status : (s : ℕ) → IsEditsStatus l.changes (drop l.edit-index l.edits) s → IsEditsStatus l.fn.changes l.edits s;
+  built : built l.fn.changes (map edit_of l.edits) ≡ built l.changes
+      (map edit_of (drop l.edit-index l.edits));
+  status : (s : ℕ) → IsEditsStatus l.changes (drop l.edit-index l.edits) s →
+      IsEditsStatus l.fn.changes l.edits s;
 }

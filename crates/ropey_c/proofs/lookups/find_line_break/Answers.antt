@@ -14,7 +14,8 @@ returns c =
     let breaks_is : breaks_of c.line.result ≡ breaks = ap (λ x. x.breaks) c.line.ensures in
     let part = ap (λ x. length x.text) c.line_break.ensures in
     let len = last_part (breaks_of c.line.result) (text_of c.line.result) in
-    let same = ap (λ b. last_break_len b (text_of c.line.result)) breaks_is ∙ ap (last_break_len breaks) text_is in (
+    let same = ap (λ b. last_break_len b (text_of c.line.result)) breaks_is ∙
+    ap (last_break_len breaks) text_is in (
       λ past. absurd (omega (arith, past, c.if-line_idx-len_lines.false, c.len_lines.ensures)),
       λ _. (refl, c.len_chars.ensures ∙ part ∙ len ∙ same),
     )
