@@ -19,9 +19,10 @@ trap 'rm -rf "$work"' EXIT
 # A Rust type as C writes it. Slices are a pointer and a number, `Global` takes no bytes, and C's pieces have both parts of
 # their slice as fields.
 types='s/alloc: Global(, )?//; s/&'"'"'a /\&/g; s/<'"'"'(a|_)>//g; s/(pieces): &mut \[Piece\]/ropey_piece *\1, size_t room/; s/(lines): &mut \[Slice\]/ropey_slice *\1, size_t room/; s/(\w+): &mut Slice/ropey_slice *\1/g; s/(buffer): &mut \[u8\]/uint8_t *\1, size_t room/
-s/(\w+): &\[u8\]/const uint8_t *\1, size_t len/g; s/(\w+): &Lent/const ropey_rope *\1/g; s/(\w+): &mut Handle/ropey_rope *\1/g; s/(\w+): &mut BuilderHandle/ropey_builder *\1/g
+s/(\w+): &\[GivenEdit\]/const ropey_edit *\1, size_t count/g; s/(\w+): &mut \[Replacement\]/ropey_replacement *\1, size_t room/g
+s/(\w+): &\[u8\]/const uint8_t *\1, size_t len/g; s/(\w+): &LentChanges/const ropey_changes *\1/g; s/(\w+): &Lent/const ropey_rope *\1/g; s/(\w+): &mut Handle/ropey_rope *\1/g; s/(\w+): &mut BuilderHandle/ropey_builder *\1/g; s/(\w+): &mut ChangesHandle/ropey_changes *\1/g
 s/(\w+): &mut Span/ropey_range *\1/g; s/(\w+): &mut Place/ropey_place *\1/g; s/(\w+): &mut Chunk/ropey_chunk *\1/g; s/(\w+): &mut Counts/ropey_counts *\1/g
-s/(\w+): &mut usize/size_t *\1/g; s/(\w+): &mut u32/uint32_t *\1/g; s/(\w+): &mut u8/uint8_t *\1/g; s/(\w+): &mut i32/int32_t *\1/g; s/(\w+): &mut bool/bool *\1/g
+s/(\w+): &mut \[usize\]/size_t *\1, size_t count/g; s/(\w+): &mut usize/size_t *\1/g; s/(\w+): &mut u32/uint32_t *\1/g; s/(\w+): &mut u8/uint8_t *\1/g; s/(\w+): &mut i32/int32_t *\1/g; s/(\w+): &mut bool/bool *\1/g
 s/(\w+): usize/size_t \1/g; s/(\w+): u32/uint32_t \1/g; s/(\w+): u8/uint8_t \1/g; s/(\w+): i32/int32_t \1/g; s/(\w+): bool/bool \1/g'
 
 from_source() {
@@ -31,10 +32,10 @@ from_source() {
         sed -E "s/^pub extern \"C\" fn (\w+)(<'a>)?\(/\1(/; s/,\)/)/; s/,([^ ])/, \1/g" | sed -E "$types" | sed -E 's/\) -> u32$/) status/; s/\) -> usize$/) size_t/; s/\)$/) void/; s/\(\)/(void)/' |
         sed -E 's/^ropey_version\(void\) status/ropey_version(void) uint32_t/'
     sed -nE 's/^pub const (\w+): u32 = ([0-9]+);$/ROPEY_\1 = \2/p' "$source/status.rt"
-    cat "$source"/*.rt | awk '/^pub struct (Span|Place|Counts|Chunk|Piece|Slice)/ { match($0, /(Span|Place|Counts|Chunk|Piece|Slice)/); name = substr($0, RSTART, RLENGTH); on = 1; text = name ":"; next }
+    cat "$source"/*.rt | awk '/^pub struct (Span|Place|Counts|Chunk|Piece|Slice|GivenEdit|Replacement)/ { match($0, /(Span|Place|Counts|Chunk|Piece|Slice|GivenEdit|Replacement)/); name = substr($0, RSTART, RLENGTH); on = 1; text = name ":"; next }
         on && /^}/ { print text; on = 0 }
         on { sub(/^ +pub /, ""); sub(/,$/, ""); text = text " " $0 ";" }' |
-        sed -E "s/^Span/ropey_range/; s/^Place/ropey_place/; s/^Counts/ropey_counts/; s/^Chunk/ropey_chunk/; s/^Piece/ropey_piece/; s/^Slice/ropey_slice/; s/counts: Counts;/ropey_counts counts;/; s/text: &'a \[u8\];/const uint8_t *text; size_t len;/; s/(\w+): usize;/size_t \1;/g"
+        sed -E "s/^Span/ropey_range/; s/^Place/ropey_place/; s/^Counts/ropey_counts/; s/^Chunk/ropey_chunk/; s/^Piece/ropey_piece/; s/^Slice/ropey_slice/; s/^GivenEdit/ropey_edit/; s/^Replacement/ropey_replacement/; s/counts: Counts;/ropey_counts counts;/; s/text: &'a \[u8\];/const uint8_t *text; size_t len;/; s/(\w+): usize;/size_t \1;/g"
 }
 
 from_header() {
@@ -53,7 +54,7 @@ from_header() {
     sed -nE 's/^ +(ROPEY_\w+) = ([0-9]+),? *$/\1 = \2/p' "$work/plain"
     awk '/^typedef struct \{/ { on = 1; text = ""; next }
         on && /^}/ { sub(/^} /, ""); sub(/;$/, ""); print $0 ":" text; on = 0 }
-        on { sub(/^ +/, ""); sub(/ +$/, ""); text = text " " $0 }' "$work/plain" | grep -v '^ropey_\(rope\|builder\):'
+        on { sub(/^ +/, ""); sub(/ +$/, ""); text = text " " $0 }' "$work/plain" | grep -v '^ropey_\(rope\|builder\|changes\):'
 }
 
 # Each place where a version is written, with the version: of the source first, whose number is major * 1000000 + minor * 1000

@@ -20,6 +20,8 @@ through=(
     crates/ropey_c/src/chunks.rt crates/ropey_c/src/compare.rt crates/ropey_c/src/conversions.rt crates/ropey_c/src/copies.rt
     crates/ropey_c/src/counts.rt crates/ropey_c/src/lengths.rt crates/ropey_c/src/lent.rt crates/ropey_c/src/lookups.rt
     crates/ropey_c/src/pieces.rt crates/ropey_c/src/positions.rt
+    crates/ropey_c/src/changes.rt crates/ropey_c/src/change_edits.rt crates/ropey_c/src/change_sets.rt
+    crates/ropey_c/src/lent_changes.rt crates/rope_changes/src/splice.rt
 )
 for path in "${through[@]}"; do
     [ -e "$path" ] || { echo "no such file: $path" >&2; exit 1; }

@@ -6,8 +6,8 @@
 # With --built it builds nothing: it takes the archive that scripts/find_c_library.sh finds, and says so in one line where there
 # is none of these sources.
 # It needs `rt`, `ar` and a C compiler (`cc`, or the one that CC names); the C++ test needs `c++` (or CXX). CALLS is how many
-# random calls are compared with a plain text, 20,000 if it isn't given. Where a compiler is missing the script says so in
-# one line, and ends well. The status is 0 where everything that could be run was as it must be.
+# random calls are compared with a plain text, 20,000 if it isn't given; a tenth as many random changes are. Where a compiler
+# is missing the script says so in one line, and ends well. The status is 0 where everything that could be run was as it must be.
 set -euo pipefail
 
 top=$(cd "$(dirname "$0")/.." && pwd)
@@ -44,7 +44,10 @@ refusals="-Wl,--wrap=malloc -Wl,--wrap=realloc"
 "$cc" $strict -O2 "$here/example.c" "$library" -o "$work/example"
 "$work/example" > "$work/example.stdout"
 diff "$here/example.stdout" "$work/example.stdout"
-echo 'C: the example prints what it must'
+"$cc" $strict -O2 "$here/undo.c" "$library" -o "$work/undo"
+"$work/undo" > "$work/undo.stdout"
+diff "$here/undo.stdout" "$work/undo.stdout"
+echo 'C: the examples print what they must'
 
 "$cc" $strict -O2 "$here/checksums.c" "$library" -o "$work/checksums"
 "$work/checksums" > "$work/checksums.stdout"
@@ -54,6 +57,8 @@ echo 'C: the checksums of rope_bench'
 
 "$cc" $strict -O2 "$here/differential.c" "$library" $refusals -o "$work/differential"
 "$work/differential" "$calls" 1
+"$cc" $strict -O2 "$here/changes.c" "$library" $refusals -o "$work/changes"
+"$work/changes" "$((calls / 10))" 1
 "$cc" $strict -O2 "$here/look_ups_write_nothing.c" "$library" $refusals -Wl,--wrap=free -o "$work/look_ups"
 "$work/look_ups"
 
@@ -74,6 +79,8 @@ echo 'int main(void) { return 0; }' > "$work/nothing.c"
 if "$cc" $checker "$work/nothing.c" -o "$work/nothing" 2> /dev/null && "$work/nothing" 2> /dev/null; then
     "$cc" $strict $checker "$here/differential.c" "$library" $refusals -o "$work/checked"
     "$work/checked" "$calls" 2
+    "$cc" $strict $checker "$here/changes.c" "$library" $refusals -o "$work/checked_changes"
+    "$work/checked_changes" "$((calls / 10))" 2
     "$cc" $strict $checker $given_back -o "$work/checked_leaks"
     "$work/checked_leaks" > /dev/null
     echo 'C: the same under the address checker and its leak finder'

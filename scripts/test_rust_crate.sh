@@ -30,8 +30,8 @@ fi
 
 # The crate is to stay thin: code alone, without comments and blank lines.
 lines=$(find "$crate/src" "$crate/build.rs" -name '*.rs' -print0 | xargs -0 cat | grep -cvE '^[[:space:]]*(//|$)')
-if [ "$lines" -gt 2000 ]; then
-    echo "Rust crate: $lines lines of code, more than 2000"
+if [ "$lines" -gt 2300 ]; then
+    echo "Rust crate: $lines lines of code, more than 2300"
     exit 1
 fi
 

@@ -5,62 +5,9 @@
  * Some allocations are refused: the program is linked with --wrap=malloc and --wrap=realloc. A refused edit has to leave
  * the text, and, unless it was refused for memory, every pointer into the rope. Pointers into a clone are held through the
  * edits of the others, and read again. */
-#include "model.h"
-#include <stdio.h>
+#include "random.h"
 
 enum { HANDLES = 4, PIECES = 64, LONGEST = 6000 };
-
-static uint64_t state = 88172645463325252u;
-static const char *now = "";
-
-static uint64_t draw(void) {
-    state ^= state << 13;
-    state ^= state >> 7;
-    state ^= state << 17;
-    return state;
-}
-
-static size_t below(size_t n) { return (size_t)(draw() % n); }
-
-static void fail(int line, const char *what) {
-    fprintf(stderr, "%s, line %d: %s\n", now, line, what);
-    abort();
-}
-
-#define CHECK(fact) ((fact) ? (void)0 : fail(__LINE__, #fact))
-
-/* Allocations, of which one can be refused. */
-static long refuse_at = -1;
-static bool refused = false;
-
-void *__real_malloc(size_t size);
-void *__real_realloc(void *block, size_t size);
-
-static bool is_refused(void) {
-    if (refuse_at < 0 || refuse_at-- != 0) {
-        return false;
-    }
-    refused = true;
-    return true;
-}
-
-void *__wrap_malloc(size_t size) { return is_refused() ? NULL : __real_malloc(size); }
-
-void *__wrap_realloc(void *block, size_t size) { return is_refused() ? NULL : __real_realloc(block, size); }
-
-/* Before a call, decides whether an allocation of it is refused; behind it, allows all of them again. */
-static void arm(void) {
-    refused = false;
-    refuse_at = below(8) == 0 ? (long)below(6) : -1;
-}
-
-static ropey_status disarm(ropey_status status) {
-    refuse_at = -1;
-    CHECK(status != ROPEY_OUT_OF_MEMORY || refused);
-    return status;
-}
-
-#define CALL(call) (arm(), disarm(call))
 
 /* A rope beside its model, and its first pieces as they were seen last. */
 typedef struct {
@@ -73,20 +20,6 @@ typedef struct {
 } pair;
 
 static pair pairs[HANDLES];
-
-static const uint32_t letters[] = {'a', 'b', ' ', '\n', '\n', '\r', '\r', 0x0B, 0x85, 0xE9, 0x2028, 0x2029, 0x4E2D, 0xFEFF, 0x1F600, 0x10FFFF};
-
-static model drawn_text(size_t longest) {
-    size_t len = below(longest + 1);
-    model m = model_of(letters, 0, ROPEY_LF);
-    free(m.chars);
-    m.chars = malloc((len + 1) * sizeof *m.chars);
-    m.len = len;
-    for (size_t i = 0; i < len; i++) {
-        m.chars[i] = letters[below(sizeof letters / sizeof *letters)];
-    }
-    return m;
-}
 
 /* Reads a rope through its pieces, from the front, and compares it with its model. */
 static void see(pair *p) {
@@ -406,6 +339,39 @@ static void place(pair *p) {
     ropey_status wanted = line >= lines ? ROPEY_LINE_INDEX_OUT_OF_BOUNDS
         : units + column > counts_before(m, end).utf16 ? ROPEY_UTF16_INDEX_OUT_OF_BOUNDS : ROPEY_OK;
     ASKS(ropey_position_to_char(&p->rope, line, column, &x), wanted, x, char_at_utf16(m, units + column));
+}
+
+static size_t units_of(uint32_t c, uint32_t encoding) {
+    return encoding == ROPEY_UTF8 ? width_of(c) : encoding == ROPEY_UTF16 && c >= 0x10000 ? 2 : 1;
+}
+
+/* Positions in an encoding, and the line breaks that lines end in. */
+static void place_in(pair *p) {
+    const model *m = &p->text;
+    bool held_ = p->held;
+    uint32_t encoding = (uint32_t)below(4);
+    ropey_status known = encoding > ROPEY_UTF32 ? ROPEY_UNKNOWN_ENCODING : ROPEY_OK;
+    size_t i = below(m->len + 2), lines = counts_of(m).line_breaks + 1, line = below(lines + 2), column = below(60), units = 0;
+    ropey_place at = {77, 77};
+    ropey_status status = ropey_char_to_position_in(&p->rope, i, encoding, &at);
+    CHECK(status == (!held_ ? ROPEY_NO_ROPE_HELD : known != ROPEY_OK ? known : i > m->len ? ROPEY_CHAR_INDEX_OUT_OF_BOUNDS : ROPEY_OK));
+    if (status == ROPEY_OK) {
+        for (size_t k = start_of_line(m, at.line); k < i; k++) {
+            units += units_of(m->chars[k], encoding);
+        }
+        CHECK(at.line == counts_before(m, i).line_breaks && at.column == units);
+    } else {
+        CHECK(at.line == 77 && at.column == 77);
+    }
+    size_t start = line < lines ? start_of_line(m, line) : m->len, end = line < lines ? start_of_line(m, line + 1) : m->len;
+    size_t stop = !break_ends_at(m, end) || start == end ? end : end >= 2 && m->chars[end - 1] == '\n' && end - start >= 2
+        && m->break_set != ROPEY_LF && m->chars[end - 2] == '\r' ? end - 2 : end - 1;
+    ASKS(ropey_line_break(&p->rope, line, &x), line < lines ? ROPEY_OK : ROPEY_LINE_INDEX_OUT_OF_BOUNDS, x, end - stop);
+    size_t found = start;
+    for (size_t seen = 0; found < stop && seen + units_of(m->chars[found], encoding) <= column; found++) {
+        seen += units_of(m->chars[found], encoding);
+    }
+    ASKS(ropey_clamped_position_to_char(&p->rope, line, column, encoding, &x), known, x, found);
 }
 
 static void item(pair *p) {
@@ -793,7 +759,7 @@ static void step(int k, pair *p, pair *q) {
     case 7: split(p, q); break;
     case 8: append(p, q); break;
     case 9: convert(p); break;
-    case 10: place(p); break;
+    case 10: (below(2) ? place : place_in)(p); break;
     case 11: item(p); break;
     case 12: chunk(p); break;
     case 13: below(2) ? pieces(p) : chunks_at(p); break;

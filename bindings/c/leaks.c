@@ -1,14 +1,14 @@
-/* The library gives back every block that it takes: ropey_free and ropey_builder_free free what the handle holds, a call that
- * makes a rope or a builder frees what its handle held, and a refused call keeps nothing.
+/* The library gives back every block that it takes: ropey_free, ropey_builder_free and ropey_changes_free free what the handle
+ * holds, a call that makes a rope, a builder or changes frees what its handle held, and a refused call keeps nothing.
  *
  *     leaks          # runs each case, and runs it again with each of its allocations refused in turn
  *     leaks CALL     # the same, where CALL forgets what it was to free: has to fail
  *     leaks --calls  # lists the calls that can be made to forget
  *
  * No contract says that memory is given back. So the prover lets these mutants through, and this test alone refuses them:
- *   - `drop` of the rope, or of the builder, left out of ropey_free and of ropey_builder_free;
- *   - `drop` of what was replaced left out of `put` (handle.rt, builder_handle.rt), which every call that makes a rope or a
- *     builder ends with.
+ *   - `drop` of the rope, of the builder or of the changes left out of ropey_free, ropey_builder_free and ropey_changes_free;
+ *   - `drop` of what was replaced left out of `put` (handle.rt, builder_handle.rt, changes_handle.rt), which every call that
+ *     makes a rope, a builder or changes ends with.
  *
  * The program counts the blocks that are taken and not given back: it is linked with --wrap=malloc, --wrap=realloc and
  * --wrap=free. */
@@ -59,7 +59,8 @@ static void forget(const char *call, void **held) {
 }
 
 static const char *const calls[] = {"ropey_free", "ropey_from_text", "ropey_from_text_unchecked", "ropey_clone", "ropey_clone_chars",
-    "ropey_split_off", "ropey_builder_new", "ropey_builder_finish", "ropey_builder_free"};
+    "ropey_split_off", "ropey_builder_new", "ropey_builder_finish", "ropey_builder_free", "ropey_changes_new", "ropey_changes_of_edits", "ropey_changes_invert",
+    "ropey_changes_compose", "ropey_changes_rebase", "ropey_changes_free"};
 
 #define ropey_free(rope) (forget("ropey_free", &(rope)->ptr), ropey_free(rope))
 #define ropey_from_text(text, len, set, rope) (forget("ropey_from_text", &(rope)->ptr), ropey_from_text(text, len, set, rope))
@@ -71,10 +72,20 @@ static const char *const calls[] = {"ropey_free", "ropey_from_text", "ropey_from
 #define ropey_builder_new(set, builder) (forget("ropey_builder_new", &(builder)->ptr), ropey_builder_new(set, builder))
 #define ropey_builder_finish(builder, rope, valid) (forget("ropey_builder_finish", &(rope)->ptr), ropey_builder_finish(builder, rope, valid))
 #define ropey_builder_free(builder) (forget("ropey_builder_free", &(builder)->ptr), ropey_builder_free(builder))
+#define ropey_changes_new(len, changes) (forget("ropey_changes_new", &(changes)->ptr), ropey_changes_new(len, changes))
+#define ropey_changes_of_edits(len, edits, count, changes) \
+    (forget("ropey_changes_of_edits", &(changes)->ptr), ropey_changes_of_edits(len, edits, count, changes))
+#define ropey_changes_invert(changes, before, inverse) \
+    (forget("ropey_changes_invert", &(inverse)->ptr), ropey_changes_invert(changes, before, inverse))
+#define ropey_changes_compose(changes, later, both) (forget("ropey_changes_compose", &(both)->ptr), ropey_changes_compose(changes, later, both))
+#define ropey_changes_rebase(changes, over, side, rebased) \
+    (forget("ropey_changes_rebase", &(rebased)->ptr), ropey_changes_rebase(changes, over, side, rebased))
+#define ropey_changes_free(changes) (forget("ropey_changes_free", &(changes)->ptr), ropey_changes_free(changes))
 
 /* What the cases work on. Each case leaves what it likes in them. */
 static ropey_rope rope = ROPEY_NO_ROPE, other = ROPEY_NO_ROPE;
 static ropey_builder builder = ROPEY_NO_BUILDER;
+static ropey_changes changes = ROPEY_NO_CHANGES, more = ROPEY_NO_CHANGES, moved = ROPEY_NO_CHANGES;
 static size_t valid = 0;
 static uint8_t text[30000];
 
@@ -160,8 +171,29 @@ static void builds_nothing(void) {
     ropey_builder_free(&builder);
 }
 
+static void changes_over(void) {
+    const ropey_edit list[] = {{10, 20, text, 3000}, {500, 900, NULL, 0}, {2000, 2000, text, 5}};
+    make(&rope, 5000);
+    ropey_changes_new(5000, &changes);
+    ropey_changes_replace(&changes, 10, 10, text, 100);
+    ropey_changes_replace(&changes, 10, 30, text, 100);
+    ropey_changes_replace(&changes, 9, 9, text, 100);
+    ropey_changes_of_edits(5000, list, 3, &changes);
+    ropey_changes_of_edits(600, list, 3, &changes);
+    ropey_changes_new(5000, &changes);
+    ropey_changes_of_edits(5000, list, 3, &more);
+    ropey_changes_invert(&changes, &rope, &more);
+    ropey_changes_of_edits(5000, list, 3, &more);
+    ropey_changes_new(5000, &moved);
+    ropey_changes_replace(&moved, 1, 2, text, 700);
+    ropey_changes_rebase(&changes, &more, ROPEY_AFTER, &moved);
+    ropey_changes_compose(&more, &moved, &changes);
+    ropey_changes_apply(&more, &rope);
+    ropey_changes_free(&more);
+}
+
 static void (*const cases[])(void) = {
-    frees, makes_over, makes_nothing, clones_over, splits_over, appends, edits, builds_over, builds_nothing};
+    frees, makes_over, makes_nothing, clones_over, splits_over, appends, edits, builds_over, builds_nothing, changes_over};
 
 /* Runs a case with one allocation refused, frees what it left, and returns whether every block was given back. */
 static bool gives_back(void (*run)(void), long at) {
@@ -173,6 +205,9 @@ static bool gives_back(void (*run)(void), long at) {
     ropey_free(&rope);
     ropey_free(&other);
     ropey_builder_free(&builder);
+    ropey_changes_free(&changes);
+    ropey_changes_free(&more);
+    ropey_changes_free(&moved);
     return blocks == before;
 }
 

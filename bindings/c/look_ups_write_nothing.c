@@ -66,8 +66,8 @@ static void make(ropey_rope *ropes) {
     }
 }
 
-/* Every look-up but ropey_clone and ropey_clone_chars. */
-static void look(const ropey_rope *rope, const ropey_rope *other) {
+/* Every look-up but ropey_clone, ropey_clone_chars and ropey_changes_invert, and those of changes. */
+static void look(const ropey_rope *rope, const ropey_rope *other, const ropey_changes *changes) {
     size_t bytes = ropey_len_bytes(rope), chars = ropey_len_chars(rope), lines = ropey_len_lines(rope), units = ropey_len_utf16(rope);
     size_t i = below(chars), line = below(lines), answer = 0, count = 0, before = 0;
     static uint8_t buffer[1 << 16];
@@ -81,6 +81,7 @@ static void look(const ropey_rope *rope, const ropey_rope *other) {
     ropey_chunk chunk = ROPEY_NO_CHUNK;
     ropey_piece pieces[PIECES] = {{0}};
     ropey_slice slices[PIECES] = {{0}};
+    ropey_replacement replacements[PIECES] = {{0}};
     expect(ropey_get_break_set(rope, &number));
     expect(ropey_byte_to_char(rope, below(bytes), &answer));
     expect(ropey_byte_to_line(rope, below(bytes), &answer));
@@ -92,6 +93,9 @@ static void look(const ropey_rope *rope, const ropey_rope *other) {
     expect(ropey_line_to_char(rope, line, &answer));
     expect(ropey_char_to_position(rope, i, &place));
     expect(ropey_position_to_char(rope, place.line, place.column, &answer));
+    expect(ropey_char_to_position_in(rope, i, (uint32_t)below(3), &place));
+    expect(ropey_clamped_position_to_char(rope, place.line, place.column, (uint32_t)below(3), &answer));
+    expect(ropey_line_break(rope, line, &answer));
     expect(ropey_byte(rope, below(bytes), &byte));
     expect(ropey_char(rope, i, &number));
     expect(ropey_line(rope, line, &range));
@@ -119,6 +123,9 @@ static void look(const ropey_rope *rope, const ropey_rope *other) {
     expect(ropey_lines_from_at(rope, line, slices, PIECES, &count, &counts));
     expect(ropey_compare(rope, other, &order));
     expect(ropey_equals_text(rope, chunk.text, chunk.len, &equal));
+    expect(ropey_changes_map(changes, below(ropey_changes_len_before(changes)), (uint32_t)below(2), &answer));
+    expect(ropey_changes_edits(changes, replacements, PIECES, &count));
+    count += ropey_changes_len_after(changes);
 }
 
 int main(void) {
@@ -131,11 +138,17 @@ int main(void) {
         ropes[i] = (ropey_rope)ROPEY_NO_ROPE;
     }
     make(ropes);
+    ropey_changes *changes = __wrap_malloc(sizeof *changes);
+    *changes = (ropey_changes)ROPEY_NO_CHANGES;
+    expect(ropey_changes_new(1000, changes));
+    for (size_t at = 0; at < 1000; at += 50) {
+        expect(ropey_changes_replace(changes, at, at + below(50), (const uint8_t *)"text", 4));
+    }
     if (mprotect(arena, ARENA, PROT_READ) != 0) {
         return 1;
     }
     for (int k = 0; k < 20000; k++) {
-        look(&ropes[below(ROPES)], &ropes[below(ROPES)]);
+        look(&ropes[below(ROPES)], &ropes[below(ROPES)], changes);
     }
     printf("C: look-ups wrote neither to nodes nor to handles (%zu KB of them)\n", used >> 10);
     return 0;

@@ -12,7 +12,7 @@
  * may be moved (the old one is not used again), and is never copied: `ropey_clone` makes a second rope. Where a call takes
  * two handles, or a handle and a place to write to, they are different objects, but for two that are `const`. A call that
  * makes a rope frees the one that the handle held. `ropey_free` frees the last one; a handle that holds no rope may be freed
- * again. All this holds of a `ropey_builder` too.
+ * again. All this holds of a `ropey_builder` and of a `ropey_changes` too.
  *
  * Texts and places to write to. A text is bytes of UTF-8 and their number, and nothing ends it but its length. A text, a
  * buffer or a list of 0 items may be a null pointer; no other pointer is null. A text is read and a place is written during
@@ -26,7 +26,8 @@
  * refused call leaves every rope as it was and writes nothing, but where its comment says so. A call on a handle that holds no
  * rope answers ROPEY_NO_ROPE_HELD. A call with nothing to change takes no memory, and never answers ROPEY_OUT_OF_MEMORY: an
  * insert of an empty text, a removal of an empty range, a replacement of an empty range by an empty text, an append of or to an
- * empty rope, a shrink of an empty rope, an append of no bytes to a builder.
+ * empty rope, a shrink of an empty rope, an append of no bytes to a builder, an application of changes
+ * that replace nothing.
  *
  * Edits are the calls that take a `ropey_rope *` which holds a rope; look-ups are those that take a `const ropey_rope *`.
  * A look-up changes nothing, and gives pointers into the rope's memory. They are good until the handle is passed to an
@@ -39,6 +40,7 @@
  *   - look-ups of one handle may run at once on any threads, as long as no edit of that handle runs;
  *   - edits and these two calls on ropes that share memory run one at a time: one lock around them is enough, which other
  *     look-ups need not take, also of ropes that share memory with the one that is edited.
+ * Changes share memory with no rope and with no other changes: calls that take a `const ropey_changes *` may run at once.
  * A handle may be handed to another thread as any object may. No call may come from a signal handler, or from the child of
  * a fork where the program has threads.
  */
@@ -88,7 +90,12 @@ typedef ROPEY_ENUM(ropey_status) {
     ROPEY_BREAK_SETS_DIFFER = 16,
     ROPEY_BUFFER_TOO_SMALL = 17,
     ROPEY_BYTE_INDEX_NOT_CHAR_BOUNDARY = 18,
-    ROPEY_NO_BUILDER_HELD = 19
+    ROPEY_NO_BUILDER_HELD = 19,
+    ROPEY_NO_CHANGES_HELD = 20,
+    ROPEY_CHAR_RANGE_OUT_OF_ORDER = 21, /* the range starts before the end of the last replacement */
+    ROPEY_LENGTHS_DIFFER = 22,          /* the text has another length than the changes are for */
+    ROPEY_UNKNOWN_SIDE = 23,
+    ROPEY_UNKNOWN_ENCODING = 24
 } ropey_status;
 
 /* Which characters end a line. */
@@ -97,6 +104,19 @@ typedef ROPEY_ENUM(ropey_break_set) {
     ROPEY_LF_CR = 1,   /* LF, CR, and CR LF as one */
     ROPEY_UNICODE = 2  /* all of Unicode's line breaks, with CR LF as one */
 } ropey_break_set;
+
+/* On which side of inserted text an index stays. */
+typedef ROPEY_ENUM(ropey_side) {
+    ROPEY_BEFORE = 0,
+    ROPEY_AFTER = 1
+} ropey_side;
+
+/* What a column counts, as position encodings of the Language Server Protocol. */
+typedef ROPEY_ENUM(ropey_encoding) {
+    ROPEY_UTF8 = 0,  /* bytes of UTF-8 */
+    ROPEY_UTF16 = 1, /* code units of UTF-16, the protocol's default */
+    ROPEY_UTF32 = 2  /* characters */
+} ropey_encoding;
 
 /* A rope, or none. The pointer is the library's: it is neither read nor written. */
 typedef struct {
@@ -108,9 +128,15 @@ typedef struct {
     void *ptr;
 } ropey_builder;
 
+/* Changes, or none. */
+typedef struct {
+    void *ptr;
+} ropey_changes;
+
 /* What handles begin as: to be written behind `=` where one is declared, as in `static ropey_rope rope = ROPEY_NO_ROPE;`. */
 #define ROPEY_NO_ROPE {NULL}
 #define ROPEY_NO_BUILDER {NULL}
+#define ROPEY_NO_CHANGES {NULL}
 
 /* A chunk of a rope's text, 1 to 984 bytes of whole characters, and how much of the text lies before it. The bytes belong
  * to the rope. Where the rope is empty all numbers are 0, and the pointer, which is never null, leads to nothing. A chunk
@@ -140,7 +166,7 @@ typedef struct {
     size_t end;
 } ropey_range;
 
-/* A line, and a column in UTF-16 code units from the start of the line. */
+/* A line, and a column from the start of the line, in UTF-16 code units where no encoding is given. */
 typedef struct {
     size_t line;
     size_t column;
@@ -164,6 +190,27 @@ typedef struct {
 } ropey_slice;
 
 #define ROPEY_NO_SLICE {(const uint8_t *)"", 0, {0, 0, 0, 0}}
+
+/* An edit: the characters from start up to end are replaced by len bytes of UTF-8. A text of 0 bytes may be a null
+ * pointer. */
+typedef struct {
+    size_t start;
+    size_t end;
+    const uint8_t *text;
+    size_t len; /* in bytes */
+} ropey_edit;
+
+/* A replacement of changes: the characters from start up to end of the text before them became those from new_start up to
+ * new_end of the text after them, which are the bytes of the text. The bytes belong to the changes. A list of replacements
+ * may begin as all zeros, and is written by these calls alone. */
+typedef struct {
+    size_t start;
+    size_t end;
+    size_t new_start;
+    size_t new_end;
+    const uint8_t *text;
+    size_t len; /* in bytes */
+} ropey_replacement;
 
 /* Making and freeing. */
 
@@ -268,6 +315,16 @@ ropey_status ropey_char_to_position(const ropey_rope *rope, size_t char_idx, rop
  * Refused: NO_ROPE_HELD, LINE_INDEX_OUT_OF_BOUNDS, UTF16_INDEX_OUT_OF_BOUNDS where the column is past the line. */
 ropey_status ropey_position_to_char(const ropey_rope *rope, size_t line, size_t column, size_t *char_idx);
 
+/* The place of a character, or of the end of the text, with its column in an encoding, a ropey_encoding.
+ * Refused: NO_ROPE_HELD, UNKNOWN_ENCODING, CHAR_INDEX_OUT_OF_BOUNDS. */
+ropey_status ropey_char_to_position_in(const ropey_rope *rope, size_t char_idx, uint32_t encoding, ropey_place *place);
+
+/* The character at any place, as the Language Server Protocol reads it: a column past the end of its line is the line's end
+ * before its line break, and a line past the last one is the end of the text. A column inside a character is that character.
+ * Refused: NO_ROPE_HELD, UNKNOWN_ENCODING. */
+ropey_status ropey_clamped_position_to_char(const ropey_rope *rope, size_t line, size_t column, uint32_t encoding,
+    size_t *char_idx);
+
 /* Bytes, characters and lines. */
 
 /* A byte; a character; the characters of a line, its line break among them. The index is below the length.
@@ -275,6 +332,10 @@ ropey_status ropey_position_to_char(const ropey_rope *rope, size_t line, size_t 
 ropey_status ropey_byte(const ropey_rope *rope, size_t byte_idx, uint8_t *byte);
 ropey_status ropey_char(const ropey_rope *rope, size_t char_idx, uint32_t *c);
 ropey_status ropey_line(const ropey_rope *rope, size_t line_idx, ropey_range *chars);
+
+/* The number of characters of the line break that a line ends in: 2 for CR LF, 1 for another one, 0 if there is none.
+ * Refused: NO_ROPE_HELD, LINE_INDEX_OUT_OF_BOUNDS. */
+ropey_status ropey_line_break(const ropey_rope *rope, size_t line_idx, size_t *len);
 
 /* The bytes of a line, its line break among them, and its pieces from its start on, as far as there is room: their number
  * is written to count. Where they don't reach the line's end, ropey_chunks_from_byte goes on.
@@ -381,6 +442,61 @@ ropey_status ropey_builder_finish(ropey_builder *builder, ropey_rope *rope, size
 /* Frees the builder, if there is one. Afterwards the handle holds none. */
 void ropey_builder_free(ropey_builder *builder);
 
+/* Changes: replacements of ranges of one text, in order and apart, as a value. They are made for a text of a given length,
+ * and applied to any rope of that length, whole or not at all. Indices count characters. Replacements that touch become one.
+ * Changes take memory for their replacements and the texts that they insert. */
+
+/* Makes changes of a text of len characters that keep all of it. Refused: TOO_LONG, OUT_OF_MEMORY. */
+ropey_status ropey_changes_new(size_t len, ropey_changes *changes);
+
+/* Makes changes from edits in order, as ropey_changes_new and then ropey_changes_replace for each edit do.
+ * Refused: TOO_LONG, the first refusal of ropey_changes_replace, OUT_OF_MEMORY. */
+ropey_status ropey_changes_of_edits(size_t len, const ropey_edit *edits, size_t count, ropey_changes *changes);
+
+/* Adds a replacement after the last one: of the characters from start up to end of the text before the changes by a text.
+ * Refused: NO_CHANGES_HELD, INVALID_UTF8, CHAR_RANGE_INVALID, CHAR_RANGE_OUT_OF_BOUNDS, CHAR_RANGE_OUT_OF_ORDER, TOO_LONG,
+ * OUT_OF_MEMORY. A refused call leaves the changes as they were. */
+ropey_status ropey_changes_replace(ropey_changes *changes, size_t start, size_t end, const uint8_t *text, size_t len);
+
+/* Frees the changes, if there are any. Afterwards the handle holds none. */
+void ropey_changes_free(ropey_changes *changes);
+
+/* The length of the text before the changes, and of the text after them: 0 if the handle holds none. */
+size_t ropey_changes_len_before(const ropey_changes *changes);
+size_t ropey_changes_len_after(const ropey_changes *changes);
+
+/* Applies the changes to the text of a rope, or does nothing at all. Costs two edits of the rope per replacement.
+ * Refused: NO_CHANGES_HELD, NO_ROPE_HELD, LENGTHS_DIFFER, TOO_LONG, OUT_OF_MEMORY. */
+ropey_status ropey_changes_apply(const ropey_changes *changes, ropey_rope *rope);
+
+/* Makes the changes that lead from the text after the changes back to the text of before, which is the text before them.
+ * Refused: NO_CHANGES_HELD, NO_ROPE_HELD, LENGTHS_DIFFER, OUT_OF_MEMORY. */
+ropey_status ropey_changes_invert(const ropey_changes *changes, const ropey_rope *before, ropey_changes *inverse);
+
+/* Makes the changes that do what the changes and then later do.
+ * Refused: NO_CHANGES_HELD, LENGTHS_DIFFER, OUT_OF_MEMORY. */
+ropey_status ropey_changes_compose(const ropey_changes *changes, const ropey_changes *later, ropey_changes *both);
+
+/* Makes the changes as changes of the text after over, where both are changes of one text. Where both insert at one index,
+ * the text of the changes comes first for ROPEY_BEFORE, and the text of over for ROPEY_AFTER. If each of two changes is
+ * rebased over the other, with opposite sides, both orders lead to the same text.
+ * Refused: NO_CHANGES_HELD, UNKNOWN_SIDE, LENGTHS_DIFFER, TOO_LONG, OUT_OF_MEMORY. */
+ropey_status ropey_changes_rebase(const ropey_changes *changes, const ropey_changes *over, uint32_t side,
+    ropey_changes *rebased);
+
+/* The index in the text after the changes of a character, or of the end, of the text before them. Where text is inserted at
+ * the index, the result is on the given side of that text. An index inside a replaced range, past its start, goes to the end
+ * of the new text. Refused: NO_CHANGES_HELD, UNKNOWN_SIDE, CHAR_INDEX_OUT_OF_BOUNDS. */
+ropey_status ropey_changes_map(const ropey_changes *changes, size_t char_idx, uint32_t side, size_t *moved);
+
+/* Moves each of the indices as ropey_changes_map does, or none of them: in one pass where they ascend.
+ * Refused: NO_CHANGES_HELD, UNKNOWN_SIDE, CHAR_INDEX_OUT_OF_BOUNDS. */
+ropey_status ropey_changes_map_sorted(const ropey_changes *changes, size_t *char_indices, size_t count, uint32_t side);
+
+/* The replacements in order, as far as there is room, and to count how many there are. Their texts are good until the handle
+ * is passed to ropey_changes_replace, overwritten or freed. Refused: NO_CHANGES_HELD. */
+ropey_status ropey_changes_edits(const ropey_changes *changes, ropey_replacement *edits, size_t room, size_t *count);
+
 /* Plain texts. Each call reads the text. */
 
 /* How many bytes at the text's front are whole characters of UTF-8: all of them, or up to the first that is wrong. */
@@ -412,6 +528,21 @@ ropey_status ropey_text_line_to_char(const uint8_t *text, size_t len, uint32_t b
 }
 #endif
 
+/* Makes all edits, in order and apart, or does nothing at all: their indices are those of the text before all of them.
+ * Refused: NO_ROPE_HELD, then as ropey_changes_of_edits and ropey_changes_apply are. */
+static inline ropey_status ropey_apply_edits(ropey_rope *rope, const ropey_edit *edits, size_t count) {
+    ropey_changes changes = ROPEY_NO_CHANGES;
+    ropey_status status = ROPEY_NO_ROPE_HELD;
+    if (rope->ptr != NULL) {
+        status = ropey_changes_of_edits(ropey_len_chars(rope), edits, count, &changes);
+    }
+    if (status == ROPEY_OK) {
+        status = ropey_changes_apply(&changes, rope);
+    }
+    ropey_changes_free(&changes);
+    return status;
+}
+
 /* A status in words, for a message: a sentence without its stop. */
 static inline const char *ropey_status_text(uint32_t status) {
     switch (status) {
@@ -435,6 +566,11 @@ static inline const char *ropey_status_text(uint32_t status) {
     case ROPEY_BUFFER_TOO_SMALL: return "the buffer has no room for the text";
     case ROPEY_BYTE_INDEX_NOT_CHAR_BOUNDARY: return "the byte index is inside a character";
     case ROPEY_NO_BUILDER_HELD: return "the handle holds no builder";
+    case ROPEY_NO_CHANGES_HELD: return "the handle holds no changes";
+    case ROPEY_CHAR_RANGE_OUT_OF_ORDER: return "the range of characters starts before the end of the last replacement";
+    case ROPEY_LENGTHS_DIFFER: return "the text has another length than the changes are for";
+    case ROPEY_UNKNOWN_SIDE: return "the number stands for no side of inserted text";
+    case ROPEY_UNKNOWN_ENCODING: return "the number stands for no encoding";
     default: return "no status of this library";
     }
 }

@@ -1,5 +1,5 @@
-/* A rope for programs in C++17: the calls of ropey.h on a class that frees its rope. A refusal is thrown as ropey::refused,
- * one of memory as std::bad_alloc. A rope may be moved, and is copied by clone() alone. Texts are UTF-8. ropey.h says what
+/* A rope and changes for programs in C++17: the calls of ropey.h on classes that free what they hold. A refusal is thrown as
+ * ropey::refused, one of memory as std::bad_alloc. Both may be moved; a rope is copied by clone() alone. Texts are UTF-8. ropey.h says what
  * each call does, and what may run at once. */
 #ifndef ROPEY_HPP
 #define ROPEY_HPP
@@ -10,6 +10,7 @@
 #include <string>
 #include <string_view>
 #include <utility>
+#include <vector>
 
 namespace ropey {
 
@@ -140,6 +141,113 @@ class rope {
         return answer;
     }
     ropey_rope handle = ROPEY_NO_ROPE;
+};
+
+/* On which side of inserted text an index stays. */
+enum class side : uint32_t { before = ROPEY_BEFORE, after = ROPEY_AFTER };
+
+/* The characters from start up to end of a text are replaced by another text. */
+struct edit {
+    size_t start;
+    size_t end;
+    std::string_view text;
+};
+
+/* A replacement of changes, with its range in the text before and in the text after. The text belongs to the changes. */
+struct replacement {
+    size_t start;
+    size_t end;
+    size_t new_start;
+    size_t new_end;
+    std::string_view text;
+};
+
+/* Changes of a text of a given length: replacements of ranges, in order and apart. */
+class changes {
+  public:
+    /* Keeps all of a text of len characters. */
+    explicit changes(size_t len) { check(ropey_changes_new(len, &handle)); }
+    /* Edits in order. */
+    changes(size_t len, const std::vector<edit> &edits) : changes(len) {
+        for (const edit &next : edits) {
+            replace(next.start, next.end, next.text);
+        }
+    }
+    changes(changes &&other) noexcept : handle(std::exchange(other.handle, none())) {}
+    changes &operator=(changes &&other) noexcept {
+        std::swap(handle, other.handle);
+        return *this;
+    }
+    changes(const changes &) = delete;
+    changes &operator=(const changes &) = delete;
+    ~changes() { ropey_changes_free(&handle); }
+
+    /* Indices are those of the text before, and the range comes after the last one. */
+    void replace(size_t start, size_t end, std::string_view text) {
+        check(ropey_changes_replace(&handle, start, end, bytes_of(text), text.size()));
+    }
+
+    size_t len_before() const { return ropey_changes_len_before(&handle); }
+    size_t len_after() const { return ropey_changes_len_after(&handle); }
+
+    /* Whole, or not at all. */
+    void apply(rope &text) const { check(ropey_changes_apply(&handle, text.get())); }
+
+    /* The changes that lead back to the text of before. */
+    changes invert(const rope &before) const {
+        changes inverse{none()};
+        check(ropey_changes_invert(&handle, before.get(), &inverse.handle));
+        return inverse;
+    }
+
+    /* The changes, and then later ones. */
+    changes compose(const changes &later) const {
+        changes both{none()};
+        check(ropey_changes_compose(&handle, &later.handle, &both.handle));
+        return both;
+    }
+
+    /* The changes as changes of the text after over. */
+    changes rebase(const changes &over, side on) const {
+        changes rebased{none()};
+        check(ropey_changes_rebase(&handle, &over.handle, static_cast<uint32_t>(on), &rebased.handle));
+        return rebased;
+    }
+
+    /* Where an index of the text before lies in the text after. */
+    size_t map(size_t char_idx, side on) const {
+        size_t moved = 0;
+        check(ropey_changes_map(&handle, char_idx, static_cast<uint32_t>(on), &moved));
+        return moved;
+    }
+
+    /* Moves all indices as map does, in one pass where they ascend. */
+    void map_sorted(std::vector<size_t> &char_indices, side on) const {
+        check(ropey_changes_map_sorted(&handle, char_indices.data(), char_indices.size(), static_cast<uint32_t>(on)));
+    }
+
+    /* The replacements, in order. Their texts are good until the changes are edited or destroyed. */
+    std::vector<replacement> edits() const {
+        size_t count = 0;
+        check(ropey_changes_edits(&handle, nullptr, 0, &count));
+        std::vector<ropey_replacement> listed(count);
+        check(ropey_changes_edits(&handle, listed.data(), count, &count));
+        std::vector<replacement> shown;
+        shown.reserve(count);
+        for (const ropey_replacement &r : listed) {
+            shown.push_back({r.start, r.end, r.new_start, r.new_end, text_of(r.text, r.len)});
+        }
+        return shown;
+    }
+
+    /* The handle, for calls of ropey.h. */
+    const ropey_changes *get() const { return &handle; }
+    ropey_changes *get() { return &handle; }
+
+  private:
+    static ropey_changes none() { return ropey_changes ROPEY_NO_CHANGES; }
+    explicit changes(ropey_changes held) : handle(held) {}
+    ropey_changes handle = ROPEY_NO_CHANGES;
 };
 
 } // namespace ropey

@@ -1,4 +1,4 @@
-/* Uses the class of ropey.hpp, and fails where it answers otherwise. */
+/* Uses the classes of ropey.hpp, and fails where they return anything else. */
 #include "ropey.hpp"
 #include <cstdio>
 #include <cstdlib>
@@ -53,6 +53,33 @@ int main() {
     CHECK(all == ropes[3].text() && all.size() == ropes[3].len_bytes());
     ropes[3] = std::move(ropes[4]);
     CHECK(ropes[3].text(0, 1) == "e" && ropey_len_bytes(&global) == 0 && ropey_version() == 1000000);
+
+    ropey::rope typed("one two");
+    ropey::changes edits(7, {{0, 3, "1"}, {4, 4, "and "}});
+    const std::vector<ropey::replacement> listed = edits.edits();
+    CHECK(listed.size() == 2 && listed[1].start == 4 && listed[1].new_start == 2 && listed[1].text == "and ");
+    CHECK(edits.len_before() == 7 && edits.len_after() == 9 && edits.map(4, ropey::side::before) == 2 && edits.map(4, ropey::side::after) == 6);
+    std::vector<size_t> carets = {0, 3, 4, 7};
+    edits.map_sorted(carets, ropey::side::after);
+    CHECK((carets == std::vector<size_t>{1, 1, 6, 9}));
+    ropey::changes undo = edits.invert(typed);
+    edits.apply(typed);
+    CHECK(typed.text() == "1 and two");
+    CHECK(refusal_of([&] { edits.apply(typed); }) == ROPEY_LENGTHS_DIFFER);
+    CHECK(refusal_of([&] { edits.replace(3, 5, "x"); }) == ROPEY_CHAR_RANGE_OUT_OF_ORDER);
+    ropey::changes twice = edits.compose(ropey::changes(9, {{9, 9, "!"}}));
+    undo.apply(typed);
+    twice.apply(typed);
+    CHECK(typed.text() == "1 and two!");
+    ropey::changes other(7, {{4, 7, "2"}});
+    ropey::rope first("one two"), second("one two");
+    edits.apply(first);
+    other.rebase(edits, ropey::side::after).apply(first);
+    other.apply(second);
+    edits.rebase(other, ropey::side::before).apply(second);
+    CHECK(first == second && first.text() == "1 and 2");
+    edits = std::move(undo);
+    CHECK(edits.len_before() == 9);
     std::puts("C++: as it must be");
     return 0;
 }

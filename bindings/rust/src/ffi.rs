@@ -22,6 +22,8 @@ use std::ptr;
 use crate::slice::known;
 use crate::MAX_BYTES;
 
+pub(crate) mod changes;
+
 /// `ropey_rope`.
 #[repr(C)]
 struct Handle {

@@ -38,6 +38,11 @@
 //! Chosen by the features that ropey has: all of Unicode's line breaks (`unicode_lines`, the default); LF, CR and CR LF
 //! (`cr_lines` alone); or LF alone. The features `simd` and `small_chunks` are there, and change nothing.
 //!
+//! # Changes
+//!
+//! The module [`changes`], which ropey has not, keeps the edits of a text as a value: they are applied whole or not at all,
+//! undone, composed, and carried over those of another editor.
+//!
 //! # Threads
 //!
 //! Ropes count the owners of shared nodes without atomic steps, so that by default they are neither `Send` nor `Sync`. With the
@@ -77,6 +82,7 @@ mod rope;
 mod slice;
 mod texts;
 
+pub mod changes;
 pub mod iter;
 pub mod str_utils;
 

@@ -4,6 +4,7 @@ use std::ops::RangeBounds;
 
 use crate::builder;
 use crate::calls::{panicking_calls, refuse};
+use crate::ffi::changes::Changes;
 use crate::ffi::{ChunkAt, Counts, Root};
 use crate::instance::Instance;
 use crate::iter::{Bytes, Chars, Chunks, Lines};
@@ -206,6 +207,15 @@ impl Rope {
         let (start, end) = Bounds::of(&char_range).of_chars(self.len_chars())?;
         self.instance.forget();
         self.root.remove(start, end);
+        Ok(())
+    }
+
+    /// Applies changes, or returns the status of the call that failed. Then the rope is as it was.
+    pub(crate) fn apply(&mut self, changes: &Changes) -> std::result::Result<(), u32> {
+        changes.apply(&mut self.root)?;
+        if changes.count() > 0 {
+            self.instance.forget();
+        }
         Ok(())
     }
 

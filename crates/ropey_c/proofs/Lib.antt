@@ -1,4 +1,8 @@
 pub mod BuilderHandles
+pub mod ChangesHandles
+pub mod EditLists
+pub mod LentChanges
+pub mod LineBreaks
 pub mod Before
 mod ByteParts
 pub mod Bounds

@@ -9,7 +9,8 @@ use Rattle.rope_text.specs.declared.line_breaks.LineBreaks.{LineBreaks}
 use Rattle.rope_text.specs.Text.{byte_len}
 use Rattle.rope_text.specs.Compare.{text_cmp}
 use Rattle.rope_text.specs.Conversions.{line_to_char}
-use Rattle.rope_text.specs.Lines.{line_count}
+use Rattle.rope_text.specs.Lines.{line_count, line}
+use Rattle.rope_text.specs.LastBreak.{last_break_len}
 use Rattle.rope_text.specs.Lookup.{FoundChunk}
 use Rattle.rope_text.specs.Edit.{char_range_error}
 use Rattle.ropey.specs.View.{RopeView, IsBuilt, IsRope}
@@ -62,6 +63,14 @@ FindsLine None i status old new = (status ≡ NO_ROPE_HELD) × (new ≡ old)
 FindsLine (Some rope) i status old new =
     (line_count rope.breaks rope.text ≤ i → (status ≡ LINE_INDEX_OUT_OF_BOUNDS) × (new ≡ old))
     × (i < line_count rope.breaks rope.text → (status ≡ OK) × (new.start ≡ line_to_char rope.breaks rope.text i) × (new.end ≡ line_to_char rope.breaks rope.text (i + 1)))
+
+-- how long the break is that a line ends in, if there is such a line
+abbrev pub FindsLineBreak : Option RopeView → ℕ → ℕ → ℕ → ℕ → Type 0
+FindsLineBreak None i status old new = (status ≡ NO_ROPE_HELD) × (new ≡ old)
+FindsLineBreak (Some rope) i status old new =
+    (line_count rope.breaks rope.text ≤ i → (status ≡ LINE_INDEX_OUT_OF_BOUNDS) × (new ≡ old))
+    × (i < line_count rope.breaks rope.text
+    → (status ≡ OK) × (new ≡ last_break_len rope.breaks (line rope.breaks rope.text i)))
 
 -- a chunk as C sees it: the bytes that it lends are those of its text, and what lies before it
 pub record IsChunk (text : List ℕ) (bytes chars breaks : ℕ) (chunk : Chunk) : Type 0 where

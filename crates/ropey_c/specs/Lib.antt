@@ -9,3 +9,7 @@ pub mod Intake
 pub mod Places
 pub mod Pieces
 pub mod Slices
+pub mod ChangeHandles
+pub mod ChangeStatus
+pub mod ChangeSets
+pub mod ChangeEdits

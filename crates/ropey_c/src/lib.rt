@@ -29,13 +29,21 @@
 //! `replace` change them; `lengths`, `counts`, `conversions`, `positions` and `lookups` answer
 //! about a place or a part; `chunks`, `pieces` and `slices` show where bytes lie, and what lies
 //! before them; `copies` copies text out; `compare` compares texts; `texts` answers about plain
-//! texts; `builders` takes bytes in parts, over `intake`; `handle`, `lent`, `builder_handle` and
-//! `unboxed` keep a rope behind a pointer; `status` has the numbers that stand for refusals.
+//! texts; `builders` takes bytes in parts, over `intake`; `changes` makes changes as values and
+//! applies them, `change_edits` makes them of lists and reads them back, `change_sets` composes and
+//! rebases them; `handle`, `lent`, `builder_handle`, `changes_handle`, `lent_changes` and `unboxed`
+//! keep what a program holds behind a pointer; `status` and `change_status` have the numbers that
+//! stand for refusals.
 #![tactic(auto)]
 
 pub mod builder_handle;
 pub mod builders;
 pub mod byte_edits;
+pub mod change_edits;
+pub mod change_sets;
+mod change_status;
+pub mod changes;
+pub mod changes_handle;
 pub mod char_edits;
 pub mod chunks;
 pub mod compare;
@@ -46,6 +54,7 @@ pub mod handle;
 pub mod intake;
 pub mod lengths;
 pub mod lent;
+pub mod lent_changes;
 pub mod lookups;
 pub mod makers;
 pub mod pieces;

@@ -5,7 +5,7 @@ ghost use Rattle.std.specs.Str.{encode_utf8_all};
 ghost use Rattle.rope_text.specs.Conversions.{line_to_char};
 ghost use Rattle.rope_text.specs.Lines.{line_count};
 ghost use Rattle.ropey_c.specs.Handles.{HoldsRope};
-ghost use Rattle.ropey_c.specs.Answers.{FindsAt, FindsLine};
+ghost use Rattle.ropey_c.specs.Answers.{FindsAt, FindsLine, FindsLineBreak};
 ghost use Rattle.ropey_c.specs.Status.{number_of};
 
 use crate::lent::Lent;
@@ -115,4 +115,32 @@ pub extern "C" fn ropey_line(rope: &Lent, line_idx: usize, chars: &mut Span) -> 
         return NO_ROPE_HELD;
     };
     find_line(held, line_idx, chars)
+}
+
+fn find_line_break(rope: &Rope, line_idx: usize, len: &mut usize) -> u32
+    ensures { FindsLineBreak (Some rope.now) line_idx result len.old len.new }
+{
+    if line_idx >= rope.len_lines() {
+        return LINE_INDEX_OUT_OF_BOUNDS;
+    }
+    *len = rope.line(line_idx).line_break().len_chars();
+    OK
+}
+
+/// Writes to `len` the number of characters of the line break that the line `line_idx`, counted
+/// from 0, ends in: 2 for CR LF, 1 for another one, 0 if the line ends in none. The characters of
+/// the line without it end `len` before those that `ropey_line` finds.
+///
+/// # Errors
+///
+/// `NO_ROPE_HELD`, then `LINE_INDEX_OUT_OF_BOUNDS`, also for the number of lines.
+#[unsafe(no_mangle)]
+pub extern "C" fn ropey_line_break(rope: &Lent, line_idx: usize, len: &mut usize) -> u32
+    ensures answer { FindsLineBreak rope.now.rope line_idx result len.old len.new }
+    ensures kept { HoldsRope rope.now.rope }
+{
+    match rope.held() {
+        Some(held) => find_line_break(held, line_idx, len),
+        None => NO_ROPE_HELD,
+    }
 }

@@ -1,20 +1,22 @@
-//! Places as lines and columns in UTF-16 code units, both counted from 0. Each call costs a few
-//! look-ups and takes no memory; one that is refused writes nothing.
-ghost use Rattle.std.specs.Prelude.{◌≡◌, length};
+//! Places as lines and columns, both counted from 0. A column counts UTF-16 code units, or those of
+//! an encoding of the Language Server Protocol. Each call costs a few lookups and takes no memory;
+//! a call that fails writes nothing.
+ghost use Rattle.std.specs.Prelude.{◌≡◌, length, Ok, Some};
 ghost use Rattle.rope_text.specs.Edit.{char_index_error};
 ghost use Rattle.rope_text.specs.Position as of_text;
 ghost use Rattle.rope_text.specs.Answer.{checked};
 ghost use Rattle.rope_position.specs.Positions.{position_at};
+ghost use Rattle.rope_position.specs.Encodings.{position_in, clamped_char};
 ghost use Rattle.ropey_c.specs.Handles.{HoldsRope};
 ghost use Rattle.ropey_c.specs.Answers.{AnswersAt};
-ghost use Rattle.ropey_c.specs.Places.{IsPlace, PlacesAt};
+ghost use Rattle.ropey_c.specs.Places.{IsPlace, PlacesAt, PlacesIn, AnswersIn, given_encoding, place_of};
 
 use crate::lent::Lent;
-use crate::status::{NO_ROPE_HELD, OK, answer, status_of};
-use rope_position::{Position, Positions};
-use ropey::Result;
+use crate::status::{NO_ROPE_HELD, OK, UNKNOWN_ENCODING, UTF8, UTF16, UTF32, answer, status_of};
+use rope_position::{Encoding, Position, Positions};
+use ropey::{Result, Rope};
 
-/// A line, and a column in UTF-16 code units from the start of the line.
+/// A line, and a column in code units from the start of the line.
 #[repr(C)]
 #[derive(Clone, Copy)]
 pub struct Place {
@@ -84,4 +86,94 @@ pub extern "C" fn ropey_position_to_char(
         held.try_position_to_char(Position { line, column }),
         char_idx,
     )
+}
+
+// The encoding that a number stands for.
+fn given_encoding(number: u32) -> Option<Encoding>
+    ensures { result ≡ given_encoding number }
+{
+    match number {
+        UTF8 => Some(Encoding::Utf8),
+        UTF16 => Some(Encoding::Utf16),
+        UTF32 => Some(Encoding::Utf32),
+        _ => None,
+    }
+}
+
+fn place_in(rope: &Rope, char_idx: usize, encoding: u32, place: &mut Place) -> u32
+    ensures { PlacesIn (Some rope.now) (given_encoding encoding)
+        (λ e r. checked (char_index_error char_idx (length r.text))
+        (position_in e r.breaks r.text char_idx))
+        result place.old place.new }
+{
+    match given_encoding(encoding) {
+        Some(encoding) => answer_place(rope.try_char_to_position_in(char_idx, encoding), place),
+        None => UNKNOWN_ENCODING,
+    }
+}
+
+/// Writes to `place` the position of the character `char_idx`, counted from 0, or of the end of the
+/// text, with its column in code units of an encoding.
+///
+/// # Errors
+///
+/// `NO_ROPE_HELD`, then `UNKNOWN_ENCODING`, then `CHAR_INDEX_OUT_OF_BOUNDS`.
+#[unsafe(no_mangle)]
+pub extern "C" fn ropey_char_to_position_in(
+    rope: &Lent,
+    char_idx: usize,
+    encoding: u32,
+    place: &mut Place,
+) -> u32
+    ensures answer { PlacesIn rope.now.rope (given_encoding encoding)
+        (λ e r. checked (char_index_error char_idx (length r.text))
+        (position_in e r.breaks r.text char_idx))
+        result place.old place.new }
+    ensures kept { HoldsRope rope.now.rope }
+{
+    match rope.held() {
+        Some(held) => place_in(held, char_idx, encoding, place),
+        None => NO_ROPE_HELD,
+    }
+}
+
+fn clamped(rope: &Rope, position: Position, encoding: u32, char_idx: &mut usize) -> u32
+    ensures { AnswersIn (Some rope.now) (given_encoding encoding)
+        (λ e r. Ok (clamped_char e r.breaks r.text position))
+        result char_idx.old char_idx.new }
+{
+    match given_encoding(encoding) {
+        Some(encoding) => {
+            *char_idx = rope.clamped_position_to_char(position, encoding);
+            OK
+        }
+        None => UNKNOWN_ENCODING,
+    }
+}
+
+/// Writes to `char_idx` the character at a position, whose column counts code units of an encoding,
+/// as the Language Server Protocol reads it: a column past the end of its line is the line's end
+/// before its break, and a line past the last one is the end of the text. A column inside a
+/// character is that character.
+///
+/// # Errors
+///
+/// `NO_ROPE_HELD`, then `UNKNOWN_ENCODING`.
+#[unsafe(no_mangle)]
+pub extern "C" fn ropey_clamped_position_to_char(
+    rope: &Lent,
+    line: usize,
+    column: usize,
+    encoding: u32,
+    char_idx: &mut usize,
+) -> u32
+    ensures answer { AnswersIn rope.now.rope (given_encoding encoding)
+        (λ e r. Ok (clamped_char e r.breaks r.text (place_of line column)))
+        result char_idx.old char_idx.new }
+    ensures kept { HoldsRope rope.now.rope }
+{
+    match rope.held() {
+        Some(held) => clamped(held, Position { line, column }, encoding, char_idx),
+        None => NO_ROPE_HELD,
+    }
 }

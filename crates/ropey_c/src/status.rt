@@ -45,6 +45,16 @@ pub const BUFFER_TOO_SMALL: u32 = 17;
 pub const BYTE_INDEX_NOT_CHAR_BOUNDARY: u32 = 18;
 /// A handle holds no builder.
 pub const NO_BUILDER_HELD: u32 = 19;
+/// A handle holds no changes.
+pub const NO_CHANGES_HELD: u32 = 20;
+/// A range starts before the end of the last replacement.
+pub const CHAR_RANGE_OUT_OF_ORDER: u32 = 21;
+/// A text has another length than the changes are for.
+pub const LENGTHS_DIFFER: u32 = 22;
+/// The number stands for no side of inserted text.
+pub const UNKNOWN_SIDE: u32 = 23;
+/// The number stands for no encoding.
+pub const UNKNOWN_ENCODING: u32 = 24;
 
 /// The set of line breaks of LF alone.
 pub const LF: u32 = 0;
@@ -52,6 +62,18 @@ pub const LF: u32 = 0;
 pub const LF_CR: u32 = 1;
 /// Unicode's set of line breaks.
 pub const UNICODE: u32 = 2;
+
+/// The side before inserted text.
+pub const BEFORE: u32 = 0;
+/// The side after inserted text.
+pub const AFTER: u32 = 1;
+
+/// Columns that count the bytes of UTF-8.
+pub const UTF8: u32 = 0;
+/// Columns that count the code units of UTF-16.
+pub const UTF16: u32 = 1;
+/// Columns that count characters.
+pub const UTF32: u32 = 2;
 
 // The status of an error.
 pub(crate) fn status_of(error: Error) -> u32

@@ -1,0 +1,75 @@
+/* Random numbers, texts and refused allocations for tests that compare the library with a plain text (model.h). A program
+ * that includes this is linked with --wrap=malloc and --wrap=realloc. */
+#ifndef RANDOM_H
+#define RANDOM_H
+
+#include "model.h"
+#include <stdio.h>
+
+static uint64_t state = 88172645463325252u;
+static const char *now = "";
+
+static inline uint64_t draw(void) {
+    state ^= state << 13;
+    state ^= state >> 7;
+    state ^= state << 17;
+    return state;
+}
+
+static inline size_t below(size_t n) { return (size_t)(draw() % n); }
+
+static inline void fail(int line, const char *what) {
+    fprintf(stderr, "%s, line %d: %s\n", now, line, what);
+    abort();
+}
+
+#define CHECK(fact) ((fact) ? (void)0 : fail(__LINE__, #fact))
+
+/* Allocations, of which one can be refused. */
+static long refuse_at = -1;
+static bool refused = false;
+
+void *__real_malloc(size_t size);
+void *__real_realloc(void *block, size_t size);
+
+static inline bool is_refused(void) {
+    if (refuse_at < 0 || refuse_at-- != 0) {
+        return false;
+    }
+    refused = true;
+    return true;
+}
+
+void *__wrap_malloc(size_t size) { return is_refused() ? NULL : __real_malloc(size); }
+
+void *__wrap_realloc(void *block, size_t size) { return is_refused() ? NULL : __real_realloc(block, size); }
+
+/* Before a call, decides whether an allocation of it is refused; behind it, allows all of them again. */
+static inline void arm(void) {
+    refused = false;
+    refuse_at = below(8) == 0 ? (long)below(6) : -1;
+}
+
+static inline ropey_status disarm(ropey_status status) {
+    refuse_at = -1;
+    CHECK(status != ROPEY_OUT_OF_MEMORY || refused);
+    return status;
+}
+
+#define CALL(call) (arm(), disarm(call))
+
+static const uint32_t letters[] = {'a', 'b', ' ', '\n', '\n', '\r', '\r', 0x0B, 0x85, 0xE9, 0x2028, 0x2029, 0x4E2D, 0xFEFF, 0x1F600, 0x10FFFF};
+
+static inline model drawn_text(size_t longest) {
+    size_t len = below(longest + 1);
+    model m = model_of(letters, 0, ROPEY_LF);
+    free(m.chars);
+    m.chars = malloc((len + 1) * sizeof *m.chars);
+    m.len = len;
+    for (size_t i = 0; i < len; i++) {
+        m.chars[i] = letters[below(sizeof letters / sizeof *letters)];
+    }
+    return m;
+}
+
+#endif

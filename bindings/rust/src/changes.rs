@@ -1,0 +1,254 @@
+//! Changes of a text as values: applied whole or not at all, inverted, composed, and rebased.
+//!
+//! A [`ChangeSet`] is a list of replacements of ranges of one text, in order and apart. An editor makes one for all its
+//! carets, applies it to a rope, keeps its inverse to undo, and moves its bookmarks through it.
+//!
+//! ```
+//! use ropey::changes::{ChangeSet, Edit, Side};
+//! use ropey::Rope;
+//!
+//! # fn main() -> Result<(), ropey::changes::ChangeError> {
+//! let mut rope = Rope::from_str("one two");
+//! let edits = [Edit { start: 0, end: 3, text: "1" }, Edit { start: 4, end: 4, text: "and " }];
+//! let changes = ChangeSet::of_edits(rope.len_chars(), &edits)?;
+//! let undo = changes.invert(&rope)?;
+//! changes.apply(&mut rope)?;
+//! assert_eq!(rope, "1 and two");
+//! assert_eq!(changes.map(4, Side::After), 6);
+//! undo.apply(&mut rope)?;
+//! assert_eq!(rope, "one two");
+//! # Ok(())
+//! # }
+//! ```
+use std::fmt;
+
+use crate::ffi::changes::{Changes, LENGTHS_DIFFER, OUT_OF_ORDER, RANGE_INVALID, RANGE_OUT_OF_BOUNDS};
+use crate::Rope;
+
+/// On which side of inserted text an index stays.
+#[derive(Clone, Copy, Debug, PartialEq, Eq, Hash)]
+pub enum Side {
+    /// Before the inserted text.
+    Before,
+    /// After the inserted text.
+    After,
+}
+
+/// A range of characters, and the text that replaces it.
+#[derive(Clone, Copy, Debug, PartialEq, Eq, Hash)]
+pub struct Edit<'a> {
+    /// The index of the first character that is replaced.
+    pub start: usize,
+    /// The index after the last character that is replaced.
+    pub end: usize,
+    /// The text in their place.
+    pub text: &'a str,
+}
+
+/// A replacement of a change set, with its ranges in characters.
+#[derive(Clone, Copy, Debug, PartialEq, Eq, Hash)]
+pub struct EditRange<'a> {
+    /// The start of the range that it replaces, in the text before.
+    pub start: usize,
+    /// The end of the range that it replaces, in the text before.
+    pub end: usize,
+    /// The start of its text, in the text after.
+    pub new_start: usize,
+    /// The end of its text, in the text after.
+    pub new_end: usize,
+    /// The text that it inserts.
+    pub text: &'a str,
+}
+
+/// Why a call of a change set fails.
+#[derive(Clone, Copy, Debug, PartialEq, Eq, Hash)]
+#[non_exhaustive]
+pub enum ChangeError {
+    /// A range whose start is past its end: its start and end.
+    RangeInvalid(usize, usize),
+    /// A range that ends past the text before the changes: its end, and the length of that text in characters.
+    RangeOutOfBounds(usize, usize),
+    /// A range that starts before the end of the last replacement: its start, and that end.
+    OutOfOrder(usize, usize),
+    /// A text of another length than the changes are for: the length that they are for, and the text's, in characters.
+    LengthDiffers(usize, usize),
+    /// The text would have more than `isize::MAX` characters or bytes.
+    TooLong,
+}
+
+impl std::error::Error for ChangeError {}
+
+impl fmt::Display for ChangeError {
+    fn fmt(&self, f: &mut fmt::Formatter<'_>) -> fmt::Result {
+        match *self {
+            ChangeError::RangeInvalid(start, end) => {
+                write!(f, "Invalid char range {start}..{end}: start must be <= end")
+            }
+            ChangeError::RangeOutOfBounds(end, len) => {
+                write!(f, "Char range out of bounds: range end {end}, text char length {len}")
+            }
+            ChangeError::OutOfOrder(start, last_end) => {
+                write!(f, "Char range out of order: range start {start}, last replacement end {last_end}")
+            }
+            ChangeError::LengthDiffers(expected, len) => {
+                write!(f, "Text length differs: char length {len}, the change is for {expected}")
+            }
+            ChangeError::TooLong => write!(f, "Text would be longer than isize::MAX"),
+        }
+    }
+}
+
+/// Returns the error of a call on a text of `len` characters where the changes are for `expected`.
+fn for_lengths(expected: usize, len: usize) -> impl Fn(u32) -> ChangeError {
+    move |status| match status {
+        LENGTHS_DIFFER => ChangeError::LengthDiffers(expected, len),
+        _ => ChangeError::TooLong,
+    }
+}
+
+/// Changes of a text of a given length: replacements of ranges, in order and apart.
+///
+/// Changes take memory for their replacements and for the texts that they insert. Out of memory, a call ends the program as an
+/// edit of a `Vec` does.
+pub struct ChangeSet {
+    changes: Changes,
+}
+
+impl ChangeSet {
+    /// Creates changes that keep all of a text of `len` characters.
+    ///
+    /// # Errors
+    ///
+    /// `TooLong` if `len` is above `isize::MAX`.
+    pub fn new(len: usize) -> Result<ChangeSet, ChangeError> {
+        Changes::new(len).map(ChangeSet::of).map_err(|_| ChangeError::TooLong)
+    }
+
+    fn of(changes: Changes) -> ChangeSet {
+        ChangeSet { changes }
+    }
+
+    /// Creates changes of a text of `len` characters from edits in order, as `new` and then `replace` for each of them do.
+    ///
+    /// # Errors
+    ///
+    /// `TooLong` if `len` is above `isize::MAX`; then the error of `replace` for the first edit that it refuses.
+    pub fn of_edits(len: usize, edits: &[Edit<'_>]) -> Result<ChangeSet, ChangeError> {
+        let mut made = ChangeSet::new(len)?;
+        edits.iter().try_for_each(|edit| made.replace(edit.start, edit.end, edit.text))?;
+        Ok(made)
+    }
+
+    /// Replaces the characters from `start` up to `end` by `text`. The indices are those of the text before the changes, and
+    /// the range comes after the last one that they replace. If it begins at the end of that one, the two become one
+    /// replacement.
+    ///
+    /// # Errors
+    ///
+    /// First `RangeInvalid`, then `RangeOutOfBounds`, then `OutOfOrder`; then `TooLong` if the text after the changes would have
+    /// more than `isize::MAX` characters. A call that fails leaves the changes as they were.
+    pub fn replace(&mut self, start: usize, end: usize, text: &str) -> Result<(), ChangeError> {
+        self.changes.replace(start, end, text).map_err(|status| match status {
+            RANGE_INVALID => ChangeError::RangeInvalid(start, end),
+            RANGE_OUT_OF_BOUNDS => ChangeError::RangeOutOfBounds(end, self.len_before()),
+            OUT_OF_ORDER => ChangeError::OutOfOrder(start, self.edits().last().map_or(0, |last| last.end)),
+            _ => ChangeError::TooLong,
+        })
+    }
+
+    /// The number of characters of the text before the changes.
+    pub fn len_before(&self) -> usize {
+        self.changes.len_before()
+    }
+
+    /// The number of characters of the text after the changes.
+    pub fn len_after(&self) -> usize {
+        self.changes.len_after()
+    }
+
+    /// Whether the changes replace nothing.
+    pub fn is_empty(&self) -> bool {
+        self.changes.count() == 0
+    }
+
+    /// The replacements, in order.
+    pub fn edits(&self) -> Vec<EditRange<'_>> {
+        self.changes.edits()
+    }
+
+    /// Applies the changes to the text of a rope. Costs two edits of the rope per replacement.
+    ///
+    /// # Errors
+    ///
+    /// `LengthDiffers` if the rope's length isn't `len_before()`; then `TooLong` if its text and the texts that the changes
+    /// insert have more than `isize::MAX` bytes together. A call that fails leaves the rope as it was.
+    pub fn apply(&self, rope: &mut Rope) -> Result<(), ChangeError> {
+        let error = for_lengths(self.len_before(), rope.len_chars());
+        rope.apply(&self.changes).map_err(error)
+    }
+
+    /// Returns the changes that lead from the text after these back to the text of `before`, which is the text before.
+    ///
+    /// # Errors
+    ///
+    /// `LengthDiffers` if the rope's length isn't `len_before()`.
+    pub fn invert(&self, before: &Rope) -> Result<ChangeSet, ChangeError> {
+        let error = for_lengths(self.len_before(), before.len_chars());
+        self.changes.invert(&before.root).map(ChangeSet::of).map_err(error)
+    }
+
+    /// Returns the changes that do what these and then `later` do.
+    ///
+    /// # Errors
+    ///
+    /// `LengthDiffers` if `later` isn't for a text of `len_after()` characters.
+    pub fn compose(&self, later: &ChangeSet) -> Result<ChangeSet, ChangeError> {
+        let error = for_lengths(later.len_before(), self.len_after());
+        self.changes.compose(&later.changes).map(ChangeSet::of).map_err(error)
+    }
+
+    /// Returns these changes as changes of the text after `over`, where both are changes of one text. If both insert at one
+    /// index, the text of these comes first with `Side::Before`, and the text of `over` with `Side::After`. If `a` is rebased
+    /// over `b` with one side, and `b` over `a` with the other, both orders lead to the same text.
+    ///
+    /// # Errors
+    ///
+    /// `LengthDiffers` if the two are for different lengths; then `TooLong` if the text after the result would have more than
+    /// `isize::MAX` characters.
+    pub fn rebase(&self, over: &ChangeSet, side: Side) -> Result<ChangeSet, ChangeError> {
+        let error = for_lengths(self.len_before(), over.len_before());
+        self.changes.rebase(&over.changes, side as u32).map(ChangeSet::of).map_err(error)
+    }
+
+    /// The index in the text after the changes of a character, or of the end, of the text before. If text is inserted at the
+    /// index, the result is on the given side of that text. An index inside a replaced range, past its start, goes to the end
+    /// of the new text.
+    ///
+    /// # Panics
+    ///
+    /// If the index is past `len_before()`.
+    #[track_caller]
+    pub fn map(&self, char_idx: usize, side: Side) -> usize {
+        match self.changes.map(char_idx, side as u32) {
+            Ok(moved) => moved,
+            Err(_) => panic!("Char index out of bounds: char index {char_idx}, text char length {}", self.len_before()),
+        }
+    }
+
+    /// Moves each of the indices as [`map`](Self::map) does, in one pass over the replacements if they ascend.
+    ///
+    /// # Panics
+    ///
+    /// If one of the indices is past `len_before()`.
+    #[track_caller]
+    pub fn map_sorted(&self, char_indices: &mut [usize], side: Side) {
+        let moved = self.changes.map_sorted(char_indices, side as u32);
+        assert!(moved.is_ok(), "Char index out of bounds: text char length {}", self.len_before());
+    }
+}
+
+impl fmt::Debug for ChangeSet {
+    fn fmt(&self, f: &mut fmt::Formatter<'_>) -> fmt::Result {
+        f.debug_struct("ChangeSet").field("len_before", &self.len_before()).field("edits", &self.edits()).finish()
+    }
+}
