@@ -1,7 +1,9 @@
 //! Examples: small callers of ropes, each but the first with a contract that says what it did. They
-//! are proved from public contracts alone. docs/CALLING.md shows them, and `rope_tests` runs them.
+//! are proved from public contracts alone. docs/CALLING.md shows them. `rope_tests` runs them, and
+//! the tests here run those of `changes`.
 #![tactic(auto)]
 
+pub mod changes;
 pub mod copies;
 pub mod edits;
 pub mod files;
@@ -11,4 +13,6 @@ pub mod lines;
 pub mod places;
 pub mod positions;
 pub mod search;
+#[cfg(test)]
+mod tests;
 pub mod twins;
