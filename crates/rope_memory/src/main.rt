@@ -4,6 +4,7 @@
 //! that a call succeeds in the end.
 #![tactic(auto)]
 
+mod changing;
 mod edits;
 mod making;
 mod parts;
@@ -24,6 +25,7 @@ fn run(rt: &impl Print, alloc: Global, faults: &mut usize) -> bool {
         && parts::run(rt, alloc, faults)
         && making::run(rt, alloc, faults)
         && texts::run(rt, alloc, faults)
+        && changing::run(rt, alloc, faults)
         && reading::run(rt, alloc)
         && sessions::run(rt, alloc)
 }
