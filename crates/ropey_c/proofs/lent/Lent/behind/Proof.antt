@@ -24,7 +24,8 @@ use Rattle.std.proofs.VecSteps.Shapes.{after}
 use Rattle.std.proofs.raw_atomic.Walks.{proved, leaves}
 use Rattle.std.proofs.option.Made.{Some-of, none_of}
 use Rattle.std.specs.Prelude.{None, Some}
-use Rattle.ropey_c.proofs.Lents.{R, Lent, shown, lent_cell, lent_tells, cell_halves, shows_as}
+use Rattle.ropey_c.proofs.Lending.{shown, shows_as}
+use Rattle.ropey_c.proofs.Lents.{R, Lent, lent_cell, lent_tells, cell_halves}
 use Rattle.ropey_c.specs.contracts.lent.Lent.behind.{ended, clauses}
 use Rattle.ropey_c.specs.contracts.lent.Lent.behind.Key.{name as #self}
 use Rattle.ropey_c.proofs.lent.Lent.behind.Statement.{statement}
@@ -44,8 +45,8 @@ behind_spec 𝓤 𝓛 𝓜 𝓡 wired =
     split ! $ split ! $ move ! (2 ∷ []) $ split ! $ keep ! (0 ∷ 2 ∷ []) $
     enter ! 𝓣.C 𝓣.Λ fn (w ∷ []) (W.post z) $ alloc_all ! (λ l. pass_all ! refl ((tt, tt), tt) $ let Ev = env fn.locals l in
     fsplit ! $ drop ! $ unhide ! $ shr_bor_dup ! $ hide ! $ move ! (1 ∷ []) $ hide ! $ move ! (0 ∷ 2 ∷ []) $
-    use2 𝓛 (later (‵ (flft κ q) ⊛ ‵ (fshr_bor κ (lent_cell d.ptr rb ro)) ⊛ ‵ (shown d.ptr d.rope κ))) (lent_tells 𝓛 d rb ro κ q) $ await ! tt $ split ! $ move ! (1 ∷ []) $ split ! $
-    move ! (1 ∷ []) $ shows_as ! d.ptr d.rope κ
+    use2 𝓛 (later (‵ (flft κ q) ⊛ ‵ (fshr_bor κ (lent_cell d.ptr rb ro)) ⊛ ‵ (shown R d.ptr d.rope κ))) (lent_tells 𝓛 d rb ro κ q) $ await ! tt $ split ! $ move ! (1 ∷ []) $ split ! $
+    move ! (1 ∷ []) $ shows_as R ! d.ptr d.rope κ
     (λ is e. rewrite ! 0 (λ (p : Ptr). ‵ (fshr_bor κ (lent_cell p rb ro))) is refl $ shr_bor-open ! tt (cell_halves 𝓛 null_ptr rb ro) (λ s.
     sets ! (of_opd ! (load ! (through ! refl (fld ! refl (stop !))) (look_in ! 1 (sub ! 0 refl (whole !))))) refl (tt, record { fits = lit< tt }) $ obor_close ! tt $ drop ! $
     sets ! (of_opd ! (get ! refl)) refl (tt, record { fits = lit< tt }) $
