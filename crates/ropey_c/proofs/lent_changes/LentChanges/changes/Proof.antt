@@ -56,7 +56,8 @@ changes_spec 𝓤 𝓛 𝓜 𝓡 wired =
     fsplit ! $ drop ! $ unhide ! $ shr_bor_dup ! $ hide ! $ move ! (1 ∷ []) $ hide ! $
     move ! (0 ∷ 2 ∷ []) $
     use2 𝓛 (later (‵ (flft κ q) ⊛ ‵ (fshr_bor κ (lent_cell d.ptr rb ro)) ⊛
-    ‵ (shown R d.ptr d.held κ))) (lent_tells 𝓛 d rb ro κ q) $ await ! tt $ split ! $ move ! (1 ∷ []) $
+    ‵ (shown R d.ptr d.held κ))) (lent_tells 𝓛 d rb ro κ q) $ await ! tt $ split ! $
+    move ! (1 ∷ []) $
     split ! $
     move ! (1 ∷ []) $ shows_as R ! d.ptr d.held κ
     (λ is e. rewrite ! 0 (λ (p : Ptr). ‵ (fshr_bor κ (lent_cell p rb ro))) is refl $
