@@ -206,7 +206,8 @@ static void check_inverse(const ropey_changes *changes, const list *drawn, const
     TRY(status, &inverse, ropey_changes_invert(changes, &rope, &inverse));
     CHECK(status == ROPEY_OK);
     check_applied(&inverse, after, before);
-    status = CALL(ropey_apply_edits(&rope, drawn->edits, drawn->count));
+    status = CALL(ropey_apply_edits(&rope, drawn->count == 0 && below(2) ? NULL : drawn->edits, drawn->count));
+    CHECK(drawn->count > 0 || status == ROPEY_OK);
     if (status == ROPEY_OUT_OF_MEMORY) {
         check_text(&rope, before);
         status = ropey_apply_edits(&rope, drawn->edits, drawn->count);
@@ -302,6 +303,13 @@ static void run_round(void) {
     ropey_changes changes = ROPEY_NO_CHANGES;
     text.break_set = (uint32_t)below(3);
     CHECK(made_of(&drawn, &changes) == drawn.wanted);
+    if (drawn.wanted != ROPEY_OK) {
+        ropey_rope rope = ROPEY_NO_ROPE;
+        make_rope(&text, &rope);
+        CHECK(ropey_apply_edits(&rope, drawn.edits, drawn.count) == drawn.wanted);
+        check_text(&rope, &text);
+        ropey_free(&rope);
+    }
     if (drawn.wanted == ROPEY_OK) {
         model after = edited(&drawn, &text);
         check_applied(&changes, &text, &after);

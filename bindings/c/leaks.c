@@ -189,6 +189,8 @@ static void changes_over(void) {
     ropey_changes_rebase(&changes, &more, ROPEY_AFTER, &moved);
     ropey_changes_compose(&more, &moved, &changes);
     ropey_changes_apply(&more, &rope);
+    ropey_apply_edits(&rope, list, 3);
+    ropey_apply_edits(&rope, list, 0);
     ropey_changes_free(&more);
 }
 

@@ -27,7 +27,7 @@
  * rope answers ROPEY_NO_ROPE_HELD. A call with nothing to change takes no memory, and never answers ROPEY_OUT_OF_MEMORY: an
  * insert of an empty text, a removal of an empty range, a replacement of an empty range by an empty text, an append of or to an
  * empty rope, a shrink of an empty rope, an append of no bytes to a builder, an application of changes
- * that replace nothing.
+ * that replace nothing, or of no edits.
  *
  * Edits are the calls that take a `ropey_rope *` which holds a rope; look-ups are those that take a `const ropey_rope *`.
  * A look-up changes nothing, and gives pointers into the rope's memory. They are good until the handle is passed to an
@@ -469,6 +469,10 @@ size_t ropey_changes_len_after(const ropey_changes *changes);
  * Refused: NO_CHANGES_HELD, NO_ROPE_HELD, LENGTHS_DIFFER, TOO_LONG, OUT_OF_MEMORY. */
 ropey_status ropey_changes_apply(const ropey_changes *changes, ropey_rope *rope);
 
+/* Makes edits in order and apart, or none of them: their indices are those of the text before all of them.
+ * Refused: NO_ROPE_HELD, the first refusal of ropey_changes_replace, TOO_LONG, OUT_OF_MEMORY. */
+ropey_status ropey_apply_edits(ropey_rope *rope, const ropey_edit *edits, size_t count);
+
 /* Makes the changes that lead from the text after the changes back to the text of before, which is the text before them.
  * Refused: NO_CHANGES_HELD, NO_ROPE_HELD, LENGTHS_DIFFER, OUT_OF_MEMORY. */
 ropey_status ropey_changes_invert(const ropey_changes *changes, const ropey_rope *before, ropey_changes *inverse);
@@ -527,21 +531,6 @@ ropey_status ropey_text_line_to_char(const uint8_t *text, size_t len, uint32_t b
 #ifdef __cplusplus
 }
 #endif
-
-/* Makes all edits, in order and apart, or does nothing at all: their indices are those of the text before all of them.
- * Refused: NO_ROPE_HELD, then as ropey_changes_of_edits and ropey_changes_apply are. */
-static inline ropey_status ropey_apply_edits(ropey_rope *rope, const ropey_edit *edits, size_t count) {
-    ropey_changes changes = ROPEY_NO_CHANGES;
-    ropey_status status = ROPEY_NO_ROPE_HELD;
-    if (rope->ptr != NULL) {
-        status = ropey_changes_of_edits(ropey_len_chars(rope), edits, count, &changes);
-    }
-    if (status == ROPEY_OK) {
-        status = ropey_changes_apply(&changes, rope);
-    }
-    ropey_changes_free(&changes);
-    return status;
-}
 
 /* A status in words, for a message: a sentence without its stop. */
 static inline const char *ropey_status_text(uint32_t status) {

@@ -1,6 +1,7 @@
 pub mod BuilderHandles
 pub mod ChangesHandles
 pub mod EditLists
+pub mod Lending
 pub mod LentChanges
 pub mod LineBreaks
 pub mod Before
@@ -11,6 +12,7 @@ pub mod Copying
 pub mod Filling
 pub mod FoundChunks
 pub mod Handles
+pub mod Held
 pub mod Lents
 pub mod Parts
 pub mod Showing

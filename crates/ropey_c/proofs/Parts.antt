@@ -17,7 +17,7 @@ use Rattle.std.specs.Box.Ownership.{box_owns}
 use Rattle.std.specs.contracts.impls.GlobalAllocator.TheImpl.{ghosts}
 use Rattle.std.proofs.alloc.Calls.{Fits, handle_tells}
 use Rattle.ropey_c.specs.contracts.unboxed.Unboxed as unboxed
-use Rattle.ropey_c.proofs.Handles.{Z, al, pair}
+use Rattle.ropey_c.proofs.Held.{Z, al, pair}
 
 module _ (X : RattleType) where
   abbrev Row : RattleType

@@ -1,15 +1,14 @@
 -- What a builder's handle owns, and what calls on it do.
 use Rattle.std.specs.Prelude.{◌≡◌, ◌≢◌, ℕ, ◌<◌, List, [], length, Option, Some, None, IsSomeAnd}
 use Rattle.std.specs.Coded.{Coded}
-use base.Fml.{Fml, feq}
-use denote.RawPtr.{Ptr, null_ptr}
-use Rattle.std.specs.Box.Ownership.{box_owns}
+use base.Fml.{Fml}
+use denote.RawPtr.{Ptr}
 use Rattle.std.specs.declared.alloc.Global.{Global}
-use Rattle.std.specs.contracts.impls.GlobalAllocator.TheImpl.{ghosts}
 use Rattle.rope_text.specs.declared.line_breaks.LineBreaks.{LineBreaks}
 use Rattle.rope_text.specs.Text.{byte_len}
 use Rattle.ropey.specs.View.{RopeView, IsBuilt}
 use Rattle.ropey_c.specs.Intake.{Taking, nothing_taken, Takes}
+use Rattle.ropey_c.specs.Handles.{held_at}
 use Rattle.ropey_c.specs.Status.{IsStatus}
 use Rattle.ropey_c.specs.declared.status.TheConstants.{OK, INVALID_UTF8, NO_BUILDER_HELD, UNKNOWN_BREAK_SET}
 use Rattle.ropey_c.specs.contracts.intake.Intake.{the_row}
@@ -18,10 +17,9 @@ use Rattle.ropey_c.specs.contracts.intake.Intake.{the_row}
 abbrev pub intake_code : Coded Taking
 intake_code = the_row.coded
 
--- no builder at null, and else what a box of it owns
+-- no builder at null, and otherwise what a box of it owns
 abbrev pub intake_at : Global → Ptr → Option Taking → Fml
-intake_at alloc p None = feq Ptr p null_ptr
-intake_at alloc p (Some intake) = box_owns (ghosts.dealloc_token alloc) the_row p intake
+intake_at alloc p intake = held_at the_row alloc p intake
 
 -- a new builder was given nothing
 abbrev pub Begins : Option LineBreaks → Option Taking → Option Taking → ℕ → Type 0

@@ -3,9 +3,11 @@ use Rattle.std.specs.Prelude.{◌≡◌, ◌⊎◌, ℕ, ◌+◌, ◌<◌, List,
 use Rattle.std.specs.Str.{chars, encode_utf8_all}
 use Rattle.rope_changes.specs.declared.Edit.{Edit}
 use Rattle.rope_changes.specs.Change as change
-use Rattle.rope_changes.specs.Change.{Change, replaced}
+use Rattle.rope_changes.specs.Change.{Change, replaced, ops}
+use Rattle.rope_changes.specs.Built.{unchanged, built}
+use Rattle.rope_changes.specs.Ops.{run}
 use Rattle.ropey_c.specs.Status.{IsStatus}
-use Rattle.ropey_c.specs.ChangeStatus.{IsReplaceStatus}
+use Rattle.ropey_c.specs.ChangeStatus.{IsReplaceStatus, IsApplyStatus}
 use Rattle.ropey_c.specs.declared.status.TheConstants.{OK, NO_CHANGES_HELD}
 use Rattle.ropey_c.specs.declared.change_edits.GivenEdit.{GivenEdit}
 use Rattle.ropey_c.specs.declared.change_edits.Replacement.{Replacement}
@@ -21,6 +23,19 @@ IsEditsStatus c (e ∷ edits) status =
     ((0 < status) × IsReplaceStatus c e.start e.end e.text.now status)
     ⊎ (IsReplaceStatus c e.start e.end e.text.now OK
     × IsEditsStatus (replaced c e.start e.end (chars e.text.now)) edits status)
+
+-- a text with all edits made, whose indices are those of this text
+abbrev pub edited : List ℕ → List GivenEdit → List ℕ
+edited text edits = run (ops (built (unchanged (length text)) (map edit_of edits))) text
+
+-- the status of edits that are made in a text: that of the first that is refused, and otherwise
+-- that
+-- of the changes that they make
+abbrev pub IsAppliedStatus : List ℕ → List GivenEdit → ℕ → Type 0
+IsAppliedStatus text edits status =
+    ((0 < status) × IsEditsStatus (unchanged (length text)) edits status)
+    ⊎ (IsEditsStatus (unchanged (length text)) edits OK
+    × IsApplyStatus (built (unchanged (length text)) (map edit_of edits)) text status)
 
 -- a replacement as C sees it: its range in both texts, and the bytes of its text
 pub record Listed : Type 0 where

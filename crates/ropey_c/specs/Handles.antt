@@ -2,6 +2,7 @@
 use Rattle.std.specs.Prelude.{ℕ, List, [], Option, None, Some, IfSome}
 use Rattle.std.specs.Coded.{Coded}
 use base.Fml.{Fml, Lft, Share, ftrue, feq, fsep, fex, flft}
+use denote.RattleType.{RattleType}
 use denote.RawPtr.{Ptr, null_ptr, Testable}
 use denote.Struct.Lending.{lent_at}
 use Rattle.std.specs.Box.Ownership.{box_owns}
@@ -16,23 +17,31 @@ use Rattle.ropey.specs.contracts.Rope.{the_row}
 abbrev pub rope_code : Coded RopeView
 rope_code = the_row.coded
 
--- no rope at null, and else what a box of it owns
+-- nothing at null, and otherwise what a box of the value owns
+abbrev pub held_at : (R : RattleType) → Global → Ptr → Option R.Denot → Fml
+held_at R alloc p None = feq Ptr p null_ptr
+held_at R alloc p (Some x) = box_owns (ghosts.dealloc_token alloc) R p x
+
+-- no rope at null, and otherwise what a box of it owns
 abbrev pub rope_at : Global → Ptr → Option RopeView → Fml
-rope_at alloc p None = feq Ptr p null_ptr
-rope_at alloc p (Some rope) = box_owns (ghosts.dealloc_token alloc) the_row p rope
+rope_at alloc p rope = held_at the_row alloc p rope
 
 -- some share of a lifetime's token: the lifetime lasts as long as this is held
 abbrev pub lasts : Lft → Fml
 lasts κ = fex Share (λ q. flft κ q)
 
--- the rope at p is lent for κ, which lasts
-abbrev pub lent_for : Ptr → RopeView → Lft → Fml
-lent_for p rope κ = fsep (lent_at the_row p rope κ) (lasts κ)
+-- the value at p is lent for κ, which lasts
+abbrev pub lent_for : (R : RattleType) → Ptr → R.Denot → Lft → Fml
+lent_for R p x κ = fsep (lent_at R p x κ) (lasts κ)
 
--- no rope at null, and else one that is lent
+-- nothing at null, and otherwise a value that is lent
+abbrev pub held_lent : (R : RattleType) → Ptr → Option R.Denot → Fml
+held_lent R p None = feq Ptr p null_ptr
+held_lent R p (Some x) = fsep (fex (Testable p) (λ _. ftrue)) (fex Lft (lent_for R p x))
+
+-- no rope at null, and otherwise one that is lent
 abbrev pub rope_lent : Ptr → Option RopeView → Fml
-rope_lent p None = feq Ptr p null_ptr
-rope_lent p (Some rope) = fsep (fex (Testable p) (λ _. ftrue)) (fex Lft (lent_for p rope))
+rope_lent p rope = held_lent the_row p rope
 
 -- a handle's rope, if there is one, is what every rope is: chunks of 1 to 984 bytes that join to its text, few of them
 abbrev pub HoldsRope : Option RopeView → Type 0

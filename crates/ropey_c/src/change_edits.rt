@@ -1,15 +1,20 @@
 //! Lists of edits: changes that are made of one, and the replacements of changes read back.
-ghost use Rattle.std.specs.Prelude.{◌≡◌, ◌+◌, ◌<◌, ◌≤◌, ◌^◌, length, map, Some};
+ghost use Rattle.std.specs.Prelude.{◌≡◌, ◌+◌, ◌<◌, ◌≤◌, ◌^◌, length, map, Some, ⊤};
 ghost use Rattle.std.specs.Str.{chars, encode_utf8_all};
 ghost use Rattle.rope_changes.specs.Built.{unchanged, built};
-ghost use Rattle.ropey_c.specs.ChangeEdits.{edit_of, IsEditsStatus, Lists, ListsAt};
+ghost use Rattle.ropey.specs.View.{IsRope};
+ghost use Rattle.ropey_c.specs.Answers.{Changes, Keeps};
+ghost use Rattle.ropey_c.specs.Handles.{HoldsRope};
+ghost use Rattle.ropey_c.specs.ChangeEdits.{edit_of, edited, IsEditsStatus, IsAppliedStatus, Lists, ListsAt};
 
 use crate::change_status::status_of_change;
-use crate::changes::{keep, replace};
+use crate::changes::{apply, keep, replace};
 use crate::changes_handle::ChangesHandle;
+use crate::handle::Handle;
 use crate::lent_changes::LentChanges;
-use crate::status::{NO_CHANGES_HELD, OK, TOO_LONG};
+use crate::status::{NO_CHANGES_HELD, NO_ROPE_HELD, OK, TOO_LONG};
 use rope_changes::{ChangeSet, EditRange};
+use ropey::Rope;
 use std::alloc::Global;
 
 /// An edit that C gives: the characters from `start` up to `end` are replaced by bytes of UTF-8.
@@ -47,6 +52,7 @@ fn text_of<'a>(edit: &GivenEdit<'a>) -> &'a [u8]
 fn replace_all(changes: &mut ChangeSet, edits: &[GivenEdit<'_>]) -> u32
     ensures status { IsEditsStatus changes.old edits.now result }
     ensures ok { result ≡ OK → changes.new ≡ built changes.old (map edit_of edits.now) }
+    ensures empty { length edits.now ≡ 0 → (result ≡ OK) × (changes.new ≡ changes.old) }
 {
     for edit in edits {
         let status = replace(changes, edit.start, edit.end, text_of(edit));
@@ -99,6 +105,53 @@ fn make(
         return status;
     }
     keep(alloc, made, changes)
+}
+
+fn apply_edits(alloc: Global, rope: &mut Rope, edits: &[GivenEdit<'_>]) -> u32
+    ensures status { IsAppliedStatus rope.old.text edits.now result }
+    ensures ok { result ≡ OK → rope.new.text ≡ edited rope.old.text edits.now }
+    ensures err { 0 < result → rope.new ≡ rope.old }
+    ensures empty { length edits.now ≡ 0 → (result ≡ OK) × (rope.new ≡ rope.old) }
+    ensures breaks { rope.new.breaks ≡ rope.old.breaks }
+    ensures kept { IsRope rope.new }
+{
+    let Ok(mut made) = ChangeSet::new(alloc, rope.len_chars()) else {
+        unreachable!()
+    };
+    let status = replace_all(&mut made, edits);
+    if status != OK {
+        return status;
+    }
+    apply(&made, rope)
+}
+
+/// Makes edits in the text of a rope, in order and apart, or none of them: their indices are those
+/// of the text before all of them. The set of line breaks stays. No edits take no memory. Takes
+/// time for two edits of the rope per edit.
+///
+/// # Errors
+///
+/// `NO_ROPE_HELD`, then the error of `ropey_changes_replace` for the first edit that it refuses,
+/// then `TOO_LONG` if the text of the rope and those of the edits have more than `isize::MAX` bytes
+/// together, then `OUT_OF_MEMORY`. A call that fails leaves the rope as it was.
+#[unsafe(no_mangle)]
+pub extern "C" fn ropey_apply_edits(
+    alloc: Global,
+    rope: &mut Handle,
+    edits: &[GivenEdit<'_>],
+) -> u32
+    ensures changes { Changes rope.old.rope rope.new.rope result
+        (λ old. IsAppliedStatus old.text edits.now result)
+        (λ old new. (new.text ≡ edited old.text edits.now) × (new.breaks ≡ old.breaks)) }
+    ensures empty { length edits.now ≡ 0 → Keeps rope.old.rope rope.new.rope result (λ _. ⊤) }
+    ensures kept { HoldsRope rope.new.rope }
+{
+    let Some(mut held) = rope.take(alloc) else {
+        return NO_ROPE_HELD;
+    };
+    let status = apply_edits(alloc, &mut held, edits);
+    rope.put(held);
+    status
 }
 
 fn shown<'a>(edit: &EditRange<'a>) -> Replacement<'a>

@@ -147,7 +147,7 @@ pub extern "C" fn ropey_changes_len_after(changes: &LentChanges) -> usize
     }
 }
 
-fn apply(changes: &ChangeSet, rope: &mut Rope) -> u32
+pub(crate) fn apply(changes: &ChangeSet, rope: &mut Rope) -> u32
     ensures status { IsApplyStatus changes.now rope.old.text result }
     ensures ok { result ≡ OK → rope.new.text ≡ run (ops changes.now) rope.old.text }
     ensures err { 0 < result → rope.new ≡ rope.old }

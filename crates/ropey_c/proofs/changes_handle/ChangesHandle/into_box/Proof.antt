@@ -38,7 +38,8 @@ use Rattle.std.proofs.impls.GlobalAllocator.TheImpl.Met.{passed}
 use Rattle.std.specs.contracts.boxed.Box as box
 use Rattle.std.specs.contracts.boxed.Box.from_raw as callee
 use Rattle.std.proofs.boxed.Box.from_raw.Met.{met}
-use Rattle.ropey_c.proofs.ChangesHandles.{R, Z, Ropes, Allocators, E, Handle, no_drop, pair, handle_good, handle_out, either}
+use Rattle.ropey_c.proofs.Held.{Z, Values, Allocators, no_drop, pair, handle_good, either}
+use Rattle.ropey_c.proofs.ChangesHandles.{R, E, Handle, handle_out}
 use Rattle.ropey_c.specs.contracts.changes_handle.ChangesHandle.into_box.{ended, clauses}
 use Rattle.ropey_c.specs.contracts.changes_handle.ChangesHandle.into_box.Key.{name as #self}
 use Rattle.ropey_c.proofs.changes_handle.ChangesHandle.into_box.Statement.{statement}
@@ -54,15 +55,15 @@ pub into_box_spec : {M : Type 1} → statement M
 unfolding Rattle.ropey_c.proofs.Destruct++none.drop.Code.code
 into_box_spec {M} 𝓤 𝓛 𝓜 𝓡 wired =
     let 𝓣 = tables 𝓤 𝓛.H 𝓜 𝓡 𝓡.env in let c = clauses 𝓛 𝓜.mem 𝓡.returns in let fn = code.function in
-    let k = triple_of 𝓛 (callee.signature Ropes Allocators ghosts dict no_drop)
-    (callee.spec Ropes Allocators ghosts dict no_drop 𝓛 𝓜.mem 𝓡.returns) in
+    let k = triple_of 𝓛 (callee.signature (Values R) Allocators ghosts dict no_drop)
+    (callee.spec (Values R) Allocators ghosts dict no_drop 𝓛 𝓜.mem 𝓡.returns) in
     let allocator = passed 𝓡.env (code.calls-std::impls::GlobalAllocator::allocate 𝓡.env wired)
     (code.calls-std::impls::GlobalAllocator::deallocate 𝓡.env wired)
     (code.calls-std::impls::GlobalAllocator::grow 𝓡.env wired)
     (code.calls-std::impls::GlobalAllocator::shrink 𝓡.env wired) M 𝓤 𝓛 𝓜 𝓡 in
     let glued = glues "ropey_c::Destruct++none::drop" 𝓡.env
     (code.calls-ropey_c::Destruct++none::drop 𝓡.env wired) Allocators E.al.laws M 𝓤 𝓛 𝓜 𝓡 in
-    let known = met 𝓤 𝓛 𝓜 𝓡 (code.calls-std::boxed::Box::from_raw 𝓡.env wired) Ropes Allocators
+    let known = met 𝓤 𝓛 𝓜 𝓡 (code.calls-std::boxed::Box::from_raw 𝓡.env wired) (Values R) Allocators
     E.laws E.al.laws ghosts dict no_drop allocator glued in
     proved_at 𝓛 ended stayed c 𝓜 𝓡 (
       Goes-dropped 𝓛 0 (plain (λ _. Handle)) yes (λ κs x f. refl),
@@ -74,7 +75,7 @@ into_box_spec {M} 𝓤 𝓛 𝓜 𝓡 wired =
     type_at ended.signature.result κs in
     qed 𝓛 ((‵ ftrue ⊛ ‵ (owns (types_at ended.signature.params κs) z.0.3 z.0.4)) ∷ raw
     ((c κs z.0.3).requires z.1) ∷ []) ∵ split ! $ drop ! $ fsplit ! $
-    handle_out ! d z.0.4.0 (λ h ws fits. either ! a d.ptr d.held
+    handle_out ! d z.0.4.0 (λ h ws fits. either R ! a d.ptr d.held
     (λ is e. let w : Val = pair (ptr_val null_ptr) h in let same : z.0.4.0 ≡ w ∷ [] = ws ∙
     ap (λ (p : Ptr). pair (ptr_val p) h ∷ []) is in
     suffices ! (Run (w ∷ [])) (subst (λ (us : List Val). ent 𝓤 (Run (w ∷ [])) (Run us))
@@ -134,8 +135,8 @@ into_box_spec {M} 𝓤 𝓛 𝓜 𝓡 wired =
     (and_then ! (get ! refl) (no_more !))) (λ u.
     use1 𝓛 (later (some (λ (r : (B E).Denot). ((‵ (flft [] full_share) ⊛ ‵ (flft [] full_share) ⊛
     ‵ ftrue) ⊛ ‵ ((B E).own_val r (u ∷ [])))
-    ⊛ some (λ (ls : Lasts (callee.ended Ropes Allocators ghosts dict no_drop) y.0.0 y.0.3). ‵
-    (lasts (callee.ended Ropes Allocators ghosts dict no_drop) y.0.0 y.0.3 ls) ⊛
+    ⊛ some (λ (ls : Lasts (callee.ended (Values R) Allocators ghosts dict no_drop) y.0.0 y.0.3). ‵
+    (lasts (callee.ended (Values R) Allocators ghosts dict no_drop) y.0.0 y.0.3 ls) ⊛
     (raw (fact 𝓤 (r.value ≡ x)) ⊛ raw (fact 𝓤 (r.alloc ≡ a))))))) (id⊢ 𝓤 (k.post y u)) $
     await ! tt $ pick ! (λ r. split ! $ split ! $ drop ! $ move ! (1 ∷ []) $
     pick ! (λ _. split3 ! $ drop ! $ heard ! (r.value ≡ x) (λ kept. drop ! $

@@ -19,7 +19,8 @@ use denote.Triple.Walked.{Stays, stay_dropped, walk_of, Goes-dropped}
 use Rattle.std.proofs.raw_atomic.Walks.{proved_at, leaves}
 use Rattle.std.specs.Prelude.{Option, None}
 use Rattle.std.proofs.alloc.Calls.{handle_tells}
-use Rattle.ropey_c.proofs.ChangesHandles.{R, Z, al, pair, handle_good, handle_in}
+use Rattle.ropey_c.proofs.Held.{Z, al, pair, handle_good}
+use Rattle.ropey_c.proofs.ChangesHandles.{R, handle_in}
 use Rattle.ropey_c.specs.contracts.changes_handle.ChangesHandle.none.{ended, clauses}
 use Rattle.ropey_c.specs.contracts.changes_handle.ChangesHandle.none.Key.{name as #self}
 use Rattle.ropey_c.proofs.changes_handle.ChangesHandle.none.Statement.{statement}

@@ -19,7 +19,8 @@ use denote.Triple.Walked.{Stays, stay_dropped, walk_of, Goes-dropped}
 use Rattle.std.proofs.raw_atomic.Walks.{proved_at, leaves}
 use Rattle.std.proofs.BoxSteps.Form.{box_typed}
 use Rattle.std.specs.Prelude.{Some}
-use Rattle.ropey_c.proofs.ChangesHandles.{R, E, pair, handle_good, handle_in}
+use Rattle.ropey_c.proofs.Held.{pair, handle_good}
+use Rattle.ropey_c.proofs.ChangesHandles.{R, E, handle_in}
 use Rattle.ropey_c.proofs.Parts.{unboxed_out}
 use Rattle.ropey_c.specs.contracts.unboxed.Unboxed as unboxed
 use Rattle.ropey_c.specs.contracts.changes_handle.ChangesHandle.of.{ended, clauses}

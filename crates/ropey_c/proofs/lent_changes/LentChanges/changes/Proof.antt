@@ -24,7 +24,8 @@ use Rattle.std.proofs.VecSteps.Shapes.{after}
 use Rattle.std.proofs.raw_atomic.Walks.{proved, leaves}
 use Rattle.std.proofs.option.Made.{Some-of, none_of}
 use Rattle.std.specs.Prelude.{None, Some}
-use Rattle.ropey_c.proofs.LentChanges.{R, Lent, shown, lent_cell, lent_tells, cell_halves, shows_as}
+use Rattle.ropey_c.proofs.Lending.{shown, shows_as}
+use Rattle.ropey_c.proofs.LentChanges.{R, Lent, lent_cell, lent_tells, cell_halves}
 use Rattle.ropey_c.specs.contracts.lent_changes.LentChanges.changes.{ended, clauses}
 use Rattle.ropey_c.specs.contracts.lent_changes.LentChanges.changes.Key.{name as #self}
 use Rattle.ropey_c.proofs.lent_changes.LentChanges.changes.Statement.{statement}
@@ -55,9 +56,10 @@ changes_spec 𝓤 𝓛 𝓜 𝓡 wired =
     fsplit ! $ drop ! $ unhide ! $ shr_bor_dup ! $ hide ! $ move ! (1 ∷ []) $ hide ! $
     move ! (0 ∷ 2 ∷ []) $
     use2 𝓛 (later (‵ (flft κ q) ⊛ ‵ (fshr_bor κ (lent_cell d.ptr rb ro)) ⊛
-    ‵ (shown d.ptr d.held κ))) (lent_tells 𝓛 d rb ro κ q) $ await ! tt $ split ! $ move ! (1 ∷ []) $
+    ‵ (shown R d.ptr d.held κ))) (lent_tells 𝓛 d rb ro κ q) $ await ! tt $ split ! $
+    move ! (1 ∷ []) $
     split ! $
-    move ! (1 ∷ []) $ shows_as ! d.ptr d.held κ
+    move ! (1 ∷ []) $ shows_as R ! d.ptr d.held κ
     (λ is e. rewrite ! 0 (λ (p : Ptr). ‵ (fshr_bor κ (lent_cell p rb ro))) is refl $
     shr_bor-open ! tt (cell_halves 𝓛 null_ptr rb ro) (λ s.
     sets ! (of_opd ! (load ! (through ! refl (fld ! refl (stop !)))

@@ -40,7 +40,7 @@ use Rattle.std.proofs.impls.GlobalAllocator.TheImpl.Met.{passed}
 use Rattle.std.specs.contracts.boxed.Box as box
 use Rattle.std.specs.contracts.boxed.Box.into_raw_with_allocator as callee
 use Rattle.std.proofs.boxed.Box.into_raw_with_allocator.Met.{met}
-use Rattle.ropey_c.proofs.Handles.{Z, Allocators, al, no_drop, pair}
+use Rattle.ropey_c.proofs.Held.{Z, Allocators, al, no_drop, pair}
 use Rattle.ropey_c.proofs.Parts.{unboxed_in}
 use Rattle.ropey_c.specs.contracts.unboxed.Unboxed.of.{ended, clauses}
 use Rattle.ropey_c.specs.contracts.unboxed.Unboxed.of.Key.{name as #self}
