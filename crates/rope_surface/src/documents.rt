@@ -94,3 +94,23 @@ pub fn positions_are_read_back()
 {
     laws::positions_are_read_back();
 }
+
+/// Changes a client's rope, and a server's rope of the same text by the list for that change.
+pub fn exchange(
+    alloc: Global,
+    change: &ChangeSet,
+    client: &mut Rope,
+    server: &mut Rope,
+    encoding: Encoding,
+) -> Result<(), DocumentError>
+    requires text { server.old.text ≡ client.old.text }
+    requires breaks { server.old.breaks ≡ client.old.breaks }
+    ensures { OnOk result (server.new.text ≡ client.new.text) }
+{
+    let list = to_content_changes(alloc, change, client, encoding)?;
+    apply_content_changes(alloc, server, list.as_slice(), encoding)?;
+    match change.apply(client) {
+        Ok(()) => Ok(()),
+        Err(_) => Err(DocumentError::OutOfMemory),
+    }
+}
