@@ -1,9 +1,9 @@
 use Rattle.std.proofs.Common.{◌≡◌, length, ap, sym, ◌∙◌, subst, rules, inl, inr}
 use Rattle.std.proofs.lemmas.Bool.{cases_eq}
 use Rattle.rope_changes.specs.Ops.{run}
-use Rattle.rope_changes.specs.Change.{Change, before, ops}
+use Rattle.rope_changes.specs.Change.{before, ops}
 use Rattle.rope_history.specs.Texts.{StandsAt, text_at}
-use Rattle.rope_history.specs.Versions.{Versions, with_child, committed}
+use Rattle.rope_history.specs.Versions.{Versions, committed}
 use Rattle.rope_history.proofs.StandsLaws.{commit_stands, texts_stay}
 use Rattle.rope_history.proofs.history.History.commit.Goals.{After-drop-rope}
 use Rattle.rope_history.proofs.history.History.commit.Goals as goal
