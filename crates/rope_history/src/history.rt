@@ -1,12 +1,12 @@
 //! The versions that a text went through.
-ghost use Rattle.std.specs.Prelude.{◌≡◌, ◌≢◌, ◌⊎◌, ◌+◌, ◌<◌, ◌≤◌, ◌^◌, ℕ, List, [], length, Some, None, IfOk, IfErr, IsOk, OnOk, OnErr};
+ghost use Rattle.std.specs.Prelude.{◌≡◌, ◌≢◌, ◌⊎◌, ◌+◌, ◌<◌, ◌≤◌, ◌^◌, ◌∷◌, ◌++◌, ℕ, List, [], length, vec_len, vec_capacity, Some, None, IfOk, IfErr, IsOk, OnOk, OnErr};
 ghost use Rattle.rope_text.specs.Text.{byte_len};
 ghost use Rattle.rope_changes.specs.declared.error.ChangeError.TheVariants.{LengthDiffers, TooLong, OutOfMemory};
 ghost use Rattle.rope_changes.specs.Applied.{inserted_bytes};
 ghost use Rattle.rope_changes.specs.Change.{after, before, ops};
 ghost use Rattle.rope_changes.specs.Ops.{run};
 ghost use Rattle.rope_history.specs.Texts.{StandsAt, text_at, text_before};
-ghost use Rattle.rope_history.specs.Versions.{GoesTo, IsHistory, IsPath, IsWayUp, change_ahead, change_back, committed, first_version, left_by_undo, len_of, parent_of, redo_of, redone, undone, version_at, went_up, with_child};
+ghost use Rattle.rope_history.specs.Versions.{GoesTo, IsHistory, IsPath, IsWayUp, change_ahead, change_back, committed, first_version, left_by_undo, len_of, parent_of, redo_of, redone, undone, version_at, went_up};
 ghost use Rattle.ropey.specs.View.{IsRope};
 
 use rope_changes::{ChangeError, ChangeSet};
@@ -32,6 +32,18 @@ pub struct History {
     redo: Vec<Option<usize>>,
     current: usize,
     alloc: Global,
+}
+
+// Adds a version, and that `redo` leads nowhere from it, to vectors with room for them.
+fn push_both(versions: &mut Vec<Version>, redo: &mut Vec<Option<usize>>, version: Version)
+    requires versions { vec_len versions.old < vec_capacity versions.old }
+    requires redo { vec_len redo.old < vec_capacity redo.old }
+    ensures versions { versions.new.items ≡ versions.old.items ++ version ∷ [] }
+    ensures redo { redo.new.items ≡ redo.old.items ++ None ∷ [] }
+{
+    if versions.push(version).is_err() || redo.push(None).is_err() {
+        unreachable!();
+    }
 }
 
 impl Model for History {
@@ -153,31 +165,6 @@ impl History {
         Ok(())
     }
 
-    // Adds a child of the current version, and makes it the current version.
-    fn add(&mut self, change: ChangeSet, inverse: ChangeSet) -> Result<(), ChangeError>
-        requires follows { before change ≡ len_of self.old }
-        requires inverse { before inverse ≡ after change }
-        requires leads_back { after inverse ≡ before change }
-        ensures ok { OnOk result (self.new ≡ with_child self.old change inverse) }
-        ensures refused { IfErr result (λ e. e ≡ OutOfMemory) }
-        ensures err { OnErr result (self.new ≡ self.old) }
-    {
-        let version = Version {
-            parent: Some(self.current),
-            change,
-            inverse,
-        };
-        if self.redo.push(None).is_err() {
-            return Err(ChangeError::OutOfMemory);
-        }
-        if self.versions.push(version).is_err() {
-            self.redo.pop();
-            return Err(ChangeError::OutOfMemory);
-        }
-        self.current = self.redo.len() - 1;
-        Ok(())
-    }
-
     /// Applies a change of the current version's text to the rope, and keeps it with its inverse as
     /// a new version, which is a child of the current one and then the current one itself.
     ///
@@ -216,13 +203,18 @@ impl History {
         if change.len_before() != self.len_chars() {
             return Err(ChangeError::LengthDiffers(change.len_before(), self.len_chars()));
         }
-        let Ok(mut edited) = rope.clone() else {
-            return Err(ChangeError::OutOfMemory);
-        };
-        change.apply(&mut edited)?;
         let inverse = change.invert(rope)?;
-        self.add(change, inverse)?;
-        *rope = edited;
+        if self.versions.reserve(1).is_err() || self.redo.reserve(1).is_err() {
+            return Err(ChangeError::OutOfMemory);
+        }
+        change.apply(rope)?;
+        let version = Version {
+            parent: Some(self.current),
+            change,
+            inverse,
+        };
+        push_both(&mut self.versions, &mut self.redo, version);
+        self.current = self.redo.len() - 1;
         Ok(())
     }
 
