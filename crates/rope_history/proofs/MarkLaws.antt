@@ -1,11 +1,10 @@
 -- Marks that are added, removed and moved, and those that a cursor has left.
-use Rattle.std.proofs.Common.{◌≡◌, ℕ, zero, suc, ◌+◌, ◌<◌, ◌≤◌, List, [], ◌∷◌, ◌++◌, ◌-◌, length, get_or, take, drop, max, refl, ap, sym, ◌∙◌, subst, arith, append-nil, true, false, Bool, inl, inr}
-use Rattle.std.proofs.lemmas.Bool.{cases_eq, eq-eqb, ne_eqb, lt-leb, le-leb}
+use Rattle.std.proofs.Common.{◌≡◌, ℕ, zero, suc, ◌+◌, ◌<◌, ◌≤◌, List, [], ◌∷◌, ◌++◌, ◌-◌, length, get_or, take, drop, refl, ap, sym, ◌∙◌, subst, arith, append-nil, false, inl, inr}
+use Rattle.std.proofs.lemmas.Bool.{cases_eq, eq-eqb, ne_eqb, lt-leb}
 use Rattle.std.specs.Prelude.{map, filter, nat_eq, nat_le, cond, ◌&&◌}
 use Rattle.std.specs.List.{All, IsDistinct}
 use Rattle.std.specs.List.Sorted.{IsPermutation, IsNonDecreasingBy}
-use Rattle.std.specs.List.{AllPairs, insert as list_insert, remove}
-use Rattle.std.proofs.Math.ListN.{get_or-append}
+use Rattle.std.specs.List.{insert as list_insert, remove}
 use Rattle.std.proofs.lemmas.List.{get_or_default, get_or-drop, get_or-append_right, length-map, length-take-le, length-drop, take_all, drop_all}
 use Rattle.std.proofs.lemmas.List.Elements.{All-nil, All-cons, All-tail, All-map, All-weaker, recursion_from_All}
 use Rattle.std.proofs.lemmas.List.Quantifiers.{all_pairs_remove}
@@ -16,7 +15,7 @@ use Rattle.rope_changes.specs.Moved.{moved, moved_before, moved_after}
 use Rattle.rope_changes.specs.declared.side.Side.{Side}
 use Rattle.rope_changes.specs.declared.side.Side.TheVariants.{Before, After}
 use Rattle.rope_history.specs.declared.marks.Mark.{Mark}
-use Rattle.rope_history.specs.Marking.{Marking, IsMarking, IsWithin, start_of, id_of, moved_mark, touches}
+use Rattle.rope_history.specs.Marking.{IsMarking, IsWithin, start_of, id_of, moved_mark, touches}
 
 before_within : (ops : List Op) (i : ℕ) → i ≤ len_before ops → moved_before ops i ≤ len_after ops
 before_within [] i le = le

@@ -1,6 +1,6 @@
 -- Where a rope stands after each move of a history.
 use Rattle.std.proofs.Common.{◌≡◌, ℕ, ◌+◌, ◌<◌, List, [], ◌∷◌, ◌++◌, length, get_or, ap, sym, ◌∙◌, subst, refl, arith}
-use Rattle.std.specs.Prelude.{Some, None}
+use Rattle.std.specs.Prelude.{Some}
 use Rattle.std.proofs.Math.ListN.{get_or-append}
 use Rattle.std.proofs.Math.Seq.{get_or-append_seam}
 use Rattle.rope_changes.specs.Ops.{run}
@@ -11,7 +11,7 @@ use Rattle.rope_changes.proofs.InvertedLaws.{leads_back}
 use Rattle.rope_changes.proofs.Prefixes.{keeping_before}
 use Rattle.rope_changes.proofs.Runs.{run_kept}
 use Rattle.rope_history.specs.declared.history.Version.{Version}
-use Rattle.rope_history.specs.Versions.{Versions, IsHistory, root, version_at, parent_of, redo_of, first_version, with_child, committed, back_at, standing_at}
+use Rattle.rope_history.specs.Versions.{Versions, IsHistory, version_at, parent_of, redo_of, first_version, with_child, committed, back_at, standing_at}
 use Rattle.rope_history.specs.Texts.{text_of, texts_of, text_at, text_before, source, IsStep, StandsAt}
 use Rattle.rope_history.proofs.TextLaws.{AreEarlier, length_texts, texts_push, steps_push, text_is, step_is}
 

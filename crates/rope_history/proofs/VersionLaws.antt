@@ -1,5 +1,5 @@
 -- Histories after each move.
-use Rattle.std.proofs.Common.{◌≡◌, ℕ, ◌+◌, ◌<◌, ◌≤◌, List, [], ◌∷◌, ◌++◌, length, ap, sym, ◌∙◌, subst, arith, length-append, inl, inr}
+use Rattle.std.proofs.Common.{◌≡◌, ℕ, zero, suc, ◌+◌, ◌<◌, ◌≤◌, List, [], ◌∷◌, ◌++◌, length, get_or, take, ap, sym, ◌∙◌, subst, refl, arith, length-append, inl, inr}
 use Rattle.std.specs.Prelude.{Option, Some, None}
 use Rattle.std.proofs.Math.ListN.{get_or-append}
 use Rattle.std.proofs.Math.Seq.{get_or-append_seam}
@@ -9,13 +9,16 @@ use Rattle.std.proofs.lemmas.List.{get_or-set_other, length-set}
 use Rattle.rope_changes.specs.Change.{Change, before, after}
 use Rattle.rope_changes.proofs.Prefixes.{keeping_before, keeping_after}
 use Rattle.rope_history.specs.declared.history.Version.{Version}
-use Rattle.rope_history.specs.Versions.{Versions, IsHistory, root, version_at, parent_of, redo_of, len_of, first_version, with_child, back_at, standing_at}
+use Rattle.rope_history.specs.Versions.{Versions, IsHistory, root, version_at, parent_of, redo_of, len_of, first_version, with_child, back_at, standing_at, went_up, IsWayUp, IsPath}
 
 abbrev parent : Version → Option ℕ
 parent v = v.parent
 
 abbrev BeginsAtEnd : Version → Type 0
 BeginsAtEnd v = before v.inverse ≡ after v.change
+
+abbrev EndsAtStart : Version → Type 0
+EndsAtStart v = after v.inverse ≡ before v.change
 
 pub first_is_history : (len : ℕ) → IsHistory (first_version len)
 first_is_history len =
@@ -29,6 +32,10 @@ first_is_history len =
       inverses = λ v lt.
           let e : v ≡ 0 = omega arith in
           subst (λ k. BeginsAtEnd (version_at (first_version len) k)) (sym e) both;
+      rooted = λ v lt is. omega arith;
+      leads_back = λ v lt.
+          let e : v ≡ 0 = omega arith in
+          subst (λ k. EndsAtStart (version_at (first_version len) k)) (sym e) (sym both);
       children = λ v c lt is. absurd (unmarked v c lt is);
     }
   where
@@ -115,6 +122,24 @@ module _ (h : Versions) (change inverse : Change) where
         | inr last ↦ subst BeginsAtEnd (sym (version_added v last lt)) back
       ]
 
+  child_leads_back : IsHistory h → after inverse ≡ before change → (v : ℕ)
+      → v < length new.versions
+      → after (version_at new v).inverse ≡ before (version_at new v).change
+  child_leads_back kept back v lt =
+      elim (cases_lt v (length h.versions)) [
+        | inl less ↦ subst EndsAtStart (sym (version_kept v less)) (kept.leads_back v less)
+        | inr last ↦ subst EndsAtStart (sym (version_added v last lt)) back
+      ]
+
+  child_rooted : IsHistory h → (v : ℕ) → v < length new.versions → parent_of new v ≡ None → v ≡ 0
+  child_rooted kept v lt is =
+      elim (cases_lt v (length h.versions)) [
+        | inl less ↦ kept.rooted v less (ap parent (sym (version_kept v less)) ∙ is)
+        | inr last ↦
+            let e : Some h.current ≡ None = ap parent (sym (version_added v last lt)) ∙ is in
+            absurd cc
+      ]
+
   child_children : IsHistory h → (v c : ℕ) → v < length new.versions
       → redo_of new v ≡ Some c
       → (c < length new.versions) × (parent_of new c ≡ Some v)
@@ -131,14 +156,16 @@ module _ (h : Versions) (change inverse : Change) where
       ]
 
   pub child_is_history : IsHistory h → before change ≡ len_of h → before inverse ≡ after change
-      → IsHistory new
-  child_is_history kept fits back =
+      → after inverse ≡ before change → IsHistory new
+  child_is_history kept fits back ends =
       record {
         within = omega (arith, len_with_child);
         marked = omega (arith, len_with_child, length-append h.redo (None ∷ []), kept.marked);
         earlier = child_earlier kept;
         follows = child_follows kept fits;
         inverses = child_inverses kept back;
+        rooted = child_rooted kept;
+        leads_back = child_leads_back kept ends;
         children = child_children kept;
       }
 
@@ -170,6 +197,8 @@ back_is_history h p kept up =
       earlier = kept.earlier;
       follows = kept.follows;
       inverses = kept.inverses;
+      rooted = kept.rooted;
+      leads_back = kept.leads_back;
       children = back_children h p kept up;
     }
 
@@ -182,5 +211,75 @@ standing_is_history h v kept lt =
       earlier = kept.earlier;
       follows = kept.follows;
       inverses = kept.inverses;
+      rooted = kept.rooted;
+      leads_back = kept.leads_back;
       children = kept.children;
     }
+
+pub up_is_history : (h : Versions) (parents : List ℕ) → IsHistory h → IsWayUp h parents
+    → IsHistory (went_up h parents)
+up_is_history h [] kept up = kept
+up_is_history h (p ∷ parents) kept up =
+    up_is_history (back_at h (Some p)) parents (back_is_history h p kept up.0) up.1
+
+pub versions_up : (h : Versions) (parents : List ℕ) → (went_up h parents).versions ≡ h.versions
+versions_up h [] = refl
+versions_up h (p ∷ parents) = versions_up (back_at h (Some p)) parents
+
+-- one parent more
+pub went_up_more : (h : Versions) (parents : List ℕ) (p : ℕ)
+    → went_up h (parents ++ p ∷ []) ≡ back_at (went_up h parents) (Some p)
+went_up_more h [] p = refl
+went_up_more h (q ∷ parents) p = went_up_more (back_at h (Some q)) parents p
+
+pub way_up_more : (h : Versions) (parents : List ℕ) (p : ℕ) → IsWayUp h parents
+    → parent_of (went_up h parents) (went_up h parents).current ≡ Some p
+    → IsWayUp h (parents ++ p ∷ [])
+way_up_more h [] p up is = (is, tt)
+way_up_more h (q ∷ parents) p up is = (up.0, way_up_more (back_at h (Some q)) parents p up.1 is)
+
+-- a path that goes up to the next parent
+pub path_more : (h : Versions) (v : ℕ) (path : List ℕ) (top p : ℕ) → IsPath h v path top
+    → parent_of h top ≡ Some p → IsPath h v (path ++ top ∷ []) p
+path_more h v [] top p is up = (sym is, (p, (ap (parent_of h) is ∙ up, refl)))
+path_more h v (x ∷ path) top p is up =
+    (is.0, (is.1.0, (is.1.1.0, path_more h is.1.0 path top p is.1.1.1 up)))
+
+-- the last version of a path is a child of the version at the top
+pub path_last : (h : Versions) (v : ℕ) (path : List ℕ) (c top : ℕ)
+    → IsPath h v (path ++ c ∷ []) top
+    → IsPath h v path c × (parent_of h c ≡ Some top)
+path_last h v [] c top is =
+    (sym is.0, ap (parent_of h) is.0 ∙ is.1.1.0 ∙ ap Some is.1.1.1)
+path_last h v (x ∷ path) c top is =
+    let rest = path_last h is.1.0 path c top is.1.1.1 in
+    ((is.0, (is.1.0, (is.1.1.0, rest.0))), rest.1)
+
+pub way_up_take : (h : Versions) (parents : List ℕ) (n : ℕ) → IsWayUp h parents
+    → IsWayUp h (take n parents)
+way_up_take h [] zero up = tt
+way_up_take h [] (suc n) up = tt
+way_up_take h (p ∷ parents) zero up = tt
+way_up_take h (p ∷ parents) (suc n) up = (up.0, way_up_take (back_at h (Some p)) parents n up.1)
+
+-- each parent on a way up is the one of the version before
+pub way_up_at : (h : Versions) (parents : List ℕ) (i : ℕ) → i < length parents → IsWayUp h parents
+    → parent_of (went_up h (take i parents)) (went_up h (take i parents)).current
+    ≡ Some (get_or parents i 0)
+way_up_at h [] i lt up = absurd (omega arith)
+way_up_at h (p ∷ parents) zero lt up = up.0
+way_up_at h (p ∷ parents) (suc i) lt up =
+    way_up_at (back_at h (Some p)) parents i (omega arith) up.1
+
+-- the version at the top of a path is one of the history
+pub path_within : (h : Versions) (v : ℕ) (path : List ℕ) (top : ℕ) → IsHistory h
+    → v < length h.versions → IsPath h v path top → top < length h.versions
+path_within h v [] top kept lt is = subst (λ k. k < length h.versions) is lt
+path_within h v (x ∷ path) top kept lt is =
+    let less = kept.earlier v is.1.0 lt is.1.1.0 in
+    path_within h is.1.0 path top kept (omega (arith, less)) is.1.1.1
+
+pub path_none : (h : Versions) (v : ℕ) (path : List ℕ) (top : ℕ) → length path ≡ 0
+    → IsPath h v path top → v ≡ top
+path_none h v [] top none is = is
+path_none h v (x ∷ path) top none is = absurd (omega arith)

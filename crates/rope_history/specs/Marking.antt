@@ -1,5 +1,5 @@
 -- Marks of a text, and how they move with its changes.
-use Rattle.std.specs.Prelude.{◌≡◌, ◌≢◌, ◌&&◌, Bool, ℕ, ◌<◌, ◌≤◌, List, map, max, nat_eq, nat_le}
+use Rattle.std.specs.Prelude.{◌&&◌, Bool, ℕ, ◌<◌, ◌≤◌, List, map, max, nat_eq, nat_le}
 use Rattle.std.specs.List.{All, IsDistinct}
 use Rattle.std.specs.List.Sorted.{IsNonDecreasingBy}
 use Rattle.rope_changes.specs.Ops.{Op}

@@ -94,16 +94,43 @@ change_to_child h (Some child) = (version_at h child).change
 abbrev pub change_ahead : Versions → Change
 change_ahead h = change_to_child h (redo_of h h.current)
 
--- the current version is one of them, each parent comes before its children, a change begins at the
--- length at which the parent's ends, an inverse begins where its change ends, and `redo` leads to
--- children
+-- the current version is one of them, each parent comes before its children, the first version
+-- alone has none, a change begins at the length at which the parent's ends, an inverse begins and
+-- ends where its change ends and begins, and `redo` leads to children
 pub record IsHistory (h : Versions) : Type 0 where
   pub within : h.current < length h.versions
   pub marked : length h.redo ≡ length h.versions
   pub earlier : (v p : ℕ) → v < length h.versions → parent_of h v ≡ Some p → p < v
+  pub rooted : (v : ℕ) → v < length h.versions → parent_of h v ≡ None → v ≡ 0
   pub follows : (v p : ℕ) → v < length h.versions → parent_of h v ≡ Some p
       → before (version_at h v).change ≡ after (version_at h p).change
   pub inverses : (v : ℕ) → v < length h.versions
       → before (version_at h v).inverse ≡ after (version_at h v).change
+  pub leads_back : (v : ℕ) → v < length h.versions
+      → after (version_at h v).inverse ≡ before (version_at h v).change
   pub children : (v c : ℕ) → v < length h.versions → redo_of h v ≡ Some c
       → (c < length h.versions) × (parent_of h c ≡ Some v)
+
+-- back at one parent after the other
+abbrev pub went_up : Versions → List ℕ → Versions
+went_up h [] = h
+went_up h (p ∷ parents) = went_up (back_at h (Some p)) parents
+
+-- each is the parent of the version before
+abbrev pub IsWayUp : Versions → List ℕ → Type 0
+IsWayUp h [] = Unit {0}
+IsWayUp h (p ∷ parents) = (parent_of h h.current ≡ Some p) × IsWayUp (back_at h (Some p)) parents
+
+-- a version, its parent and so on, up to a child of the version at the top
+abbrev pub IsPath : Versions → ℕ → List ℕ → ℕ → Type 0
+IsPath h v [] top = v ≡ top
+IsPath h v (x ∷ path) top =
+    (x ≡ v) × ((p : ℕ) × ((parent_of h v ≡ Some p) × IsPath h p path top))
+
+-- at a version, after the way up over some parents as by `undo`, and the way down from there
+pub record GoesTo (old new : Versions) (v : ℕ) : Type 0 where
+  pub parents : List ℕ
+  pub up : IsWayUp old parents
+  pub path : List ℕ
+  pub down : IsPath old v path (went_up old parents).current
+  pub new_is : new ≡ standing_at (went_up old parents) (Some v)

@@ -1,12 +1,12 @@
 //! The versions that a text went through.
-ghost use Rattle.std.specs.Prelude.{◌≡◌, ◌≢◌, ◌⊎◌, ◌+◌, ◌<◌, ◌≤◌, ◌^◌, ℕ, List, length, Some, None, IfOk, IfErr, IsOk, OnOk, OnErr};
+ghost use Rattle.std.specs.Prelude.{◌≡◌, ◌≢◌, ◌⊎◌, ◌+◌, ◌<◌, ◌≤◌, ◌^◌, ◌∷◌, ◌++◌, ℕ, List, [], length, vec_len, vec_capacity, Some, None, IfOk, IfErr, IsOk, OnOk, OnErr};
 ghost use Rattle.rope_text.specs.Text.{byte_len};
 ghost use Rattle.rope_changes.specs.declared.error.ChangeError.TheVariants.{LengthDiffers, TooLong, OutOfMemory};
 ghost use Rattle.rope_changes.specs.Applied.{inserted_bytes};
 ghost use Rattle.rope_changes.specs.Change.{after, before, ops};
 ghost use Rattle.rope_changes.specs.Ops.{run};
 ghost use Rattle.rope_history.specs.Texts.{StandsAt, text_at, text_before};
-ghost use Rattle.rope_history.specs.Versions.{IsHistory, change_ahead, change_back, committed, first_version, left_by_undo, len_of, parent_of, redo_of, redone, undone, version_at, with_child};
+ghost use Rattle.rope_history.specs.Versions.{GoesTo, IsHistory, IsPath, IsWayUp, change_ahead, change_back, committed, first_version, left_by_undo, len_of, parent_of, redo_of, redone, undone, version_at, went_up};
 ghost use Rattle.ropey.specs.View.{IsRope};
 
 use rope_changes::{ChangeError, ChangeSet};
@@ -31,6 +31,19 @@ pub struct History {
     versions: Vec<Version>,
     redo: Vec<Option<usize>>,
     current: usize,
+    alloc: Global,
+}
+
+// Adds a version, and that `redo` leads nowhere from it, to vectors with room for them.
+fn push_both(versions: &mut Vec<Version>, redo: &mut Vec<Option<usize>>, version: Version)
+    requires versions { vec_len versions.old < vec_capacity versions.old }
+    requires redo { vec_len redo.old < vec_capacity redo.old }
+    ensures versions { versions.new.items ≡ versions.old.items ++ version ∷ [] }
+    ensures redo { redo.new.items ≡ redo.old.items ++ None ∷ [] }
+{
+    if versions.push(version).is_err() || redo.push(None).is_err() {
+        unreachable!();
+    }
 }
 
 impl Model for History {
@@ -71,6 +84,7 @@ impl History {
             versions,
             redo,
             current: 0,
+            alloc,
         })
     }
 
@@ -151,30 +165,6 @@ impl History {
         Ok(())
     }
 
-    // Adds a child of the current version, and makes it the current version.
-    fn add(&mut self, change: ChangeSet, inverse: ChangeSet) -> Result<(), ChangeError>
-        requires follows { before change ≡ len_of self.old }
-        requires inverse { before inverse ≡ after change }
-        ensures ok { OnOk result (self.new ≡ with_child self.old change inverse) }
-        ensures refused { IfErr result (λ e. e ≡ OutOfMemory) }
-        ensures err { OnErr result (self.new ≡ self.old) }
-    {
-        let version = Version {
-            parent: Some(self.current),
-            change,
-            inverse,
-        };
-        if self.redo.push(None).is_err() {
-            return Err(ChangeError::OutOfMemory);
-        }
-        if self.versions.push(version).is_err() {
-            self.redo.pop();
-            return Err(ChangeError::OutOfMemory);
-        }
-        self.current = self.redo.len() - 1;
-        Ok(())
-    }
-
     /// Applies a change of the current version's text to the rope, and keeps it with its inverse as
     /// a new version, which is a child of the current one and then the current one itself.
     ///
@@ -213,13 +203,18 @@ impl History {
         if change.len_before() != self.len_chars() {
             return Err(ChangeError::LengthDiffers(change.len_before(), self.len_chars()));
         }
-        let Ok(mut edited) = rope.clone() else {
-            return Err(ChangeError::OutOfMemory);
-        };
-        change.apply(&mut edited)?;
         let inverse = change.invert(rope)?;
-        self.add(change, inverse)?;
-        *rope = edited;
+        if self.versions.reserve(1).is_err() || self.redo.reserve(1).is_err() {
+            return Err(ChangeError::OutOfMemory);
+        }
+        change.apply(rope)?;
+        let version = Version {
+            parent: Some(self.current),
+            change,
+            inverse,
+        };
+        push_both(&mut self.versions, &mut self.redo, version);
+        self.current = self.redo.len() - 1;
         Ok(())
     }
 
@@ -305,5 +300,169 @@ impl History {
         self.versions[child].change.apply(rope)?;
         self.current = child;
         Ok(Some(child))
+    }
+
+    // Applies the inverse of a version to the rope, and returns its parent. The version isn't the
+    // first one.
+    fn step_up(&self, rope: &mut Rope, version: usize) -> Result<usize, ChangeError>
+        requires within { version < length self.now.versions }
+        requires some { 0 < version }
+        requires len { length rope.old.text ≡ after (version_at self.now version).change }
+        ensures parent { IfOk result (λ p. (p < version) × (parent_of self.now version ≡ Some p)) }
+        ensures len { IfOk result (λ p.
+            length rope.new.text ≡ after (version_at self.now p).change) }
+        ensures text { OnOk result (rope.new.text
+            ≡ run (ops (version_at self.now version).inverse) rope.old.text) }
+        ensures error { IfErr result (λ e. (e ≡ TooLong) ⊎ (e ≡ OutOfMemory)) }
+        ensures breaks { rope.new.breaks ≡ rope.old.breaks }
+        ensures kept { IsRope rope.new }
+    {
+        let left = &self.versions[version];
+        let Some(parent) = left.parent else {
+            unreachable!();
+        };
+        left.inverse.apply(rope)?;
+        Ok(parent)
+    }
+
+    // Applies the change of a version to the rope.
+    fn step_down(&self, rope: &mut Rope, version: usize) -> Result<(), ChangeError>
+        requires within { version < length self.now.versions }
+        requires len { length rope.old.text ≡ before (version_at self.now version).change }
+        ensures len { OnOk result
+            (length rope.new.text ≡ after (version_at self.now version).change) }
+        ensures text { OnOk result (rope.new.text
+            ≡ run (ops (version_at self.now version).change) rope.old.text) }
+        ensures error { IfErr result (λ e. (e ≡ TooLong) ⊎ (e ≡ OutOfMemory)) }
+        ensures breaks { rope.new.breaks ≡ rope.old.breaks }
+        ensures kept { IsRope rope.new }
+    {
+        self.versions[version].change.apply(rope)?;
+        Ok(())
+    }
+
+    // Applies the inverses up to the last common ancestor of the current version and `version`, and
+    // returns that ancestor. Adds the parents on the way to `parents`, and the versions from
+    // `version` up to a child of the ancestor to `path`.
+    fn climb(
+        &self,
+        rope: &mut Rope,
+        version: usize,
+        parents: &mut Vec<usize>,
+        path: &mut Vec<usize>,
+    ) -> Result<usize, ChangeError>
+        requires history { IsHistory self.now }
+        requires rope { IsRope rope.old }
+        requires within { version < length self.now.versions }
+        requires len { length rope.old.text ≡ len_of self.now }
+        requires no_parents { parents.old.items ≡ [] }
+        requires no_path { path.old.items ≡ [] }
+        ensures top { IfOk result (λ top. top ≡ (went_up self.now parents.new.items).current) }
+        ensures up { OnOk result (IsWayUp self.now parents.new.items) }
+        ensures down { IfOk result (λ top. IsPath self.now version path.new.items top) }
+        ensures within { IfOk result (λ top. top < length self.now.versions) }
+        ensures len { IfOk result (λ top.
+            length rope.new.text ≡ after (version_at self.now top).change) }
+        ensures text { IfOk result (λ top. (first : List ℕ)
+            → StandsAt first self.now rope.old.text
+            → rope.new.text ≡ text_at first self.now top) }
+        ensures error { IfErr result (λ e. (e ≡ TooLong) ⊎ (e ≡ OutOfMemory)) }
+        ensures breaks { rope.new.breaks ≡ rope.old.breaks }
+        ensures kept { IsRope rope.new }
+    {
+        let mut up = self.current;
+        let mut down = version;
+        while up != down {
+            if up > down {
+                up = self.step_up(rope, up)?;
+                if parents.push(up).is_err() {
+                    return Err(ChangeError::OutOfMemory);
+                }
+            } else {
+                if path.push(down).is_err() {
+                    return Err(ChangeError::OutOfMemory);
+                }
+                let Some(parent) = self.parent(down) else {
+                    unreachable!();
+                };
+                down = parent;
+            }
+        }
+        Ok(up)
+    }
+
+    // Applies the changes on a path from `top` down to `version` to the rope.
+    fn descend(
+        &self,
+        rope: &mut Rope,
+        version: usize,
+        top: usize,
+        path: &mut Vec<usize>,
+    ) -> Result<(), ChangeError>
+        requires history { IsHistory self.now }
+        requires rope { IsRope rope.old }
+        requires path { IsPath self.now version path.old.items top }
+        requires within { version < length self.now.versions }
+        requires len { length rope.old.text ≡ after (version_at self.now top).change }
+        ensures text { OnOk result ((first : List ℕ) → rope.old.text ≡ text_at first self.now top
+            → rope.new.text ≡ text_at first self.now version) }
+        ensures error { IfErr result (λ e. (e ≡ TooLong) ⊎ (e ≡ OutOfMemory)) }
+        ensures breaks { rope.new.breaks ≡ rope.old.breaks }
+        ensures kept { IsRope rope.new }
+    {
+        while let Some(child) = path.pop() {
+            self.step_down(rope, child)?;
+        }
+        Ok(())
+    }
+
+    // Makes each of the parents the current version, and remembers the versions that are left.
+    fn leave(&mut self, parents: &Vec<usize>)
+        requires { IsWayUp self.old parents.now.items }
+        ensures { self.new ≡ went_up self.old parents.now.items }
+    {
+        for parent in parents {
+            self.redo[*parent] = Some(self.current);
+            self.current = *parent;
+        }
+    }
+
+    /// Applies the changes on the way to `version` to the rope, and makes it the current version:
+    /// the inverses up to the last common ancestor of both, as `undo` does, and then the changes
+    /// down to `version`. Takes memory for the numbers of the versions on the way.
+    ///
+    /// # Errors
+    ///
+    /// First `LengthDiffers`, with `len_chars()` and the rope's length, if they differ; then
+    /// `TooLong`, if a text on the way and the texts that are inserted into it have more than
+    /// `isize::MAX` bytes together; and `OutOfMemory`. A call that fails leaves the history and the
+    /// rope as they were.
+    pub fn go_to(&mut self, rope: &mut Rope, version: usize) -> Result<(), ChangeError>
+        requires { version < length self.old.versions }
+        ensures differs { length rope.old.text ≢ len_of self.old
+            → result ≡ Err (LengthDiffers (len_of self.old) (length rope.old.text)) }
+        ensures error { length rope.old.text ≡ len_of self.old
+            → IfErr result (λ e. (e ≡ TooLong) ⊎ (e ≡ OutOfMemory)) }
+        ensures ok { OnOk result (GoesTo self.old self.new version) }
+        ensures err { OnErr result ((self.new ≡ self.old) × (rope.new ≡ rope.old)) }
+        ensures stands { (first : List ℕ) → StandsAt first self.old rope.old.text
+            → StandsAt first self.new rope.new.text }
+        ensures texts { (first : List ℕ) (v : ℕ)
+            → text_at first self.new v ≡ text_at first self.old v }
+        ensures breaks { rope.new.breaks ≡ rope.old.breaks }
+        ensures kept { IsRope rope.new }
+    {
+        self.check_len(rope)?;
+        let Ok(mut moved) = rope.clone() else {
+            return Err(ChangeError::OutOfMemory);
+        };
+        let mut parents = Vec::new(self.alloc);
+        let mut path = Vec::new(self.alloc);
+        let top = self.climb(&mut moved, version, &mut parents, &mut path)?;
+        self.descend(&mut moved, version, top, &mut path)?;
+        self.leave(&parents);
+        self.current = version;
+        *rope = moved;
+        Ok(())
     }
 }

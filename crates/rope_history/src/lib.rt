@@ -5,6 +5,7 @@
 //! begins a new branch, and the old one is kept. For a rope with the text `"one"`,
 //! `History::new(alloc, 3)` has version 0. After `commit` of a change that appends `" two"`,
 //! version 1 is current; `undo` makes the text `"one"` again, and `redo` makes it `"one two"`.
+//! `go_to` makes any version the current one.
 //!
 //! Pass the same rope to every call, and edit it through the history alone: a history keeps no text
 //! of its own, only the texts that its changes insert and delete.
@@ -16,8 +17,9 @@
 //!
 //! A commit takes memory for the change and its inverse, that is for the inserted and deleted
 //! texts, and for the nodes of the rope that it copies. `commit`, `undo` and `redo` take the time
-//! of `ChangeSet::apply`, and `commit` also that of `ChangeSet::invert`. Every other call of a
-//! history takes constant time and no memory.
+//! of `ChangeSet::apply`, and `commit` also that of `ChangeSet::invert`; `go_to` takes the time of
+//! one `ChangeSet::apply` per version on the way. Every other call of a history takes constant time
+//! and no memory.
 //!
 //! Marks are ranges of a text, such as bookmarks and diagnostics, with a side for each end on which
 //! it stays where text is inserted there. `Marks::apply` moves them through a change of the text:

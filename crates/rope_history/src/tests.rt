@@ -65,6 +65,33 @@ fn branches_are_kept(rt: HostRuntime) -> Result<(), Fail> {
 }
 
 #[test]
+fn every_version_can_be_reached(rt: HostRuntime) -> Result<(), Fail> {
+    let mut rope = Rope::from_str(rt.alloc(), "a")?;
+    let mut history = History::new(rt.alloc(), 1)?;
+    history.commit(&mut rope, replacing(rt.alloc(), 1, 1, 1, "b")?)?;
+    history.commit(&mut rope, replacing(rt.alloc(), 2, 0, 1, "c")?)?;
+    assert!(rt; 0 < history.len_versions());
+    history.go_to(&mut rope, 0)?;
+    assert!(rt; rope.eq_str("a"));
+    history.commit(&mut rope, replacing(rt.alloc(), 1, 0, 0, "d")?)?;
+    assert!(rt; rope.eq_str("da"));
+    assert_eq!(rt; history.len_versions(), 4);
+    history.go_to(&mut rope, 2)?;
+    assert!(rt; rope.eq_str("cb"));
+    assert_eq!(rt; history.current(), 2);
+    history.undo(&mut rope)?;
+    history.undo(&mut rope)?;
+    assert_eq!(rt; history.redo(&mut rope)?, Some(1));
+    assert_eq!(rt; history.redo(&mut rope)?, Some(2));
+    assert!(rt; 3 < history.len_versions());
+    history.go_to(&mut rope, 3)?;
+    assert!(rt; rope.eq_str("da"));
+    history.undo(&mut rope)?;
+    assert_eq!(rt; history.redo_version(), Some(3));
+    Ok(())
+}
+
+#[test]
 fn lengths_that_differ_are_refused(rt: HostRuntime) -> Result<(), Fail> {
     let mut rope = Rope::from_str(rt.alloc(), "one")?;
     let mut other = Rope::from_str(rt.alloc(), "four")?;

@@ -7,7 +7,7 @@ ghost use Rattle.rope_changes.specs.Change.{ops};
 ghost use Rattle.rope_changes.specs.Ops.{run};
 ghost use Rattle.rope_history.specs.Marking.{moved_mark, touches};
 ghost use Rattle.rope_history.specs.Texts.{StandsAt, text_at, text_before};
-ghost use Rattle.rope_history.specs.Versions.{committed, first_version, left_by_undo, len_of, parent_of, redo_of, redone, undone};
+ghost use Rattle.rope_history.specs.Versions.{GoesTo, committed, first_version, left_by_undo, len_of, parent_of, redo_of, redone, undone};
 
 use rope_changes::{ChangeError, ChangeSet, Side};
 use rope_history::{History, Mark, Marks, Within};
@@ -46,6 +46,16 @@ pub fn redo(history: &mut History, rope: &mut Rope) -> Result<Option<usize>, Cha
         → StandsAt first history.new rope.new.text }
 {
     history.redo(rope)
+}
+
+/// Goes to a version.
+pub fn go_to(history: &mut History, rope: &mut Rope, version: usize) -> Result<(), ChangeError>
+    requires { version < length history.old.versions }
+    ensures history { OnOk result (GoesTo history.old history.new version) }
+    ensures stands { (first : List ℕ) → StandsAt first history.old rope.old.text
+        → StandsAt first history.new rope.new.text }
+{
+    history.go_to(rope, version)
 }
 
 /// Returns the number of versions, the current one, and the length of its text.

@@ -10,7 +10,12 @@ use Rattle.rope_history.proofs.history.History.new.Goals as goal
 
 abbrev inside : Else-is_err-2 → Inside
 inside c =
-    record { versions = c.push.new.self; redo = c.push-else-is_err.new.self; current = 0 }
+    record {
+      versions = c.push.new.self;
+      redo = c.push-else-is_err.new.self;
+      current = 0;
+      alloc = c.args.alloc;
+    }
 
 made : (c : Else-is_err-2) → history_of (inside c) ≡ first_version c.args.len
 made c = search rules

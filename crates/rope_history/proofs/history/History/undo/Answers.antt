@@ -1,7 +1,7 @@
-use Rattle.std.proofs.Common.{◌≡◌, ◌<◌, Some, None, length, ap, sym, ◌∙◌, subst, arith, rules}
+use Rattle.std.proofs.Common.{◌≡◌, Some, None, ap, sym, ◌∙◌, subst}
 use Rattle.std.proofs.lemmas.List.{get_or_default}
 use Rattle.rope_changes.specs.Ops.{run}
-use Rattle.rope_changes.specs.Change.{Change, ops}
+use Rattle.rope_changes.specs.Change.{ops}
 use Rattle.rope_changes.proofs.Runs.{run_kept}
 use Rattle.rope_history.specs.declared.history.Version.{Version}
 use Rattle.rope_history.specs.Texts.{StandsAt}

@@ -1,10 +1,10 @@
-use Rattle.std.proofs.Common.{ℕ, ◌≡◌, ◌+◌, ◌<◌, ◌≤◌, ◌++◌, List, [], length, get_or, set, take, drop, refl, ap, sym, ◌∙◌, subst, arith, rules, append-nil}
+use Rattle.std.proofs.Common.{ℕ, ◌≡◌, ◌<◌, ◌≤◌, ◌++◌, List, length, get_or, set, drop, ap, sym, ◌∙◌, subst, arith, rules, append-nil}
 use Rattle.std.specs.Prelude.{map}
 use Rattle.std.specs.List.Sorted.{IsPermutation, IsNonDecreasingBy}
 use Rattle.std.proofs.lemmas.List.{get_or_default, take_all, drop_all}
 use Rattle.std.proofs.lemmas.List.Edits.{map_over_more}
 use Rattle.std.proofs.lemmas.List.Sorted.{IsNonDecreasingBy-from_sort_by_key}
-use Rattle.rope_changes.specs.Change.{ops, before, after}
+use Rattle.rope_changes.specs.Change.{ops, before}
 use Rattle.rope_changes.specs.declared.side.Side.TheVariants.{Before}
 use Rattle.rope_history.specs.declared.marks.Mark.{Mark}
 use Rattle.rope_history.specs.Marking.{Marking, IsMarking, IsWithin, moved_mark, start_of}

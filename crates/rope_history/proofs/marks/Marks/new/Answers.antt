@@ -1,4 +1,4 @@
-use Rattle.std.proofs.Common.{◌≡◌, [], sym, subst}
+use Rattle.std.proofs.Common.{sym, subst}
 use Rattle.rope_history.specs.Marking.{IsMarking}
 use Rattle.rope_history.proofs.MarkLaws.{none_is}
 use Rattle.rope_history.proofs.marks.Marks.new.Goals as goal

@@ -1,8 +1,7 @@
-use Rattle.std.proofs.Common.{◌≡◌, ◌<◌, [], length, get_or, drop, ap, sym, ◌∙◌, subst, arith}
+use Rattle.std.proofs.Common.{◌≡◌, ◌<◌, [], length, get_or, drop, ap, sym, ◌∙◌, arith}
 use Rattle.std.proofs.lemmas.List.{get_or_default}
 use Rattle.rope_changes.specs.declared.side.Side.TheVariants.{Before}
 use Rattle.rope_history.specs.declared.marks.Mark.{Mark}
-use Rattle.rope_history.specs.Marking.{start_of}
 use Rattle.rope_history.specs.MarkViews.{left_of}
 use Rattle.rope_history.proofs.MarkLaws.{later_start, none_left}
 use Rattle.rope_history.proofs.marks.Within.next.Goals as goal
