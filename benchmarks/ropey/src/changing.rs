@@ -302,8 +302,8 @@ fn sorted_indices(sample: &Sample, len: usize) -> Vec<usize> {
         .collect()
 }
 
-/// Moves indices in order, with one pass over the edits. One inside a replaced range goes to the end
-/// of the new text.
+/// Moves indices in order, with one pass over the edits. One in a replaced range, or at its start,
+/// goes to the end of the new text.
 fn moved(edits: &[Edit], indices: &mut [usize]) {
     let mut next = 0;
     let mut grown = 0isize;
@@ -314,7 +314,7 @@ fn moved(edits: &[Edit], indices: &mut [usize]) {
             next += 1;
         }
         *index = match edits.get(next) {
-            Some(edit) if edit.start < *index => {
+            Some(edit) if edit.start <= *index => {
                 edit.start.wrapping_add_signed(grown) + edit.chars()
             }
             _ => index.wrapping_add_signed(grown),
