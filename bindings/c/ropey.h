@@ -8,6 +8,9 @@
  * System. The library libropey.a is for Linux on x86-64 with the instructions of x86-64-v2 (SSE 4.2, POPCNT). Memory comes
  * from the program's malloc, realloc and free.
  *
+ * Versions. A program that was built with one version 1.x runs with every later 1.x: functions, numbers and structs, with
+ * their fields and sizes, stay as they are. New ones may be added. What a handle's pointer leads to may change.
+ *
  * Handles. A program holds a rope by a `ropey_rope`, which begins as ROPEY_NO_ROPE and is changed by these calls alone. It
  * may be moved (the old one is not used again), and is never copied: `ropey_clone` makes a second rope. Where a call takes
  * two handles, or a handle and a place to write to, they are different objects, but for two that are `const`. A call that

@@ -4,9 +4,15 @@ use std::process::Command;
 
 const ARCHIVE: &str = "libropey.a";
 
-const ADVICE: &str = "It is made by scripts/build_c_library.sh of this repository, and installed by \
-    scripts/install_c_library.sh PREFIX. Then set ROPEY_LIB_DIR to the folder that holds the archive, or \
-    PKG_CONFIG_PATH to PREFIX/lib/pkgconfig.";
+const ADVICE: &str = "A release has it in the crate's folder. It is made by scripts/build_c_library.sh of this \
+    repository, and installed by scripts/install_c_library.sh PREFIX. Then set ROPEY_LIB_DIR to the folder that holds \
+    the archive, or PKG_CONFIG_PATH to PREFIX/lib/pkgconfig.";
+
+/// The crate's own folder, which has the archive in a release.
+fn released() -> Option<PathBuf> {
+    let folder = Path::new(env!("CARGO_MANIFEST_DIR"));
+    folder.join(ARCHIVE).is_file().then(|| folder.to_path_buf())
+}
 
 /// The folder that `pkg-config` names, where the library is installed.
 fn installed() -> Option<PathBuf> {
@@ -34,7 +40,7 @@ fn main() {
     if std::env::var_os("DOCS_RS").is_some() {
         return;
     }
-    let folder = named().or_else(found).unwrap_or_else(|| panic!("{ARCHIVE} is not found. {ADVICE}"));
+    let folder = released().or_else(named).or_else(found).unwrap_or_else(|| panic!("{ARCHIVE} is not found. {ADVICE}"));
     println!("cargo:rerun-if-changed={}", folder.join(ARCHIVE).display());
     println!("cargo:rustc-link-search=native={}", folder.display());
     println!("cargo:rustc-link-lib=static=ropey");

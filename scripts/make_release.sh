@@ -1,0 +1,45 @@
+#!/usr/bin/env bash
+# Makes a release: one file with the library for C, C++ and Rust programs, which need neither `rt` nor this repository.
+#
+#     scripts/make_release.sh VERSION [FOLDER]
+#
+# It leaves ropey-VERSION-x86_64-linux.tar.gz in FOLDER, or in the folder out of the repository, once
+# scripts/test_release.sh has passed over it. VERSION is the one that bindings/c/ropey.h has. The archive is the one that
+# scripts/find_c_library.sh finds, or a new one (scripts/build_c_library.sh). A C compiler and GNU tar are needed. The same
+# commit, archive and compiler make the same file.
+set -euo pipefail
+
+top=$(cd "$(dirname "$0")/.." && pwd)
+version=${1:?the version of the release}
+folder=$(realpath -m "${2:-$top/out}")
+name=ropey-$version-x86_64-linux
+work=$(mktemp -d)
+trap 'rm -rf "$work"' EXIT
+
+if ! grep -qxF "#define ROPEY_VERSION \"$version\"" "$top/bindings/c/ropey.h"; then
+    echo "make_release.sh: bindings/c/ropey.h has another version than $version" >&2
+    exit 1
+fi
+if ! archive=$("$top/scripts/find_c_library.sh"); then
+    "$top/scripts/build_c_library.sh"
+    archive=$top/crates/ropey_c/out/libropey.a
+fi
+
+mkdir -p "$work/$name/rust" "$folder"
+"$top/scripts/place_c_library.sh" "$archive" "$work/$name"
+for file in Cargo.toml Cargo.lock build.rs rustfmt.toml LICENSE LICENSE-ropey src examples tests; do
+    cp -r "$top/bindings/rust/$file" "$work/$name/rust"
+done
+cp "$archive" "$work/$name/rust"
+cp "$top/LICENSE" "$top/LICENSE-ropey" "$work/$name"
+sed "s/@VERSION@/$version/g" "$top/bindings/release/README.md" > "$work/$name/README.md"
+chmod -R u=rwX,go=rX "$work/$name"
+(cd "$work/$name" && find . -type f ! -name SHA256SUMS | LC_ALL=C sort | xargs sha256sum > SHA256SUMS)
+
+# Each file has the commit's time, so that the same sources make the same file.
+time=$(git -C "$top" log -1 --format=@%ct 2> /dev/null || date +@%s)
+tar -C "$work" --sort=name --owner=0 --group=0 --numeric-owner --mtime="$time" -cf - "$name" |
+    gzip -n9 > "$work/$name.tar.gz"
+"$top/scripts/test_release.sh" "$work/$name.tar.gz"
+mv "$work/$name.tar.gz" "$folder"
+echo "made $folder/$name.tar.gz, $(stat -c %s "$folder/$name.tar.gz") bytes"

@@ -1,0 +1,84 @@
+#!/usr/bin/env bash
+# Places a built library for C below a folder: the archive, a shared object, headers and what build systems read.
+#
+#     scripts/place_c_library.sh ARCHIVE FOLDER
+#
+# It needs a C compiler (`cc`, or the one that CC names) to link the shared object. It leaves
+#
+#     FOLDER/include/ropey.h, ropey.hpp
+#     FOLDER/lib/libropey.a, libropey.sources
+#     FOLDER/lib/libropey.so -> libropey.so.1 -> libropey.so.VERSION
+#     FOLDER/lib/pkgconfig/ropey.pc, ropey-shared.pc  for the archive, and for the shared object
+#     FOLDER/lib/cmake/ropey/ropey-config.cmake       targets ropey::ropey and ropey::shared, for the same two
+#     FOLDER/lib/cmake/ropey/ropey-config-version.cmake
+#     FOLDER/share/man/man3/ropey.3
+#
+# No file names FOLDER, so it may be moved.
+set -euo pipefail
+
+top=$(cd "$(dirname "$0")/.." && pwd)
+archive=$(realpath "${1:?the archive libropey.a}")
+folder=$(realpath -m "${2:?the folder to place the library below}")
+header=$top/bindings/c/ropey.h
+version=$(sed -n 's/^#define ROPEY_VERSION "\(.*\)"$/\1/p' "$header")
+major=${version%%.*}
+work=$(mktemp -d)
+trap 'rm -rf "$work"' EXIT
+
+mkdir -p "$folder/include" "$folder/lib/pkgconfig" "$folder/lib/cmake/ropey" "$folder/share/man/man3"
+cp "$header" "$top/bindings/c/ropey.hpp" "$folder/include"
+for file in "$archive" "${archive%.a}.sources"; do
+    [ "$file" -ef "$folder/lib/$(basename "$file")" ] || cp "$file" "$folder/lib"
+done
+sed "s/@VERSION@/$version/" "$top/bindings/release/ropey.3" > "$folder/share/man/man3/ropey.3"
+
+# The functions of ropey.h are the shared object's only symbols. Its calls are bound as it is loaded.
+echo '{ global: ropey_*; local: *; };' > "$work/symbols"
+"${CC:-cc}" -shared -o "$folder/lib/libropey.so.$version" -Wl,-soname,"libropey.so.$major" \
+    -Wl,--version-script="$work/symbols" -Wl,-z,defs -Wl,-z,relro -Wl,-z,now \
+    -Wl,--whole-archive "$archive" -Wl,--no-whole-archive
+ln -sf "libropey.so.$version" "$folder/lib/libropey.so.$major"
+ln -sf "libropey.so.$major" "$folder/lib/libropey.so"
+
+# Writes the file for pkg-config with a name, a description and the flags for the linker.
+pkgconfig() {
+    cat > "$folder/lib/pkgconfig/$1.pc" <<EOF
+prefix=\${pcfiledir}/../..
+includedir=\${prefix}/include
+libdir=\${prefix}/lib
+
+Name: $1
+Description: $2
+Version: $version
+Cflags: -I\${includedir}
+Libs: -L\${libdir} $3
+EOF
+}
+pkgconfig ropey 'A text buffer for editors, proved correct' '-l:libropey.a'
+pkgconfig ropey-shared 'A text buffer for editors, proved correct (the shared object)' '-lropey'
+
+cat > "$folder/lib/cmake/ropey/ropey-config.cmake" <<EOF
+get_filename_component(ropey_prefix "\${CMAKE_CURRENT_LIST_DIR}/../../.." ABSOLUTE)
+if(NOT TARGET ropey::ropey)
+    add_library(ropey::ropey STATIC IMPORTED)
+    set_target_properties(ropey::ropey PROPERTIES
+        IMPORTED_LOCATION "\${ropey_prefix}/lib/libropey.a"
+        INTERFACE_INCLUDE_DIRECTORIES "\${ropey_prefix}/include")
+endif()
+if(NOT TARGET ropey::shared)
+    add_library(ropey::shared SHARED IMPORTED)
+    set_target_properties(ropey::shared PROPERTIES
+        IMPORTED_LOCATION "\${ropey_prefix}/lib/libropey.so.$version"
+        IMPORTED_SONAME "libropey.so.$major"
+        INTERFACE_INCLUDE_DIRECTORIES "\${ropey_prefix}/include")
+endif()
+EOF
+cat > "$folder/lib/cmake/ropey/ropey-config-version.cmake" <<EOF
+set(PACKAGE_VERSION "$version")
+if(PACKAGE_FIND_VERSION VERSION_LESS_EQUAL PACKAGE_VERSION AND PACKAGE_FIND_VERSION_MAJOR STREQUAL "$major")
+    set(PACKAGE_VERSION_COMPATIBLE TRUE)
+endif()
+if(PACKAGE_FIND_VERSION STREQUAL PACKAGE_VERSION)
+    set(PACKAGE_VERSION_EXACT TRUE)
+endif()
+EOF
