@@ -58,7 +58,9 @@ pkgconfig ropey 'A text buffer for editors, proved correct' '-l:libropey.a'
 pkgconfig ropey-shared 'A text buffer for editors, proved correct (the shared object)' '-lropey'
 
 cat > "$folder/lib/cmake/ropey/ropey-config.cmake" <<EOF
-get_filename_component(ropey_prefix "\${CMAKE_CURRENT_LIST_DIR}/../../.." ABSOLUTE)
+# The real path, since /lib may be a link to /usr/lib.
+get_filename_component(ropey_folder "\${CMAKE_CURRENT_LIST_DIR}" REALPATH)
+get_filename_component(ropey_prefix "\${ropey_folder}/../../.." ABSOLUTE)
 if(NOT TARGET ropey::ropey)
     add_library(ropey::ropey STATIC IMPORTED)
     set_target_properties(ropey::ropey PROPERTIES
@@ -72,6 +74,8 @@ if(NOT TARGET ropey::shared)
         IMPORTED_SONAME "libropey.so.$major"
         INTERFACE_INCLUDE_DIRECTORIES "\${ropey_prefix}/include")
 endif()
+unset(ropey_folder)
+unset(ropey_prefix)
 EOF
 cat > "$folder/lib/cmake/ropey/ropey-config-version.cmake" <<EOF
 set(PACKAGE_VERSION "$version")

@@ -61,46 +61,53 @@ grep -oE '^(ropey_status|uint32_t|size_t|void|const char \*) ?\*?ropey_\w+\(' "$
     grep -oE 'ropey_\w+\(' | tr -d '(' | sort > "$work/functions"
 nm -D --defined-only "$lib/libropey.so" | awk '{ print $3 }' | sort | diff "$work/functions" -
 
-# Runs a program, with the folder of the shared object where one is given, and compares what it prints with a file.
-prints() {
-    LD_LIBRARY_PATH=${3:-} "$2" > "$work/printed"
-    diff "$1" "$work/printed"
+# Runs a program that was linked with the archive, and compares what it prints with what the program NAME must print.
+static_prints() {
+    "$2" > "$work/printed"
+    diff "$work/programs/$1.stdout" "$work/printed"
 }
 
-strict="-std=c11 -pedantic -Wall -Wextra -Werror"
-for example in example undo; do
-    expected=$top/bindings/c/$example.stdout
-    "$cc" $strict -I"$release/include" "$top/bindings/c/$example.c" "$lib/libropey.a" -o "$work/static"
-    prints "$expected" "$work/static"
-    "$cc" $strict -I"$release/include" "$top/bindings/c/$example.c" -L"$lib" -lropey -o "$work/shared"
-    prints "$expected" "$work/shared" "$lib"
-    LD_LIBRARY_PATH=$lib ldd "$work/shared" > "$work/loaded"
-    grep -qF "$lib/libropey.so.1 " "$work/loaded" || { cat "$work/loaded"; exit 1; }
+# Does so of a program that was linked with the shared object, once the loader has found that one.
+shared_prints() {
+    LD_LIBRARY_PATH=$lib ldd "$2" > "$work/loaded"
+    grep -qE "$lib/libropey.so.1(\.|\s)" "$work/loaded" || { cat "$work/loaded"; exit 1; }
+    LD_LIBRARY_PATH=$lib static_prints "$1" "$2"
+}
+
+# The programs lie apart from the headers of the repository.
+mkdir "$work/programs"
+cp "$top"/bindings/c/{example,undo}.{c,stdout} "$top/bindings/c/wrapper.cpp" "$work/programs"
+echo 'C++: as it must be' > "$work/programs/wrapper.stdout"
+cd "$work/programs"
+
+strict=(-std=c11 -pedantic -Wall -Wextra -Werror "-I$release/include")
+for program in example undo; do
+    "$cc" "${strict[@]}" "$program.c" "$lib/libropey.a" -o "$work/static"
+    static_prints "$program" "$work/static"
+    "$cc" "${strict[@]}" "$program.c" -L"$lib" -lropey -o "$work/shared"
+    shared_prints "$program" "$work/shared"
 done
 
 if "$cxx" --version > /dev/null 2>&1; then
-    echo 'C++: as it must be' > "$work/wrapper.stdout"
-    "$cxx" -std=c++17 -I"$release/include" "$top/bindings/c/wrapper.cpp" "$lib/libropey.a" -o "$work/static"
-    prints "$work/wrapper.stdout" "$work/static"
-    "$cxx" -std=c++17 -I"$release/include" "$top/bindings/c/wrapper.cpp" -L"$lib" -lropey -o "$work/shared"
-    prints "$work/wrapper.stdout" "$work/shared" "$lib"
+    "$cxx" -std=c++17 -I"$release/include" wrapper.cpp "$lib/libropey.a" -o "$work/static"
+    static_prints wrapper "$work/static"
+    "$cxx" -std=c++17 -I"$release/include" wrapper.cpp -L"$lib" -lropey -o "$work/shared"
+    shared_prints wrapper "$work/shared"
     passed+=', C++'
 fi
 
 if pkg-config --version > /dev/null 2>&1; then
     export PKG_CONFIG_PATH=$lib/pkgconfig
-    "$cc" "$top/bindings/c/example.c" $(pkg-config --cflags --libs ropey) -o "$work/static"
-    prints "$top/bindings/c/example.stdout" "$work/static"
-    "$cc" "$top/bindings/c/example.c" $(pkg-config --cflags --libs ropey-shared) -o "$work/shared"
-    prints "$top/bindings/c/example.stdout" "$work/shared" "$lib"
+    "$cc" example.c $(pkg-config --cflags --libs ropey) -o "$work/static"
+    static_prints example "$work/static"
+    "$cc" example.c $(pkg-config --cflags --libs ropey-shared) -o "$work/shared"
+    shared_prints example "$work/shared"
     unset PKG_CONFIG_PATH
     passed+=', pkg-config'
 fi
 
 if cmake --version > /dev/null 2>&1 && "$cxx" --version > /dev/null 2>&1; then
-    mkdir "$work/cmake"
-    cp "$top/bindings/c/example.c" "$top/bindings/c/wrapper.cpp" "$work/cmake"
-    cat > "$work/cmake/CMakeLists.txt" <<'CMAKE'
+    cat > CMakeLists.txt <<'CMAKE'
 cmake_minimum_required(VERSION 3.16)
 project(editor C CXX)
 set(CMAKE_CXX_STANDARD 17)
@@ -110,13 +117,13 @@ target_link_libraries(static ropey::ropey)
 add_executable(shared wrapper.cpp)
 target_link_libraries(shared ropey::shared)
 CMAKE
-    { cmake -S "$work/cmake" -B "$work/cmake/out" -DCMAKE_PREFIX_PATH="$release" -DCMAKE_C_COMPILER="$cc" \
-        -DCMAKE_CXX_COMPILER="$cxx" && cmake --build "$work/cmake/out"; } > "$work/log" 2>&1 || { cat "$work/log"; exit 1; }
-    prints "$top/bindings/c/example.stdout" "$work/cmake/out/static"
-    prints "$work/wrapper.stdout" "$work/cmake/out/shared"
-    sed -i 's/ropey 1.0/ropey 2.0/' "$work/cmake/CMakeLists.txt"
-    if cmake -S "$work/cmake" -B "$work/cmake/other" -DCMAKE_PREFIX_PATH="$release" > "$work/log" 2>&1; then
-        echo 'Release: CMake takes it for version 2' >&2
+    flags=(-DCMAKE_PREFIX_PATH="$release" -DCMAKE_C_COMPILER="$cc" -DCMAKE_CXX_COMPILER="$cxx")
+    { cmake -B "$work/cmake" "${flags[@]}" && cmake --build "$work/cmake"; } > "$work/log" 2>&1 || { cat "$work/log"; exit 1; }
+    static_prints example "$work/cmake/static"
+    shared_prints wrapper "$work/cmake/shared"
+    sed -i 's/ropey 1.0/ropey 2.0/' CMakeLists.txt
+    if cmake -B "$work/cmake_2" "${flags[@]}" > "$work/log" 2>&1; then
+        echo 'Release: CMake accepts it as version 2' >&2
         exit 1
     fi
     passed+=', CMake'
