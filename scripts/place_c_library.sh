@@ -41,6 +41,8 @@ ln -sf "libropey.so.$version" "$folder/lib/libropey.so.$major"
 ln -sf "libropey.so.$major" "$folder/lib/libropey.so"
 
 # Writes the file for pkg-config with a name, a description and the flags for the linker.
+# `ropey` names the archive itself: a linker that is given -lropey prefers the shared object, and the program would then need
+# a path for the loader.
 pkgconfig() {
     cat > "$folder/lib/pkgconfig/$1.pc" <<EOF
 prefix=\${pcfiledir}/../..

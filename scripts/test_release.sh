@@ -61,6 +61,14 @@ grep -oE '^(ropey_status|uint32_t|size_t|void|const char \*) ?\*?ropey_\w+\(' "$
     grep -oE 'ropey_\w+\(' | tr -d '(' | sort > "$work/functions"
 nm -D --defined-only "$lib/libropey.so" | awk '{ print $3 }' | sort | diff "$work/functions" -
 
+# It needs no C library that is newer than the release's README says.
+newest=$(nm -D "$lib/libropey.so" | sed -n 's/.*@GLIBC_//p' | sort -V | tail -n 1)
+glibc=$(sed -nE 's/.* glibc ([0-9.]+) or later.*/\1/p' "$release/README.md")
+if [ "$(printf '%s\n' "$newest" "$glibc" | sort -V | tail -n 1)" != "$glibc" ]; then
+    echo "Release: the shared object needs glibc $newest, and README.md says $glibc" >&2
+    exit 1
+fi
+
 # Runs a program that was linked with the archive, and compares what it prints with what the program NAME must print.
 static_prints() {
     "$2" > "$work/printed"

@@ -14,6 +14,8 @@ _Static_assert(sizeof(ropey_rope) == sizeof(void *) && sizeof(ropey_builder) == 
 _Static_assert(sizeof(ropey_changes) == sizeof(void *), "so is one of changes");
 _Static_assert(sizeof(ropey_chunk) == 5 * sizeof(size_t) && sizeof(ropey_piece) == 2 * sizeof(size_t), "no padding");
 _Static_assert(sizeof(ropey_edit) == 4 * sizeof(size_t) && sizeof(ropey_replacement) == 6 * sizeof(size_t), "nor in edits");
+_Static_assert(sizeof(ropey_range) == 2 * sizeof(size_t) && sizeof(ropey_place) == 2 * sizeof(size_t), "nor in ranges");
+_Static_assert(sizeof(ropey_counts) == 4 * sizeof(size_t) && sizeof(ropey_slice) == 6 * sizeof(size_t), "nor in counts");
 
 int main(void) {
     const uint32_t version = ROPEY_VERSION_MAJOR * 1000000 + ROPEY_VERSION_MINOR * 1000 + ROPEY_VERSION_PATCH;

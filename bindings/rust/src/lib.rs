@@ -30,8 +30,9 @@
 //!
 //! All counting, searching, editing and checking of UTF-8 is done by the library for C of this repository, `libropey.a`.
 //! Its functions are proved against plain lists of characters: for every text and index they answer what the list says. This
-//! crate holds handles, ranges and pieces, and is tested, not proved. The build finds the archive in the folder that
-//! `ROPEY_LIB_DIR` names, by `pkg-config`, or where the repository builds it.
+//! crate holds handles, ranges and pieces, and is tested, not proved. The build finds the archive in the crate's
+//! own folder, where a release has it; in the folder that `ROPEY_LIB_DIR` names; by `pkg-config`; or where the repository
+//! builds it.
 //!
 //! # Line breaks
 //!
