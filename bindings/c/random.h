@@ -44,7 +44,7 @@ void *__wrap_malloc(size_t size) { return is_refused() ? NULL : __real_malloc(si
 
 void *__wrap_realloc(void *block, size_t size) { return is_refused() ? NULL : __real_realloc(block, size); }
 
-/* Before a call, decides whether an allocation of it is refused; behind it, allows all of them again. */
+/* Decides before a call whether one of its allocations fails, and after it lets all of them succeed. */
 static inline void arm(void) {
     refused = false;
     refuse_at = below(8) == 0 ? (long)below(6) : -1;

@@ -9,7 +9,7 @@
  * POPCNT). Memory comes from the program's malloc, realloc and free.
  *
  * Versions. A program that was built with one version 1.x runs with every later 1.x: functions, numbers and structs, with
- * their fields and sizes, stay as they are. New ones may be added. What a handle's pointer leads to may change.
+ * their fields and sizes, stay as they are. New ones may be added. The memory that a handle points to may change.
  *
  * Handles. A program holds a rope by a `ropey_rope`, which begins as ROPEY_NO_ROPE and is changed by these calls alone. It
  * may be moved (the old one is not used again), and is never copied: `ropey_clone` makes a second rope. Where a call takes
@@ -29,8 +29,8 @@
  * refused call leaves every rope as it was and writes nothing, but where its comment says so. A call on a handle that holds no
  * rope answers ROPEY_NO_ROPE_HELD. A call with nothing to change takes no memory, and never answers ROPEY_OUT_OF_MEMORY: an
  * insert of an empty text, a removal of an empty range, a replacement of an empty range by an empty text, an append of or to an
- * empty rope, a shrink of an empty rope, an append of no bytes to a builder, an application of changes
- * that replace nothing, or of no edits.
+ * empty rope, a shrink of an empty rope, an append of no bytes to a builder, changes that replace nothing, a list of no
+ * edits.
  *
  * Edits are the calls that take a `ropey_rope *` which holds a rope; look-ups are those that take a `const ropey_rope *`.
  * A look-up changes nothing, and gives pointers into the rope's memory. They are good until the handle is passed to an

@@ -1,6 +1,6 @@
-/* A rope and changes for programs in C++17: the calls of ropey.h on classes that free what they hold. A refusal is thrown as
- * ropey::refused, one of memory as std::bad_alloc. Both may be moved; a rope is copied by clone() alone. Texts are UTF-8. ropey.h says what
- * each call does, and what may run at once. */
+/* A rope and changes for programs in C++17: the calls of ropey.h on classes that free what they hold. An error is thrown as
+ * ropey::refused, out of memory as std::bad_alloc. Both classes may be moved; a rope is copied by clone() alone. Texts are
+ * UTF-8. ropey.h says what each call does, and what may run at once. */
 #ifndef ROPEY_HPP
 #define ROPEY_HPP
 

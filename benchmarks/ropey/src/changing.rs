@@ -157,14 +157,14 @@ fn invert(sample: &Sample) -> Outcome {
     )
 }
 
-/// An edit as it is composed: what is left of it.
+/// The part of an edit that is not composed yet.
 struct Left<'a> {
     kept: usize,
     text: &'a str,
     deleted: usize,
 }
 
-/// The edits that are left, with the characters kept before each.
+/// Returns the edits, each with the number of characters kept before it.
 fn left_of(edits: &[Edit]) -> Vec<Left<'_>> {
     let mut end = 0;
     edits

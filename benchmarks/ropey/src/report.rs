@@ -18,8 +18,8 @@ pub fn run(task: &Task) {
     }
 }
 
-/// The workloads of each text, of worn ropes, of no text, of line lengths and portions, and of a
-/// person's edits.
+/// Runs the workloads on each text, on fragmented ropes, without a text, by length of lines and of
+/// edits, and on a person's edits.
 fn run_all(task: &Task) {
     // The memory of a text that is let go tells the allocator how much to keep when a rope goes,
     // and so what a rope costs: it is to be the same for all workloads.

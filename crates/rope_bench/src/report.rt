@@ -31,8 +31,8 @@ pub fn run<R: CpuClock + Print + Input + AllocGlobal>(
     }
 }
 
-/// The workloads of each text, of worn ropes, of no text, of line lengths and portions, and of a
-/// person's edits.
+/// Runs the workloads on each text, on fragmented ropes, without a text, by length of lines and of
+/// edits, and on a person's edits.
 fn run_all<R: CpuClock + Print + Input + AllocGlobal>(
     rt: &R,
     alloc: Global,

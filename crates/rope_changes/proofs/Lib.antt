@@ -20,3 +20,4 @@ pub mod Passing
 pub mod OneForm
 pub mod NormalMoves
 pub mod BuiltLaws
+pub mod Associative

@@ -1,5 +1,5 @@
 //! Laws: what compositions, inverses and rebased changes do to a text, and how indices move.
-ghost use Rattle.rope_changes.specs.Laws.{LengthsAgree, ComposeApplies, InverseApplies, Converges, MovesCompose, MovesThroughComposed, StartStays, MovesKeepOrder, ReplacesRange, InvertsBack, NormalFormApplies, NormalFormKeepsLengths, NormalFormIsUnique, OperationsTell, RebasesConverge};
+ghost use Rattle.rope_changes.specs.Laws.{LengthsAgree, ComposeApplies, InverseApplies, Converges, MovesCompose, MovesThroughComposed, StartStays, MovesKeepOrder, ReplacesRange, InvertsBack, NormalFormApplies, NormalFormKeepsLengths, NormalFormIsUnique, OperationsTell, CompositionsAssociate, RebasesConverge};
 
 /// Does nothing; its contract is the laws of changes. A composition does what its two changes do
 /// in a row, and an inverse leads back to the text before. Of two changes of one text each can be
@@ -19,6 +19,12 @@ pub fn normal_forms_agree()
     ensures lengths { NormalFormKeepsLengths }
     ensures unique { NormalFormIsUnique }
     ensures operations { OperationsTell }
+{}
+
+/// Does nothing; its contract is the law of `ChangeSet::compose`: three changes in a row compose to
+/// one change, whether the first two are composed first or the last two.
+pub fn compositions_associate()
+    ensures { CompositionsAssociate }
 {}
 
 /// Does nothing; its contract is the law of `ChangeSet::rebase`. Of two changes of one text each is

@@ -15,7 +15,7 @@ use Rattle.rope_changes.proofs.Runs.{run_kept}
 use Rattle.rope_documents.specs.declared.content_change.ContentChange.{ContentChange}
 use Rattle.rope_documents.specs.declared.error.DocumentError.{DocumentError}
 use Rattle.rope_documents.specs.Received.{TextChange, text_change, changed, all_changed, one_change, all_composed, or_next, change_error, first_error}
-use Rattle.rope_documents.proofs.Associative.{composed_twice}
+use Rattle.rope_changes.proofs.Associative.{composed_twice}
 
 or_next_twice : (a b c : Option DocumentError) → or_next a (or_next b c) ≡ or_next (or_next a b) c
 or_next_twice None b c = refl

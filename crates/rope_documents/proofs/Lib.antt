@@ -1,4 +1,3 @@
-pub mod Associative
 pub mod Batches
 pub mod Insides
 pub mod Clamped

@@ -178,10 +178,11 @@ fn apply_all(
 ///
 /// # Errors
 ///
-/// The error of the first change that is refused: `RangeInvalid`, with the range's start and end,
-/// if the character at its end comes before the one at its start; then `TooLong`, if the text that
-/// the change before it left and its own text have more than `isize::MAX` bytes together. Else
-/// `OutOfMemory`. A call that fails leaves the rope as it was.
+/// The error of the first change that has one: `RangeInvalid`, with the range's start and end, if
+/// the character at its end comes before the one at its start; then `TooLong`, if the text that the
+/// change before it left and its own text have more than `isize::MAX` bytes together. Or
+/// `OutOfMemory`, which may come before that change is reached. A call that fails leaves the rope
+/// as it was.
 pub fn apply_content_changes(
     alloc: Global,
     rope: &mut Rope,

@@ -9,7 +9,7 @@ use Rattle.std.proofs.lemmas.List.{get_or-set_other, length-set}
 use Rattle.rope_changes.specs.Change.{Change, before, after}
 use Rattle.rope_changes.proofs.Prefixes.{keeping_before, keeping_after}
 use Rattle.rope_history.specs.declared.history.Version.{Version}
-use Rattle.rope_history.specs.Versions.{Versions, IsHistory, root, version_at, parent_of, redo_of, len_of, first_version, with_child, back_at, standing_at, went_up, IsWayUp, IsPath}
+use Rattle.rope_history.specs.Versions.{Versions, IsHistory, root, version_at, parent_of, redo_of, len_of, first_version, with_child, back_at, standing_at, ascended, IsAscent, IsPath}
 
 abbrev parent : Version → Option ℕ
 parent v = v.parent
@@ -216,27 +216,27 @@ standing_is_history h v kept lt =
       children = kept.children;
     }
 
-pub up_is_history : (h : Versions) (parents : List ℕ) → IsHistory h → IsWayUp h parents
-    → IsHistory (went_up h parents)
+pub up_is_history : (h : Versions) (parents : List ℕ) → IsHistory h → IsAscent h parents
+    → IsHistory (ascended h parents)
 up_is_history h [] kept up = kept
 up_is_history h (p ∷ parents) kept up =
     up_is_history (back_at h (Some p)) parents (back_is_history h p kept up.0) up.1
 
-pub versions_up : (h : Versions) (parents : List ℕ) → (went_up h parents).versions ≡ h.versions
+pub versions_up : (h : Versions) (parents : List ℕ) → (ascended h parents).versions ≡ h.versions
 versions_up h [] = refl
 versions_up h (p ∷ parents) = versions_up (back_at h (Some p)) parents
 
 -- one parent more
-pub went_up_more : (h : Versions) (parents : List ℕ) (p : ℕ)
-    → went_up h (parents ++ p ∷ []) ≡ back_at (went_up h parents) (Some p)
-went_up_more h [] p = refl
-went_up_more h (q ∷ parents) p = went_up_more (back_at h (Some q)) parents p
+pub ascended_more : (h : Versions) (parents : List ℕ) (p : ℕ)
+    → ascended h (parents ++ p ∷ []) ≡ back_at (ascended h parents) (Some p)
+ascended_more h [] p = refl
+ascended_more h (q ∷ parents) p = ascended_more (back_at h (Some q)) parents p
 
-pub way_up_more : (h : Versions) (parents : List ℕ) (p : ℕ) → IsWayUp h parents
-    → parent_of (went_up h parents) (went_up h parents).current ≡ Some p
-    → IsWayUp h (parents ++ p ∷ [])
-way_up_more h [] p up is = (is, tt)
-way_up_more h (q ∷ parents) p up is = (up.0, way_up_more (back_at h (Some q)) parents p up.1 is)
+pub ascent_more : (h : Versions) (parents : List ℕ) (p : ℕ) → IsAscent h parents
+    → parent_of (ascended h parents) (ascended h parents).current ≡ Some p
+    → IsAscent h (parents ++ p ∷ [])
+ascent_more h [] p up is = (is, tt)
+ascent_more h (q ∷ parents) p up is = (up.0, ascent_more (back_at h (Some q)) parents p up.1 is)
 
 -- a path that goes up to the next parent
 pub path_more : (h : Versions) (v : ℕ) (path : List ℕ) (top p : ℕ) → IsPath h v path top
@@ -255,21 +255,21 @@ path_last h v (x ∷ path) c top is =
     let rest = path_last h is.1.0 path c top is.1.1.1 in
     ((is.0, (is.1.0, (is.1.1.0, rest.0))), rest.1)
 
-pub way_up_take : (h : Versions) (parents : List ℕ) (n : ℕ) → IsWayUp h parents
-    → IsWayUp h (take n parents)
-way_up_take h [] zero up = tt
-way_up_take h [] (suc n) up = tt
-way_up_take h (p ∷ parents) zero up = tt
-way_up_take h (p ∷ parents) (suc n) up = (up.0, way_up_take (back_at h (Some p)) parents n up.1)
+pub ascent_take : (h : Versions) (parents : List ℕ) (n : ℕ) → IsAscent h parents
+    → IsAscent h (take n parents)
+ascent_take h [] zero up = tt
+ascent_take h [] (suc n) up = tt
+ascent_take h (p ∷ parents) zero up = tt
+ascent_take h (p ∷ parents) (suc n) up = (up.0, ascent_take (back_at h (Some p)) parents n up.1)
 
 -- each parent on a way up is the one of the version before
-pub way_up_at : (h : Versions) (parents : List ℕ) (i : ℕ) → i < length parents → IsWayUp h parents
-    → parent_of (went_up h (take i parents)) (went_up h (take i parents)).current
+pub ascent_at : (h : Versions) (parents : List ℕ) (i : ℕ) → i < length parents → IsAscent h parents
+    → parent_of (ascended h (take i parents)) (ascended h (take i parents)).current
     ≡ Some (get_or parents i 0)
-way_up_at h [] i lt up = absurd (omega arith)
-way_up_at h (p ∷ parents) zero lt up = up.0
-way_up_at h (p ∷ parents) (suc i) lt up =
-    way_up_at (back_at h (Some p)) parents i (omega arith) up.1
+ascent_at h [] i lt up = absurd (omega arith)
+ascent_at h (p ∷ parents) zero lt up = up.0
+ascent_at h (p ∷ parents) (suc i) lt up =
+    ascent_at (back_at h (Some p)) parents i (omega arith) up.1
 
 -- the version at the top of a path is one of the history
 pub path_within : (h : Versions) (v : ℕ) (path : List ℕ) (top : ℕ) → IsHistory h

@@ -1,5 +1,6 @@
 -- The versions of a text, and the moves between them.
-use Rattle.std.specs.Prelude.{◌≡◌, ℕ, ◌<◌, List, [], ◌∷◌, ◌++◌, length, Option, Some, None, slice_index_or, slice_set}
+use Rattle.std.specs.Prelude.{◌≡◌, ◌≢◌, ℕ, ◌<◌, List, [], ◌∷◌, ◌++◌, length, Option, Some, None, slice_index_or, slice_set}
+use Rattle.std.specs.List.{All}
 use Rattle.std.specs.Option.{option_map}
 use Rattle.rope_changes.specs.Change.{Change, before, after}
 use Rattle.rope_changes.specs.Built.{unchanged}
@@ -112,14 +113,14 @@ pub record IsHistory (h : Versions) : Type 0 where
       → (c < length h.versions) × (parent_of h c ≡ Some v)
 
 -- back at one parent after the other
-abbrev pub went_up : Versions → List ℕ → Versions
-went_up h [] = h
-went_up h (p ∷ parents) = went_up (back_at h (Some p)) parents
+abbrev pub ascended : Versions → List ℕ → Versions
+ascended h [] = h
+ascended h (p ∷ parents) = ascended (back_at h (Some p)) parents
 
 -- each is the parent of the version before
-abbrev pub IsWayUp : Versions → List ℕ → Type 0
-IsWayUp h [] = Unit {0}
-IsWayUp h (p ∷ parents) = (parent_of h h.current ≡ Some p) × IsWayUp (back_at h (Some p)) parents
+abbrev pub IsAscent : Versions → List ℕ → Type 0
+IsAscent h [] = Unit {0}
+IsAscent h (p ∷ parents) = (parent_of h h.current ≡ Some p) × IsAscent (back_at h (Some p)) parents
 
 -- a version, its parent and so on, up to a child of the version at the top
 abbrev pub IsPath : Versions → ℕ → List ℕ → ℕ → Type 0
@@ -127,10 +128,13 @@ IsPath h v [] top = v ≡ top
 IsPath h v (x ∷ path) top =
     (x ≡ v) × ((p : ℕ) × ((parent_of h v ≡ Some p) × IsPath h p path top))
 
--- at a version, after the way up over some parents as by `undo`, and the way down from there
+-- at a version, after an ascent over some parents, as by `undo`, and a descent along a path; no
+-- version of the path is the old current one or one of the parents, so the ascent ends at the last
+-- common ancestor
 pub record GoesTo (old new : Versions) (v : ℕ) : Type 0 where
   pub parents : List ℕ
-  pub up : IsWayUp old parents
+  pub up : IsAscent old parents
   pub path : List ℕ
-  pub down : IsPath old v path (went_up old parents).current
-  pub new_is : new ≡ standing_at (went_up old parents) (Some v)
+  pub down : IsPath old v path (ascended old parents).current
+  pub apart : All (λ x. All (λ y. x ≢ y) (old.current ∷ parents)) path
+  pub new_is : new ≡ standing_at (ascended old parents) (Some v)

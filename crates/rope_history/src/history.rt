@@ -1,12 +1,13 @@
 //! The versions that a text went through.
 ghost use Rattle.std.specs.Prelude.{◌≡◌, ◌≢◌, ◌⊎◌, ◌+◌, ◌<◌, ◌≤◌, ◌^◌, ◌∷◌, ◌++◌, ℕ, List, [], length, vec_len, vec_capacity, Some, None, IfOk, IfErr, IsOk, OnOk, OnErr};
+ghost use Rattle.std.specs.List.{All};
 ghost use Rattle.rope_text.specs.Text.{byte_len};
 ghost use Rattle.rope_changes.specs.declared.error.ChangeError.TheVariants.{LengthDiffers, TooLong, OutOfMemory};
 ghost use Rattle.rope_changes.specs.Applied.{inserted_bytes};
 ghost use Rattle.rope_changes.specs.Change.{after, before, ops};
 ghost use Rattle.rope_changes.specs.Ops.{run};
 ghost use Rattle.rope_history.specs.Texts.{StandsAt, text_at, text_before};
-ghost use Rattle.rope_history.specs.Versions.{GoesTo, IsHistory, IsPath, IsWayUp, change_ahead, change_back, committed, first_version, left_by_undo, len_of, parent_of, redo_of, redone, undone, version_at, went_up};
+ghost use Rattle.rope_history.specs.Versions.{GoesTo, IsHistory, IsPath, IsAscent, change_ahead, change_back, committed, first_version, left_by_undo, len_of, parent_of, redo_of, redone, undone, version_at, ascended};
 ghost use Rattle.ropey.specs.View.{IsRope};
 
 use rope_changes::{ChangeError, ChangeSet};
@@ -342,7 +343,7 @@ impl History {
     }
 
     // Applies the inverses up to the last common ancestor of the current version and `version`, and
-    // returns that ancestor. Adds the parents on the way to `parents`, and the versions from
+    // returns that ancestor. Adds each parent that it reaches to `parents`, and the versions from
     // `version` up to a child of the ancestor to `path`.
     fn climb(
         &self,
@@ -357,9 +358,11 @@ impl History {
         requires len { length rope.old.text ≡ len_of self.now }
         requires no_parents { parents.old.items ≡ [] }
         requires no_path { path.old.items ≡ [] }
-        ensures top { IfOk result (λ top. top ≡ (went_up self.now parents.new.items).current) }
-        ensures up { OnOk result (IsWayUp self.now parents.new.items) }
+        ensures top { IfOk result (λ top. top ≡ (ascended self.now parents.new.items).current) }
+        ensures up { OnOk result (IsAscent self.now parents.new.items) }
         ensures down { IfOk result (λ top. IsPath self.now version path.new.items top) }
+        ensures apart { OnOk result (All
+            (λ x. All (λ y. x ≢ y) (self.now.current ∷ parents.new.items)) path.new.items) }
         ensures within { IfOk result (λ top. top < length self.now.versions) }
         ensures len { IfOk result (λ top.
             length rope.new.text ≡ after (version_at self.now top).change) }
@@ -418,8 +421,8 @@ impl History {
 
     // Makes each of the parents the current version, and remembers the versions that are left.
     fn leave(&mut self, parents: &Vec<usize>)
-        requires { IsWayUp self.old parents.now.items }
-        ensures { self.new ≡ went_up self.old parents.now.items }
+        requires { IsAscent self.old parents.now.items }
+        ensures { self.new ≡ ascended self.old parents.now.items }
     {
         for parent in parents {
             self.redo[*parent] = Some(self.current);
@@ -427,14 +430,14 @@ impl History {
         }
     }
 
-    /// Applies the changes on the way to `version` to the rope, and makes it the current version:
-    /// the inverses up to the last common ancestor of both, as `undo` does, and then the changes
-    /// down to `version`. Takes memory for the numbers of the versions on the way.
+    /// Makes `version` the current version: applies to the rope the inverses up to the last common
+    /// ancestor of both versions, as `undo` does, and then the changes down to `version`. Takes
+    /// memory for the numbers of the versions on that path.
     ///
     /// # Errors
     ///
     /// First `LengthDiffers`, with `len_chars()` and the rope's length, if they differ; then
-    /// `TooLong`, if a text on the way and the texts that are inserted into it have more than
+    /// `TooLong`, if a text on the path and the texts that are inserted into it have more than
     /// `isize::MAX` bytes together; and `OutOfMemory`. A call that fails leaves the history and the
     /// rope as they were.
     pub fn go_to(&mut self, rope: &mut Rope, version: usize) -> Result<(), ChangeError>

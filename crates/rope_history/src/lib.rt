@@ -18,7 +18,7 @@
 //! A commit takes memory for the change and its inverse, that is for the inserted and deleted
 //! texts, and for the nodes of the rope that it copies. `commit`, `undo` and `redo` take the time
 //! of `ChangeSet::apply`, and `commit` also that of `ChangeSet::invert`; `go_to` takes the time of
-//! one `ChangeSet::apply` per version on the way. Every other call of a history takes constant time
+//! one `ChangeSet::apply` per version it passes. Every other call of a history takes constant time
 //! and no memory.
 //!
 //! Marks are ranges of a text, such as bookmarks and diagnostics, with a side for each end on which

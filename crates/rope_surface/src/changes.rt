@@ -6,7 +6,7 @@ ghost use Rattle.std.specs.Str.{chars};
 ghost use Rattle.rope_changes.specs.Built.{built, unchanged};
 ghost use Rattle.rope_changes.specs.Change.{IsInOrder, after, before, last_end, ops, replaced};
 ghost use Rattle.rope_changes.specs.Inverted.{inverted};
-ghost use Rattle.rope_changes.specs.Laws.{ComposeApplies, Converges, InverseApplies, InvertsBack, LengthsAgree, MovesCompose, MovesKeepOrder, MovesThroughComposed, NormalFormApplies, NormalFormIsUnique, NormalFormKeepsLengths, OperationsTell, RebasesConverge, ReplacesRange, StartStays};
+ghost use Rattle.rope_changes.specs.Laws.{ComposeApplies, CompositionsAssociate, Converges, InverseApplies, InvertsBack, LengthsAgree, MovesCompose, MovesKeepOrder, MovesThroughComposed, NormalFormApplies, NormalFormIsUnique, NormalFormKeepsLengths, OperationsTell, RebasesConverge, ReplacesRange, StartStays};
 ghost use Rattle.rope_changes.specs.Listed.{IsNext};
 ghost use Rattle.rope_changes.specs.Moved.{moved};
 ghost use Rattle.rope_changes.specs.Normal.{composed, rebased};
@@ -194,6 +194,13 @@ pub fn normal_forms_agree()
     ensures operations { OperationsTell }
 {
     laws::normal_forms_agree();
+}
+
+/// Holds by the law of compositions.
+pub fn compositions_associate()
+    ensures { CompositionsAssociate }
+{
+    laws::compositions_associate();
 }
 
 /// Holds by the law of rebased changes.

@@ -32,8 +32,7 @@
 //! texts; `builders` takes bytes in parts, over `intake`; `changes` makes changes as values and
 //! applies them, `change_edits` makes them of lists and reads them back, `change_sets` composes and
 //! rebases them; `handle`, `lent`, `builder_handle`, `changes_handle`, `lent_changes` and `unboxed`
-//! keep what a program holds behind a pointer; `status` and `change_status` have the numbers that
-//! stand for refusals.
+//! own or lend the values of handles; `status` and `change_status` have the numbers of errors.
 #![tactic(auto)]
 
 pub mod builder_handle;
