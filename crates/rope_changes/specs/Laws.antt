@@ -51,7 +51,8 @@ NormalFormIsUnique = (c : Change) → IsNormal c → normal_form (ops c) ≡ ops
 abbrev pub OperationsTell : Type 0
 OperationsTell = (c d : Change) → IsNormal c → IsNormal d → ops c ≡ ops d → c ≡ d
 
--- of three changes in a row the first two are composed first, or the last two: the result is the same
+-- three changes in a row compose to one change, whether the first two or the last two are composed
+-- first
 abbrev pub CompositionsAssociate : Type 0
 CompositionsAssociate = (a b c : List Op) → composed (composed a b) c ≡ composed a (composed b c)
 

@@ -28,8 +28,8 @@ IsEditsStatus c (e ∷ edits) status =
 abbrev pub edited : List ℕ → List GivenEdit → List ℕ
 edited text edits = run (ops (built (unchanged (length text)) (map edit_of edits))) text
 
--- the status of edits that are made in a text: that of the first that is refused, and otherwise that
--- of the changes that they make
+-- the status of edits that are made in a text: that of the first that is refused, and otherwise
+-- that of the changes that they make
 abbrev pub IsAppliedStatus : List ℕ → List GivenEdit → ℕ → Type 0
 IsAppliedStatus text edits status =
     ((0 < status) × IsEditsStatus (unchanged (length text)) edits status)

@@ -10,27 +10,35 @@ use Rattle.rope_changes.proofs.splice.splice.Goals as goal
 
 pub returns-clause-ok : goal.returns-clause-ok
 returns-clause-ok c =
-    let gone : c.remove.new.self.text ≡ removed c.args.rope.now.text c.args.start c.args.end = search rules in
-    let new : c.insert.new.self.text ≡ inserted c.remove.new.self.text c.args.start (chars c.args.text.now) = search rules in
-    new ∙ ap (λ t. inserted t c.args.start (chars c.args.text.now)) gone
-    ∙ spliced_is c.args.rope.now.text c.args.start c.args.end (chars c.args.text.now) c.requires.ordered c.requires.within
+    let old = c.args.rope.now.text in
+    let start = c.args.start in
+    let end = c.args.end in
+    let added = chars c.args.text.now in
+    let gone : c.remove.new.self.text ≡ removed old start end = search rules in
+    let new : c.insert.new.self.text ≡ inserted c.remove.new.self.text start added = search rules in
+    new ∙ ap (λ t. inserted t start added) gone
+    ∙ spliced_is old start end added c.requires.ordered c.requires.within
 
 no_chars : (l : List ℕ) → length l ≡ 0 → chars l ≡ []
 unfolding chars
 no_chars l none = ap chars (nil_from_length l none)
 
-removed_len : (t : List ℕ) (start end : ℕ) → start ≤ end → end ≤ length t → start ≤ length (removed t start end)
-removed_len t start end ordered within = omega (arith, length-append (take start t) (drop end t), length-take start t)
+removed_len : (t : List ℕ) (start end : ℕ) → start ≤ end → end ≤ length t
+    → start ≤ length (removed t start end)
+removed_len t start end ordered within =
+    omega (arith, length-append (take start t) (drop end t), length-take start t)
 
 -- An empty text is always inserted, so a removal was refused.
 pub returns-then-is_err-clause-removes : goal.returns-then-is_err-clause-removes
 returns-then-is_err-clause-removes c none = elim c.then-is_err.branch [
   | then-is_err-via-then-is_err w ↦ search rules
   | then-is_err-via-else-is_err+then-is_err-2 w ↦
-      let gone : c.remove.new.self.text ≡ removed c.args.rope.now.text c.args.start c.args.end = search rules in
+      let old = c.args.rope.now.text in
+      let gone : c.remove.new.self.text ≡ removed old c.args.start c.args.end = search rules in
+      let len = removed_len old c.args.start c.args.end c.requires.ordered c.requires.within in
       let nothing = no_chars c.args.text.now none in
       let can = insert_error-none c.remove.new.self.text c.args.start (chars c.args.text.now)
-      (omega (arith, ap length gone, removed_len c.args.rope.now.text c.args.start c.args.end c.requires.ordered c.requires.within))
+      (omega (arith, ap length gone, len))
       (omega (arith, ap byte_len nothing, c.remove.ensures.kept.2.content.fits)) in
       let idle = w.insert.ensures.empty (ap length nothing) can in
       search rules

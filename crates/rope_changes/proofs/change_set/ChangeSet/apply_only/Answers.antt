@@ -21,38 +21,51 @@ text c = chars (string_bytes c.index-edits-0.result.text)
 abbrev rest : After-index-edits-0 → List Op
 rest c = keeping c.args.self.now.rest []
 
+-- the replacement's operations, and then others
+abbrev step : After-index-edits-0 → List Op → List Op
+step c after =
+    keeping c.index-edits-0.result.kept
+    (inserting (text c) (deleting c.index-edits-0.result.deleted after))
+
 -- the operations are those of the replacement
-only : (c : After-index-edits-0) → ops c.args.self.now
-    ≡ keeping c.index-edits-0.result.kept (inserting (text c) (deleting c.index-edits-0.result.deleted (rest c)))
+only : (c : After-index-edits-0) → ops c.args.self.now ≡ step c (rest c)
 only c =
     let items = c.as_slice-edits.result.now in
-    let whole : ops_of (map edit_of items) c.args.self.now.rest ≡ ops c.args.self.now =
-    ap (λ es. ops_of es c.args.self.now.rest) (ap (map edit_of) c.as_slice-edits.ensures.value ∙ ap (λ (x : Change). x.edits) c.self.view_is) in
+    let kept = c.args.self.now.rest in
+    let same = ap (λ (x : Change). x.edits) c.self.view_is in
+    let whole : ops_of (map edit_of items) kept ≡ ops c.args.self.now =
+    ap (λ es. ops_of es kept) (ap (map edit_of) c.as_slice-edits.ensures.value ∙ same) in
     let one : length items ≡ 1 =
     omega (
       arith,
       ap length c.as_slice-edits.ensures.value,
-      length-map c.self.inside.edits.items edit_of,
-      ap (λ (x : Change). length x.edits) c.self.view_is,
       c.requires.only,
+      length-map c.self.inside.edits.items edit_of,
+      ap length same,
     ) in
     let none : drop 1 items ≡ [] = drop_all 1 items (omega (arith, one)) in
-    sym whole ∙ next_ops items 0 c.args.self.now.rest c.index-edits-0.result (omega arith) c.index-edits-0.is
-    ∙ ap (λ xs. keeping c.index-edits-0.result.kept (inserting (text c) (deleting c.index-edits-0.result.deleted (ops_of (map edit_of xs) c.args.self.now.rest)))) none
+    sym whole
+    ∙ next_ops items 0 kept c.index-edits-0.result (omega arith) c.index-edits-0.is
+    ∙ ap (λ xs. step c (ops_of (map edit_of xs) kept)) none
 
 -- what is kept and deleted is in the text
-room : (c : After-index-edits-0) → c.index-edits-0.result.kept + c.index-edits-0.result.deleted ≤ length c.args.rope.now.text
-room c = omega (arith, ap len_before (only c), step_before c.index-edits-0.result.kept (text c) c.index-edits-0.result.deleted (rest c))
+room : (c : After-index-edits-0)
+    → c.index-edits-0.result.kept + c.index-edits-0.result.deleted ≤ length c.args.rope.now.text
+room c =
+    let r = c.index-edits-0.result in
+    omega (arith, ap len_before (only c), step_before r.kept (text c) r.deleted (rest c))
 
 -- the text with the range replaced
 changed : (c : After-index-edits-0) → run (ops c.args.self.now) c.args.rope.now.text
-    ≡ replace_range c.args.rope.now.text c.index-edits-0.result.kept (c.index-edits-0.result.kept + c.index-edits-0.result.deleted) (text c)
+    ≡ replace_range c.args.rope.now.text c.index-edits-0.result.kept
+    (c.index-edits-0.result.kept + c.index-edits-0.result.deleted) (text c)
 changed c =
     let r = c.index-edits-0.result in
     let t = c.args.rope.now.text in
+    let end = r.kept + r.deleted in
     ap (λ o. run o t) (only c) ∙ step_runs r.kept (text c) r.deleted (rest c) t
-    ∙ ap (λ u. take r.kept t ++ (text c ++ u)) (run_kept c.args.self.now.rest (drop (r.kept + r.deleted) t))
-    ∙ sym (append_assoc (take r.kept t) (text c) (drop (r.kept + r.deleted) t))
+    ∙ ap (λ u. take r.kept t ++ (text c ++ u)) (run_kept c.args.self.now.rest (drop end t))
+    ∙ sym (append_assoc (take r.kept t) (text c) (drop end t))
 
 pub overflow_add-end : goal.overflow_add-end
 overflow_add-end c =
@@ -65,7 +78,8 @@ overflow_add-end c =
     )
 
 pub splice-requires-clause-within : goal.splice-requires-clause-within
-splice-requires-clause-within c = room (goal.at.splice-requires-clause-within c).After-index-edits-0
+splice-requires-clause-within c =
+    room (goal.at.splice-requires-clause-within c).After-index-edits-0
 
 pub returns-then-start-end-clause-ok : goal.returns-then-start-end-clause-ok
 returns-then-start-end-clause-ok c =

@@ -71,6 +71,7 @@ loop-up-preserved c =
     let down = c.loop-up.down in
     let p = c.in-Some.parent in
     let path = c.loop-up.path.items in
+    let visited = h.current ∷ c.loop-up.parents.items in
     let inv = c.loop-up.invariant in
     let parent : parent_of h down ≡ Some p = sym c.parent.ensures ∙ c.in-Some.is in
     let less = c.requires.history.earlier down p inv.down_within parent in
@@ -80,8 +81,8 @@ loop-up-preserved c =
       at = inv.at;
       path = subst (λ xs. IsPath h c.args.version xs p) (sym items)
           (path_more h c.args.version path down p inv.path parent);
-      apart = subst (All (λ x. All (λ y. x ≢ y) (h.current ∷ c.loop-up.parents.items))) (sym items)
-          (All-push (λ x. All (λ y. x ≢ y) (h.current ∷ c.loop-up.parents.items)) path down inv.apart
+      apart = subst (All (λ x. All (λ y. x ≢ y) visited)) (sym items)
+          (All-push (λ x. All (λ y. x ≢ y) visited) path down inv.apart
           (λ k d lt. other c.loop-up.up (inv.left k d lt) (omega arith)));
       above = subst (All (λ x. c.loop-up.up < x)) (sym items)
           (All-push (λ x. c.loop-up.up < x) path down inv.above (omega arith));
