@@ -128,9 +128,9 @@ fn removed_from(editor: &mut Editor, root: &Node, start: usize, end: usize) -> M
     without(editor, root, start, end)
 }
 
-/// Removes the characters from `start` up to `end`, at least one: from one leaf, if they lie in one
-/// that may do without them; else by a tree without them, which takes the old one's place last of
-/// all. No leaf is tried with as many characters as a leaf has bytes.
+/// Removes the characters from `start` up to `end`, at least one: from one leaf or two side by
+/// side, if those may do without them; else by a tree without them, which takes the old one's place
+/// last of all. No leaves are tried with as many characters as two may have bytes.
 pub fn remove(editor: &mut Editor, root: &mut Node, start: usize, end: usize) -> Made<()>
     requires ordered { start < end }
     requires within { end ≤ length (text root.old) }
@@ -142,7 +142,7 @@ pub fn remove(editor: &mut Editor, root: &mut Node, start: usize, end: usize) ->
     ensures searched { HasSearched (7 * root.old.height
         + 4) (37 * root.old.height) editor.old editor.new }
 {
-    if end - start < MAX_BYTES && remove_at(editor, root, start, end)? {
+    if end - start < 2 * MAX_BYTES && remove_at(editor, root, start, end)? {
         return Ok(());
     }
     *root = removed_from(editor, root, start, end)?;

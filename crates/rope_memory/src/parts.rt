@@ -48,8 +48,8 @@ fn split_and_join(rt: &impl Print, rope: &mut Rope, faults: &mut usize) -> bool 
     }
 }
 
-/// Edits of a rope that at last shares its nodes with another; the last puts lines in between a CR
-/// and an LF.
+/// Edits of a rope that at last shares its nodes with another. The last but one inserts lines
+/// between a CR and an LF.
 fn edit<'a>(
     rt: &impl Print,
     rope: &mut Rope,
@@ -65,6 +65,8 @@ fn edit<'a>(
         Edit::Append(kept),
         Edit::InsertChar(15_000, 'x'),
         Edit::Insert(9, more),
+        // A thousand characters cross a seam between chunks, here of nodes that a clone shares.
+        Edit::Remove(25_500, 26_500),
     ];
     for edit in &edits {
         if !apply(rope, *edit, faults) || !show(rt, rope) {

@@ -18,6 +18,7 @@ pub mod GrownLaws
 pub mod EmptyTrees
 pub mod FormLaws
 pub mod ListedLaws
+pub mod LossLaws
 pub mod ChangeLaws
 pub mod ChildLaws
 pub mod RemovalEnds

@@ -22,19 +22,29 @@ last_kept : (f part b n : List ℕ) → 1 ≤ length b → IsSeam (f ++ (part ++
 last_kept f part b n some s = seam_ends f b n some (seam_of_right part b n (seam_of_right f (part ++ b) n s))
 
 -- out of the middle
-pub ends_of_both : (f part b : List ℕ) → 1 ≤ length f → 1 ≤ length b → KeepsEnds (f ++ (part ++ b)) (f ++ b)
+ends_of_both : (f part b : List ℕ) → 1 ≤ length f → 1 ≤ length b → KeepsEnds (f ++ (part ++ b)) (f ++ b)
 ends_of_both f part b front back = record { before = λ p s. first_kept f (part ++ b) b p front s; behind = λ n s. last_kept f part b n back s }
 
 -- from the beginning, up to no LF
-pub ends_of_back : (f part b : List ℕ) → f ≡ [] → 1 ≤ length b → begins_with_lf b ≡ false → KeepsEnds (f ++ (part ++ b)) (f ++ b)
+ends_of_back : (f part b : List ℕ) → f ≡ [] → 1 ≤ length b → begins_with_lf b ≡ false → KeepsEnds (f ++ (part ++ b)) (f ++ b)
 ends_of_back f part b none back lf = rw none (record { before = λ p s. no_lf p b lf; behind = λ n s. seam_of_right part b n s })
 
 -- to the end, from behind no CR
-pub ends_of_front : (f part b : List ℕ) → 1 ≤ length f → b ≡ [] → ends_in_cr f ≡ false → KeepsEnds (f ++ (part ++ b)) (f ++ b)
+ends_of_front : (f part b : List ℕ) → 1 ≤ length f → b ≡ [] → ends_in_cr f ≡ false → KeepsEnds (f ++ (part ++ b)) (f ++ b)
 ends_of_front f part b front none cr = record {
   before = λ p s. first_kept f (part ++ b) b p front s;
   behind = λ n s. rw (none, append-nil) (no_cr f n cr);
 }
+
+-- where an end that is bared is none of the two
+pub ends_kept : (f part b : List ℕ) → 1 ≤ length (f ++ b)
+    → (length f ≡ 0 → begins_with_lf b ≡ false) → (length b ≡ 0 → ends_in_cr f ≡ false)
+    → KeepsEnds (f ++ (part ++ b)) (f ++ b)
+ends_kept [] part b some first last = ends_of_back [] part b refl some (first refl)
+ends_kept (x ∷ xs) part [] some first last =
+    ends_of_front (x ∷ xs) part [] (omega arith) refl (last refl)
+ends_kept (x ∷ xs) part (y ∷ ys) some first last =
+    ends_of_both (x ∷ xs) part (y ∷ ys) (omega arith) (omega arith)
 
 -- the ends of a text with a middle that keeps its own
 pub ends_around : (l c u r : List ℕ) → 1 ≤ length u → KeepsEnds c u → KeepsEnds (l ++ (c ++ r)) (l ++ (u ++ r))

@@ -1,5 +1,8 @@
 -- What a removal of characters from one leaf of a tree gives.
-use Rattle.std.specs.Prelude.{◌≡◌, ℕ, List, length}
+use Rattle.std.specs.Prelude.{◌≡◌, ℕ, ◌+◌, ◌-◌, ◌≤◌, false, List, length, take, drop}
+use Rattle.rope_text.specs.declared.TheConstants.{MIN_TWO_LEAVES_BYTES}
+use Rattle.rope_text.specs.Text.{byte_len}
+use Rattle.rope_text.specs.Breaks.{begins_with_lf, ends_in_cr}
 use Rattle.rope_text.specs.Edit.{removed}
 use Rattle.rope_tree.specs.Leaves.{AreLeaves, IsSeam, StandFor}
 use Rattle.rope_tree.specs.Tree.{Tree, text, joined, leaves_of, height_of, breaks_of, AreChildren}
@@ -8,6 +11,13 @@ use Rattle.rope_tree.specs.Tree.{Tree, text, joined, leaves_of, height_of, break
 pub record KeepsEnds (old new : List ℕ) : Type 0 where
   pub before : (p : List ℕ) → IsSeam p old → IsSeam p new
   pub behind : (n : List ℕ) → IsSeam old n → IsSeam new n
+
+-- a leaf of this text may lose the characters from a up to b: something stays, of as many bytes as are wanted, and neither an LF comes first nor a CR last that didn't
+pub record Spares (least a b : ℕ) (t : List ℕ) : Type 0 where
+  pub some : 1 ≤ byte_len (removed t a b)
+  pub enough : least ≤ byte_len (removed t a b)
+  pub first : length (take a t) ≡ 0 → begins_with_lf (drop b t) ≡ false
+  pub last : length (drop b t) ≡ 0 → ends_in_cr (take a t) ≡ false
 
 -- the tree of the text without the characters from a up to b: as many leaves as before, none of them empty; they stand for the old ones where so many bytes are wanted at the two ends
 pub record IsRemoved (first last : ℕ) (old new : Tree) (a b : ℕ) : Type 0 where
@@ -28,3 +38,9 @@ pub record AreRemoved (first last : ℕ) (old new : List Tree) (a b : ℕ) : Typ
   pub as_many_leaves : length (leaves_of new) ≡ length (leaves_of old)
   pub children : AreChildren (breaks_of old) (height_of old) new
   pub stand : StandFor first last (leaves_of old) (leaves_of new)
+
+-- two leaves side by side, of which the one lost its end, from the character a on, and the other its first b characters; so many bytes are wanted at their outer ends, and enough where they meet
+pub record AreShortened (first last a b : ℕ) (left now right after : Tree) : Type 0 where
+  pub end : IsRemoved first (MIN_TWO_LEAVES_BYTES - byte_len (text after)) left now a (length (text left))
+  pub start : IsRemoved (MIN_TWO_LEAVES_BYTES - byte_len (text now)) last right after 0 b
+  pub meet : MIN_TWO_LEAVES_BYTES ≤ byte_len (text now) + byte_len (text after)

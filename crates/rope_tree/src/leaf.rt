@@ -1,20 +1,20 @@
 //! Leaves: a text with its counts and its set of line breaks.
-ghost use Rattle.std.specs.Prelude.{◌≡◌, ◌+◌, ◌<◌, ◌≤◌, [], ◌∷◌, true, false, length, take, IfOk, OnErr, IfSome, IfNone};
+ghost use Rattle.std.specs.Prelude.{◌≡◌, ◌+◌, ◌<◌, ◌≤◌, [], ◌∷◌, true, false, max, length, take, IfOk, OnErr, IfSome, IfNone};
 ghost use Rattle.std.specs.Str.{chars};
 ghost use Rattle.rope_text.specs.Text.{byte_len};
 ghost use Rattle.rope_text.specs.TextInfo.{info_of};
 ghost use Rattle.rope_text.specs.declared.TheConstants.{MAX_BYTES, MAX_SHORT_BYTES};
-ghost use Rattle.rope_text.specs.Edit.{inserted};
+ghost use Rattle.rope_text.specs.Edit.{inserted, removed};
 ghost use Rattle.rope_tree.specs.Tree.{text, leaf_tree, IsTree};
 ghost use Rattle.rope_tree.specs.LeafTree.{IsLeafOf};
 ghost use Rattle.rope_tree.specs.Counted.{AreWithin};
 ghost use Rattle.rope_tree.specs.Shape.{IsLeafNode};
 ghost use Rattle.rope_tree.specs.Change.{GrowsBy, FallsBy};
 ghost use Rattle.rope_tree.specs.Insert.{IsInserted};
-ghost use Rattle.rope_tree.specs.Removal.{IsRemoved};
+ghost use Rattle.rope_tree.specs.Removal.{IsRemoved, Spares};
 
 use crate::beside::Least;
-use crate::leaf_edits::{leaf_with, put_in, take_out};
+use crate::leaf_edits::{keeps_ends, leaf_with, put_in, take_out};
 use crate::node_text::{even_halves, halves_of};
 use crate::{Made, Maker, Node, NodeText, ShortText, make_leaf};
 use rope_text::{LineBreaks, MAX_BYTES, TextInfo};
@@ -356,9 +356,28 @@ impl Leaf {
         Ok(Some(behind))
     }
 
+    /// Returns how many bytes stay if the characters from `start` up to `end` are removed. `None`
+    /// if none stays, or if an LF would come first or a CR last that didn't.
+    pub fn bytes_without(&self, start: usize, end: usize) -> Option<usize>
+        requires ordered { start < end }
+        requires within { end ≤ length (text self.now) }
+        ensures bytes { IfSome result
+            (λ kept. kept ≡ byte_len (removed (text self.now) start end)) }
+        ensures spares { IfSome result (λ kept. Spares kept start end (text self.now)) }
+    {
+        let (from, to) = self.text.byte_range(start, end, self.info().chars);
+        let text = self.text.as_str();
+        let (front, back) = (&text[..from], &text[to..]);
+        let kept = front.len() + back.len();
+        if kept == 0 || !keeps_ends(front, back) {
+            return None;
+        }
+        Some(kept)
+    }
+
     /// Removes the characters from `start` up to `end`, if the leaf may do without them and keeps
-    /// so many bytes. Returns whether it did, and in `less` by how much the counts fell. It takes
-    /// no memory.
+    /// enough bytes. Returns whether it did, and in `less` by how much the counts fell. It takes no
+    /// memory.
     pub fn remove_in_place(
         &mut self,
         start: usize,
@@ -372,6 +391,8 @@ impl Leaf {
             → IsRemoved least.first least.last self.old self.new start end }
         ensures change { result ≡ true → FallsBy less.new self.old self.new }
         ensures kept { result ≡ false → self.new ≡ self.old }
+        ensures when { Spares (max least.first least.last) start end (text self.old)
+            → result ≡ true }
     {
         let old = self.summary;
         let breaks = old.breaks;

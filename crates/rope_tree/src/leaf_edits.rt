@@ -1,12 +1,12 @@
 //! Edits of a leaf's text, whose counts follow by sums and differences.
-ghost use Rattle.std.specs.Prelude.{◌≡◌, ◌+◌, ◌<◌, ◌≤◌, ◌++◌, true, length, IfSome, IfNone};
+ghost use Rattle.std.specs.Prelude.{◌≡◌, ◌+◌, ◌<◌, ◌≤◌, ◌++◌, true, false, length, IfSome, IfNone};
 ghost use Rattle.std.specs.Str.{chars, all_scalars};
 ghost use Rattle.rope_text.specs.declared.TheConstants.{MAX_BYTES, MAX_SHORT_BYTES};
 ghost use Rattle.rope_text.specs.Text.{byte_len};
 ghost use Rattle.rope_text.specs.TextInfo.{info_of, shared_breaks};
 ghost use Rattle.rope_text.specs.Edit.{inserted, removed};
 ghost use Rattle.rope_text.specs.Breaks.{begins_with_lf, ends_in_cr};
-ghost use Rattle.rope_tree.specs.Removal.{KeepsEnds};
+ghost use Rattle.rope_tree.specs.Removal.{KeepsEnds, Spares};
 
 use crate::node_text::text_of_parts;
 use crate::{NodeText, ShortText};
@@ -125,10 +125,30 @@ pub fn put_in(
     info
 }
 
-/// Removes the characters from `start` up to `end` from a leaf, and answers the counts of what
-/// stays, by those before: only the part that goes is counted. None, and the leaf as it was, if
+/// Returns whether a text that is removed from between two others leaves no LF first and no CR last
+/// that weren't: beside a neighbour such a one might make a CR LF.
+#[inline(always)]
+pub fn keeps_ends(front: &str, back: &str) -> bool
+    ensures first { result ≡ true → length (chars front.now) ≡ 0
+        → begins_with_lf (chars back.now) ≡ false }
+    ensures last { result ≡ true → length (chars back.now) ≡ 0
+        → ends_in_cr (chars front.now) ≡ false }
+    ensures when { (length (chars front.now) ≡ 0 → begins_with_lf (chars back.now) ≡ false)
+        → (length (chars back.now) ≡ 0 → ends_in_cr (chars front.now) ≡ false) → result ≡ true }
+{
+    if front.is_empty() {
+        return !begins_with_lf(back);
+    }
+    if back.is_empty() {
+        return !ends_in_cr(front);
+    }
+    true
+}
+
+/// Removes the characters from `start` up to `end` from a leaf, and returns the counts of what
+/// stays, by those before: only the part that goes is counted. `None`, and the leaf as it was, if
 /// nothing would stay, or fewer bytes than `least`, or if an LF would come first or a CR last that
-/// didn't: beside a neighbour it might make a CR LF.
+/// didn't.
 pub fn take_out(
     leaf: &mut NodeText,
     start: usize,
@@ -148,16 +168,17 @@ pub fn take_out(
     ensures least { IfSome result (λ _. least ≤ byte_len (removed leaf.old start end)) }
     ensures ends { IfSome result (λ _. KeepsEnds leaf.old (removed leaf.old start end)) }
     ensures kept { IfNone result (leaf.new ≡ leaf.old) }
+    ensures when { IfNone result (Spares least start end leaf.old → ⊥) }
 {
     let (from, to) = leaf.byte_range(start, end, info.chars);
     let text = leaf.as_str();
     let front = &text[..from];
     let part = &text[from..to];
     let back = &text[to..];
-    if front.len() + back.len() < least.max(1)
-        || front.is_empty() && begins_with_lf(back)
-        || back.is_empty() && ends_in_cr(front)
-    {
+    if front.len() + back.len() < least.max(1) {
+        return None;
+    }
+    if !keeps_ends(front, back) {
         return None;
     }
     let less = TextInfo::of_short(part, breaks);

@@ -8,7 +8,8 @@
 //! Any two neighbouring leaves have 492 bytes or more together, so that the memory of a tree
 //! follows its text. An insert needn't look after that: a full leaf is cut into two of 491 bytes or
 //! more, and any neighbour has one. A removal compares with the neighbours' lengths, which the
-//! totals tell. No leaf is merged with another but by a join, so that an edit changes one leaf.
+//! totals tell. No leaf is merged with another but by a join, so that an edit changes one leaf or
+//! two.
 //!
 //! No CR LF lies in two leaves. So each leaf's line breaks are counted without its neighbours, and
 //! the totals are sums.
@@ -21,11 +22,11 @@
 //! - `maker`: where nodes' memory comes from
 //! - `search`: running totals, and the child that holds a place
 //! - `editor`: the maker of an edit's nodes, with the counts of its searches
-//! - `node`: nodes; `node::row` puts them side by side, `node::anew` inserts into a new tree, and
-//!   `node::in_place` edits nodes where they stand
+//! - `node`: nodes; `node::row` puts them side by side, `node::anew` inserts into a new tree,
+//!   `node::in_place` edits nodes where they stand, and `node::across` two leaves side by side
 //! - `lookup`, `conversions`: the descent to a leaf, and indices on it
 //! - `beside`: how few bytes a leaf may keep beside its neighbours
-//! - `short_edits`: inserts into whole trees that change one leaf, and removals from one
+//! - `short_edits`: inserts into whole trees that change one leaf, and removals from one or two
 //! - `build`, `builder`: trees of whole texts, and of texts passed in one after the other
 #![tactic(auto)]
 

@@ -16,6 +16,7 @@ use rope_text::{LineBreaks, MAX_CHILDREN, TextInfo};
 use std::marker::Model;
 use std::rc::Rc;
 
+mod across;
 pub(crate) mod anew;
 mod in_place;
 pub mod row;

@@ -1,6 +1,6 @@
-//! Edits of whole trees that change one leaf: short inserts, and removals of characters that lie in
-//! one leaf.
-ghost use Rattle.std.specs.Prelude.{◌≡◌, ◌+◌, ◌-◌, ◌*◌, ◌<◌, ◌≤◌, ◌^◌, true, length, drop, IfOk, OnOk, OnErr};
+//! Edits of whole trees that change one leaf or two: short inserts, and removals of characters that
+//! lie in one leaf or in two side by side.
+ghost use Rattle.std.specs.Prelude.{◌≡◌, ◌+◌, ◌-◌, ◌*◌, ◌<◌, ◌≤◌, ◌^◌, true, false, length, drop, IfOk, OnOk, OnErr};
 ghost use Rattle.std.specs.Str.{chars};
 ghost use Rattle.rope_text.specs.declared.TheConstants.{MAX_BYTES, MAX_SHORT_BYTES};
 ghost use Rattle.rope_text.specs.Text.{byte_len};
@@ -72,10 +72,10 @@ pub fn insert_at(editor: &mut Editor, root: &mut Node, at: usize, added: &str) -
 /// At a tree's ends no other leaf stands, so the first leaf and the last may have any length.
 const ANY: Least = Least { first: 0, last: 0 };
 
-/// Removes the characters from `start` up to `end`, if they lie in one leaf that may do without
-/// them: it has others, no LF comes first in it that didn't, and no CR last. So no CR LF comes to
-/// lie in two leaves. Returns whether it did. Shared nodes on the way are copied; where there are
-/// none, it takes no memory.
+/// Removes the characters from `start` up to `end`, if they lie in one leaf or in two side by side
+/// below one node, which may do without them: each has others, no LF comes first in it that didn't,
+/// and no CR last. So no CR LF comes to lie in two leaves. Returns whether it did. Shared nodes
+/// that it passes are copied; where there are none, it takes no memory.
 pub fn remove_at(editor: &mut Editor, root: &mut Node, start: usize, end: usize) -> Made<bool>
     requires ordered { start < end }
     requires within { end ≤ length (text root.old) }
@@ -83,7 +83,9 @@ pub fn remove_at(editor: &mut Editor, root: &mut Node, start: usize, end: usize)
         (text root.new ≡ removed (text root.old) start end) }
     ensures breaks { root.new.breaks ≡ root.old.breaks }
     ensures tree { IsTree root.new }
-    ensures made { editor.new.maker.made ≤ editor.old.maker.made + root.old.height + 1 }
+    ensures made { editor.new.maker.made ≤ editor.old.maker.made + root.old.height + 2 }
+    ensures idle { IfOk result (λ did.
+        did ≡ false → editor.new.maker.made ≤ editor.old.maker.made + root.old.height + 1) }
     ensures searched { HasSearched root.old.height (7 * root.old.height) editor.old editor.new }
 {
     root.remove_in_place(editor, start, end, ANY, true, &mut TextInfo::new())

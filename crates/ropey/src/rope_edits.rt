@@ -325,8 +325,8 @@ impl Rope {
     /// The range's bounds are at most `len_chars()`, and its start is at most its end. An empty
     /// range takes no memory and changes nothing; any other takes memory for at most 17 d + 12
     /// nodes, where d is the rope's depth. Where the characters lie in one chunk that keeps enough
-    /// bytes, memory is taken only for copies of nodes on the way down that are shared with clones:
-    /// for none where nothing is shared. No text is walked.
+    /// bytes, or in two side by side below one node that do, memory is taken only for copies of
+    /// nodes that are shared with clones: for none where nothing is shared. No text is walked.
     ///
     /// # Errors
     ///

@@ -1,5 +1,6 @@
 //! Edits where the nodes stand: short inserts, which may cut a leaf into two, and removals from one
-//! leaf. Each is one descent, on which nodes that other trees share are copied.
+//! leaf or from two side by side. Each is one descent, on which nodes that other trees share are
+//! copied.
 ghost use Rattle.std.specs.Prelude.{◌≡◌, ◌+◌, ◌*◌, ◌<◌, ◌≤◌, ◌-◌, ◌^◌, [], ◌∷◌, true, false, length, take, slice_index_or, Ok, IfOk, OnErr, IfSome, IfNone};
 ghost use Rattle.std.specs.List.{insert};
 ghost use Rattle.rope_text.specs.declared.TheConstants.{MAX_CHILDREN, MAX_SHORT_BYTES};
@@ -55,7 +56,7 @@ fn copy_children(children: &mut Rc<Children>, maker: &mut Maker) -> Made<()>
 
 /// Makes a leaf the node's own: replaces it by a copy if another node shares it.
 #[inline(always)]
-fn own_leaf(leaf: &mut Rc<Leaf>, maker: &mut Maker) -> Made<()>
+pub(super) fn own_leaf(leaf: &mut Rc<Leaf>, maker: &mut Maker) -> Made<()>
     ensures same { leaf.new.value ≡ leaf.old.value }
     ensures made { maker.new.made ≤ maker.old.made + 1 }
 {
@@ -386,10 +387,11 @@ impl Children {
         Ok(true)
     }
 
-    /// Removes the characters from `start` up to `end`, if they lie in one leaf that may do without
-    /// them and keeps enough bytes beside its neighbours. Returns whether it did, and in `less` by
-    /// how much the counts fell. `follows` says whether the way so far is that of the last edit. If
-    /// memory is refused, the children are as they were.
+    /// Removes the characters from `start` up to `end`, if they lie in one leaf or in two side by
+    /// side below one node, which may do without them and keep enough bytes beside their
+    /// neighbours. Returns whether it did, and in `less` by how much the counts fell. `follows`
+    /// says whether the descent so far is that of the last edit. If memory is refused, the children
+    /// are as they were.
     #[cycle(in_place_removal)]
     #[inline(never)]
     fn remove_in_place(
@@ -405,7 +407,9 @@ impl Children {
         requires ordered { start < end }
         requires within { end ≤ length (joined self.old) }
         ensures change { IfOk result (λ did. did ≡ true → FallBy less.new self.old self.new) }
-        ensures made { editor.new.maker.made ≤ editor.old.maker.made + height_of self.old + 1 }
+        ensures made { editor.new.maker.made ≤ editor.old.maker.made + height_of self.old + 2 }
+        ensures idle { IfOk result (λ did.
+            did ≡ false → editor.new.maker.made ≤ editor.old.maker.made + height_of self.old + 1) }
         ensures searched { HasSearched (height_of self.old + 1) (7 * height_of self.old + 7)
             editor.old editor.new }
         ensures tried { IsTried result self.old self.new
@@ -420,7 +424,8 @@ impl Children {
             follows,
         } = way;
         if self.totals.get(place).chars < end {
-            return unchanged();
+            let maker = &mut editor.maker;
+            return self.remove_across(maker, place, start, inside, end, least, less);
         }
         let least = least_at(usize::from(self.height), &self.totals, place, least);
         let node = &mut self.nodes[place];
@@ -611,11 +616,12 @@ impl Node {
         }
     }
 
-    /// Removes the characters from `start` up to `end`, if they lie in one leaf that may do without
-    /// them, and keeps so many bytes if it is the first or the last. Returns whether it did, and in
-    /// `less` by how much the counts fell. `follows` says whether the way so far is that of the
-    /// last edit. Shared nodes on the way are copied; where there are none, it takes no memory. If
-    /// memory is refused, the tree is as it was.
+    /// Removes the characters from `start` up to `end`, if they lie in one leaf or in two side by
+    /// side below one node, which may do without them; the first leaf of the tree keeps as many
+    /// bytes as `least` says, and the last. Returns whether it did, and in `less` by how much the
+    /// counts fell. `follows` says whether the descent so far is that of the last edit. Shared
+    /// nodes that it passes are copied; where there are none, it takes no memory. If memory is
+    /// refused, the tree is as it was.
     #[cycle(in_place_removal)]
     #[inline(always)]
     pub(crate) fn remove_in_place(
@@ -630,7 +636,9 @@ impl Node {
         requires ordered { start < end }
         requires within { end ≤ length (text self.old) }
         ensures change { IfOk result (λ did. did ≡ true → FallsBy less.new self.old self.new) }
-        ensures made { editor.new.maker.made ≤ editor.old.maker.made + self.old.height + 1 }
+        ensures made { editor.new.maker.made ≤ editor.old.maker.made + self.old.height + 2 }
+        ensures idle { IfOk result (λ did.
+            did ≡ false → editor.new.maker.made ≤ editor.old.maker.made + self.old.height + 1) }
         ensures searched { HasSearched self.old.height (7 * self.old.height) editor.old editor.new }
         ensures tree { IsTree self.new }
         ensures tried { IsTried result self.old self.new

@@ -1,7 +1,5 @@
-use Rattle.std.proofs.Common.{◌≡◌, ℕ, ◌+◌, ◌-◌, ◌<◌, ◌≤◌, ◌++◌, Bool, true, false, List, length, take, drop, refl, sym, ap, ap₂, subst, ◌∙◌, arith}
-use Rattle.std.specs.Prelude.{◌==◌}
+use Rattle.std.proofs.Common.{◌≡◌, ℕ, ◌+◌, ◌-◌, ◌<◌, ◌≤◌, ◌++◌, List, length, take, drop, refl, sym, ap, ap₂, subst, ◌∙◌, arith}
 use Rattle.std.specs.List.{remove_range}
-use Rattle.std.proofs.lemmas.Bool.Decides.{nat_tests}
 use Rattle.std.specs.Str.{chars, IsUtf8, IsCharBoundary}
 use Rattle.std.proofs.lemmas.List.{take-append-drop, drop-drop, length-append, length-drop}
 use Rattle.std.proofs.lemmas.Str.{chars-append, IsUtf8-take}
@@ -10,14 +8,13 @@ use Rattle.rope_text.specs.TextInfo.{info_of}
 use Rattle.rope_text.specs.Edit.{removed}
 use Rattle.rope_tree.specs.Removal.{KeepsEnds}
 use Rattle.rope_text.proofs.Measures.{size_le, IsMeasure-byte_len}
-use Rattle.rope_text.proofs.Apart.{has_chars}
-use Rattle.rope_tree.proofs.BuildLaws.{no_chars}
-use Rattle.rope_tree.proofs.RemovalEnds.{ends_of_both, ends_of_back, ends_of_front}
+use Rattle.rope_tree.proofs.BuildLaws.{some_chars}
+use Rattle.rope_tree.proofs.RemovalEnds.{ends_kept}
 use Rattle.rope_text.proofs.TextParts.{chars_front, chars_back}
 use Rattle.rope_text.proofs.Walks.{byte_len-chars}
-use Rattle.rope_tree.proofs.leaf_edits.take_out.Goals.{After-as_str-text, After-range_from-back, After-shared_breaks-meeting, After-remove_bytes, then-is_empty, else-is_empty, then-is_empty-2, else-is_empty-2}
+use Rattle.rope_tree.proofs.leaf_edits.take_out.Goals.{After-as_str-text, After-range_from-back, After-shared_breaks-meeting, After-remove_bytes}
 use Rattle.rope_tree.proofs.Infos.{small_info}
-use Rattle.rope_tree.proofs.CountLaws.{Uncounts, uncounts}
+use Rattle.rope_tree.proofs.CountLaws.{Uncounts, uncounts, shared_le}
 use Rattle.rope_tree.proofs.RemovalLaws.{byte_len-removed}
 use Rattle.rope_tree.proofs.leaf_edits.take_out.Goals as goal
 
@@ -86,6 +83,15 @@ less c p =
     uncounts c.args.breaks (chars c.range-front.result.now) (chars c.range-part.result.now) (chars c.range_from-back.result.now) c.args.info c.of_short-less.result c.shared_breaks.result c.shared_breaks-2.result c.shared_breaks-meeting.result
     p.some (c.requires.info ∙ ap (info_of c.args.breaks) (sym p.whole)) c.of_short-less.ensures c.shared_breaks.ensures c.shared_breaks-2.ensures c.shared_breaks-meeting.ensures
 
+pub overflow_add-met : goal.overflow_add-met
+overflow_add-met c =
+    let front = chars c.range-front.result.now in
+    let part = chars c.range-part.result.now in
+    let back = chars c.range_from-back.result.now in
+    let one = shared_le c.args.breaks front part in
+    let two = shared_le c.args.breaks part back in
+    omega (arith, one, two, c.shared_breaks.ensures, c.shared_breaks-2.ensures)
+
 pub overflow_sub-left : goal.overflow_sub-left
 overflow_sub-left c = (less (goal.at.overflow_sub-left c).After-shared_breaks-meeting (parts (goal.at.overflow_sub-left c).After-range_from-back)).bytes_le
 
@@ -133,33 +139,51 @@ returns-clause-info c =
     let p = parts (goal.at.returns-clause-info c).After-range_from-back in
     (less (goal.at.returns-clause-info c).After-shared_breaks-meeting p).whole ∙ ap (info_of c.args.breaks) (ap₂ (λ x y. x ++ y) p.front_is p.back_is)
 
-has_some : (bs : List ℕ) (b : Bool) → IsUtf8 bs → b ≡ (length bs == 0) → b ≡ false → 1 ≤ length (chars bs)
-has_some bs b u e is =
-    let test : (length bs == 0) ≡ false = sym e ∙ is in
-    let some : 0 < length bs = grind (arith, nat_tests) in
-    has_chars bs u some
+-- the bytes of what stays
+kept_bytes : (c : After-range_from-back)
+    → byte_len (removed c.args.leaf.now c.args.start c.args.end)
+    ≡ length c.range-front.result.now + length c.range_from-back.result.now
+kept_bytes c =
+    let p = parts c in
+    let front = byte_len-chars c.range-front.result.now c.range-front.utf8 in
+    let back = byte_len-chars c.range_from-back.result.now c.range_from-back.utf8 in
+    omega (
+      arith,
+      front,
+      back,
+      ap byte_len p.front_is,
+      ap byte_len p.back_is,
+      IsMeasure-byte_len.joined (take c.args.start c.args.leaf.now) (drop c.args.end c.args.leaf.now),
+    )
 
-is_none : (bs : List ℕ) (b : Bool) → b ≡ (length bs == 0) → b ≡ true → length bs ≡ 0
-is_none bs b e is = let test : (length bs == 0) ≡ true = sym e ∙ is in grind (arith, nat_tests)
+pub returns-then-front-back-clause-when : goal.returns-then-front-back-clause-when
+returns-then-front-back-clause-when c = λ s.
+    let kept = kept_bytes (goal.at.returns-then-front-back-clause-when c).After-range_from-back in
+    absurd (omega (arith, kept, s.some, s.enough, c.if-front-back.true, c.max.ensures))
+
+pub returns-then-not-keeps_ends-clause-when : goal.returns-then-not-keeps_ends-clause-when
+returns-then-not-keeps_ends-clause-when c = λ s.
+    let p = parts (goal.at.returns-then-not-keeps_ends-clause-when c).After-range_from-back in
+    let yes = c.keeps_ends.ensures.when (rw (p.front_is, p.back_is) s.first) (rw (p.front_is, p.back_is) s.last) in
+    absurd (cc)
 
 -- no end is bared
-kept_ends : (c : After-remove_bytes) → KeepsEnds (chars c.range-front.result.now ++ (chars c.range-part.result.now ++ chars c.range_from-back.result.now)) (chars c.range-front.result.now ++ chars c.range_from-back.result.now)
+kept_ends : (c : After-remove_bytes)
+    → KeepsEnds (chars c.range-front.result.now ++ (chars c.range-part.result.now ++ chars c.range_from-back.result.now))
+    (chars c.range-front.result.now ++ chars c.range_from-back.result.now)
 kept_ends c =
-    let front = c.range-front.result.now in
-    let back = c.range_from-back.result.now in
-    let part = chars c.range-part.result.now in
-    elim c.if-is_empty.branch [
-      | then-is_empty w ↦
-          let none = is_none front _ c.is_empty.ensures w.if-is_empty.true in
-          ends_of_back (chars front) part (chars back) (no_chars front none) (has_chars back c.range_from-back.utf8 (omega (arith, none, c.if-front-back.false, c.max.ensures))) (sym w.begins_with_lf.ensures ∙ sym w.value-is ∙ c.if-begins_with_lf.false)
-      | else-is_empty w ↦
-          let some = has_some front _ c.range-front.utf8 c.is_empty.ensures w.if-is_empty.false in
-          elim c.if-is_empty-2.branch [
-            | then-is_empty-2 v ↦
-                ends_of_front (chars front) part (chars back) some (no_chars back (is_none back _ c.is_empty-else-begins_with_lf.ensures v.if-is_empty-2.true)) (sym v.ends_in_cr.ensures ∙ sym v.value-is ∙ c.if-ends_in_cr.false)
-            | else-is_empty-2 v ↦ ends_of_both (chars front) part (chars back) some (has_some back _ c.range_from-back.utf8 c.is_empty-else-begins_with_lf.ensures v.if-is_empty-2.false)
-          ]
-    ]
+    let e = (goal.at.After-remove_bytes c).After-range_from-back in
+    let p = parts e in
+    let front = chars c.range-front.result.now in
+    let back = chars c.range_from-back.result.now in
+    let yes = c.if-not-keeps_ends.false in
+    let bytes = kept_bytes e in
+    let some = some_chars (removed c.args.leaf.now c.args.start c.args.end)
+    (omega (arith, bytes, c.if-front-back.false, c.max.ensures)) in
+    let both : front ++ back ≡ removed c.args.leaf.now c.args.start c.args.end =
+    ap₂ (λ x y. x ++ y) p.front_is p.back_is in
+    ends_kept front (chars c.range-part.result.now) back (omega (arith, ap length both, some))
+    (c.keeps_ends.ensures.first yes) (c.keeps_ends.ensures.last yes)
 
 pub returns-clause-ends : goal.returns-clause-ends
 returns-clause-ends c =
@@ -169,7 +193,4 @@ returns-clause-ends c =
 
 pub returns-clause-least : goal.returns-clause-least
 returns-clause-least c =
-    let p = parts (goal.at.returns-clause-least c).After-range_from-back in
-    let front = byte_len-chars c.range-front.result.now c.range-front.utf8 in
-    let back = byte_len-chars c.range_from-back.result.now c.range_from-back.utf8 in
-    omega (arith, front, back, ap byte_len p.front_is, ap byte_len p.back_is, IsMeasure-byte_len.joined (take c.args.start c.args.leaf.now) (drop c.args.end c.args.leaf.now))
+    omega (arith, kept_bytes (goal.at.returns-clause-least c).After-range_from-back)

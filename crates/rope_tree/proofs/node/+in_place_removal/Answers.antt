@@ -11,7 +11,7 @@ use Rattle.rope_tree.specs.Change.{IsChange, no_counts}
 use Rattle.rope_tree.specs.Removal.{IsRemoved, AreRemoved}
 use Rattle.rope_tree.proofs.ChangeLaws.{change_to, part_of_part, part_fits, whole_changed, change_by, change_own, change_of_list}
 use Rattle.rope_tree.proofs.NodeLaws.{small_totals}
-use Rattle.rope_tree.proofs.ChildLaws.{taken_at}
+use Rattle.rope_tree.proofs.ChildLaws.{taken_at, if_idle}
 use Rattle.rope_tree.proofs.InsertDescents.{Takes, last_total}
 use Rattle.rope_tree.proofs.TotalLaws.{has_part, fits_after}
 use Rattle.rope_tree.proofs.GrownLaws.{totals_seen, tallest_above}
@@ -255,3 +255,9 @@ pub Children::remove_in_place-returns-clause-searched : goal.Children::remove_in
 Children::remove_in_place-returns-clause-searched t c =
     let h = (down t (goal.at.Children::remove_in_place-returns-clause-searched t c).After-index-self-place).own.at_height in
     record { rise = omega (arith, h); nodes = omega (arith, h); compares = omega (arith, h) }
+
+pub Children::remove_in_place-returns-then-not-branch-clause-idle :
+    goal.Children::remove_in_place-returns-then-not-branch-clause-idle
+Children::remove_in_place-returns-then-not-branch-clause-idle t c =
+    let d = down t (goal.at.Children::remove_in_place-returns-then-not-branch-clause-idle t c).After-index-self-place in
+    if_idle _ (omega (arith, c.in_ok-remove_in_place.ensures.idle c.if-not-branch.true, d.own.at_height))
