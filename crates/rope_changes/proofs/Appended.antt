@@ -1,5 +1,5 @@
 -- Replacements appended to others.
-use Rattle.std.proofs.Common.{◌≡◌, ℕ, zero, suc, ◌+◌, ◌≤◌, List, [], ◌∷◌, ◌++◌, length, refl, ap, arith, length-append}
+use Rattle.std.proofs.Common.{◌≡◌, ℕ, zero, suc, ◌+◌, ◌≤◌, ◌⊎◌, inl, inr, List, [], ◌∷◌, ◌++◌, length, refl, ap, arith, length-append}
 use Rattle.rope_changes.specs.Ops.{len_before, len_after}
 use Rattle.rope_changes.specs.Change.{Edit, keeping, inserting, deleting, ops_of, extended, appended, AreApart, AreNormal}
 use Rattle.rope_changes.proofs.Prefixes.{keeping_before, keeping_after}
@@ -12,6 +12,13 @@ appended_apart [] kept text deleted some = refl
 appended_apart (e ∷ []) zero text deleted some = absurd (omega arith)
 appended_apart (e ∷ []) (suc kept) text deleted some = refl
 appended_apart (e ∷ f ∷ edits) kept text deleted some = ap (λ es. e ∷ es) (appended_apart (f ∷ edits) kept text deleted some)
+
+pub appended_first : (edits : List Edit) (kept : ℕ) (text : List ℕ) (deleted : ℕ)
+    → (length edits ≡ 0) ⊎ (1 ≤ kept)
+    → appended edits kept text deleted ≡ edits ++ record { kept = kept; text = text; deleted = deleted } ∷ []
+appended_first [] kept text deleted first = refl
+appended_first (e ∷ edits) kept text deleted (inl none) = absurd (omega arith)
+appended_first (e ∷ edits) kept text deleted (inr some) = appended_apart (e ∷ edits) kept text deleted some
 
 -- else it extends the last one
 pub appended_last : (front : List Edit) (e : Edit) (text : List ℕ) (deleted : ℕ) → appended (front ++ e ∷ []) 0 text deleted ≡ front ++ extended e text deleted ∷ []

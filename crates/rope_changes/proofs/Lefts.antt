@@ -1,11 +1,8 @@
 -- What is left of a change.
-use Rattle.std.proofs.Common.{◌≡◌, ℕ, zero, suc, ◌<◌, List, [], ◌∷◌, length, get_or, refl, arith}
-use Rattle.std.specs.Prelude.{map}
-use Rattle.std.specs.List.{All}
+use Rattle.std.proofs.Common.{◌≡◌, ℕ, zero, suc, List, [], ◌∷◌, length, refl, arith}
 use Rattle.rope_changes.specs.Ops.{Op}
-use Rattle.rope_changes.specs.Change.{keeping, inserting, deleting, edit_of, IsCounted, AreApart, AreNormal}
-use Rattle.rope_changes.specs.Left.{IsChanging}
-use Rattle.rope_changes.specs.declared.change_set.Replacement.{Replacement}
+use Rattle.rope_changes.specs.Change.{Edit, keeping, inserting, deleting, AreApart, AreNormal}
+use Rattle.rope_changes.specs.Left.{AreChanging}
 
 pub nothing_left : (k d : ℕ) (t : List ℕ) (a : List Op) → k ≡ 0 → length t ≡ 0 → d ≡ 0
     → keeping k (inserting t (deleting d a)) ≡ a
@@ -14,19 +11,13 @@ nothing_left zero zero (c ∷ t) a kept text deleted = absurd (omega arith)
 nothing_left zero (suc d) t a kept text deleted = absurd (omega arith)
 nothing_left (suc k) d t a kept text deleted = absurd (omega arith)
 
-apart_changing : (items : List Replacement) → All IsCounted items → AreApart (map edit_of items)
-    → (k : ℕ) (d : Replacement) → k < length items → IsChanging (get_or items k d)
-apart_changing [] counted apart k d below = absurd (omega arith)
-apart_changing (r ∷ items) counted apart zero d below = omega (arith, counted zero d below, apart.1)
-apart_changing (r ∷ items) counted apart (suc k) d below =
-    apart_changing items (λ j x under. counted (suc j) x (omega arith)) apart.2 k d (omega arith)
+apart_changing : (edits : List Edit) → AreApart edits → AreChanging edits
+apart_changing [] apart = tt
+apart_changing (e ∷ edits) apart = (apart.1, apart_changing edits apart.2)
 
-pub all_changing : (items : List Replacement) → All IsCounted items → AreNormal (map edit_of items)
-    → (k : ℕ) (d : Replacement) → k < length items → IsChanging (get_or items k d)
-all_changing [] counted normal k d below = absurd (omega arith)
-all_changing (r ∷ items) counted normal zero d below = omega (arith, counted zero d below, normal.0)
-all_changing (r ∷ items) counted normal (suc k) d below =
-    apart_changing items (λ j x under. counted (suc j) x (omega arith)) normal.1 k d (omega arith)
+pub all_changing : (edits : List Edit) → AreNormal edits → AreChanging edits
+all_changing [] normal = tt
+all_changing (e ∷ edits) normal = (normal.0, apart_changing edits normal.1)
 
 pub deletions_left : (k d : ℕ) (t : List ℕ) (a : List Op) → k ≡ 0 → length t ≡ 0
     → keeping k (inserting t (deleting d a)) ≡ deleting d a

@@ -1,9 +1,9 @@
 pub mod ChangeLaws
 pub mod MovedLaws
 pub mod Prefixes
-pub mod NextEdits
 pub mod Steps
 pub mod Appended
+pub mod Parts
 pub mod Lasts
 pub mod Runs
 pub mod Spliced

@@ -1,21 +1,19 @@
 -- Replacements that are passed, and indices that move through those that are left.
 use Rattle.std.proofs.Common.{◌≡◌, ℕ, zero, suc, ◌+◌, ◌-◌, ◌<◌, ◌≤◌, List, [], ◌∷◌, length, get_or, set, drop, refl, ap, sym, ◌∙◌, subst, arith}
 use Rattle.std.specs.Prelude.{map}
-use Rattle.std.specs.Str.{chars}
-use Rattle.std.specs.String.{string_bytes}
-use Rattle.std.proofs.lemmas.List.{drop-map, length-map}
+use Rattle.std.proofs.lemmas.List.{drop_all, drop_more}
 use Rattle.rope_changes.specs.Ops.{Op, len_before, len_after}
-use Rattle.rope_changes.specs.Change.{Edit, Change, inserting, deleting, ops_of, ops, edit_of, IsCounted, AreApart, AreNormal}
+use Rattle.rope_changes.specs.Change.{Edit, Change, keeping, inserting, deleting, ops_of, ops, AreApart, AreNormal}
 use Rattle.rope_changes.specs.Moved.{moved}
-use Rattle.rope_changes.specs.Passed.{step_of, IsPassed}
-use Rattle.rope_changes.specs.declared.change_set.Replacement.{Replacement}
+use Rattle.rope_changes.specs.Packed.{AreLengthsOf}
+use Rattle.rope_changes.specs.Passed.{step_of, IsPassed, IsBetween}
+use Rattle.rope_changes.specs.declared.replacements.Lengths.{Lengths}
 use Rattle.rope_changes.specs.declared.side.Side.{Side}
-use Rattle.rope_changes.proofs.NextEdits.{next_ops}
-use Rattle.rope_changes.proofs.Prefixes.{kept_stays, inserted_passed, rest_stays}
+use Rattle.rope_changes.proofs.Prefixes.{keeping_before, kept_stays, inserted_passed, rest_stays}
 use Rattle.rope_changes.proofs.Steps.{step_before, step_after, step_moved}
 
 -- none is passed
-pub none_passed : (c : Change) → IsPassed c (record { count = 0; end = 0; new_end = 0 })
+pub none_passed : (c : Change) → IsPassed c (record { count = 0; end = 0; new_end = 0; start = 0 })
 none_passed c = record {
   within = omega arith;
   moves =
@@ -48,60 +46,105 @@ normal_later edits k normal =
     let e : suc k ≡ k + 1 = omega arith in subst (λ n. AreApart (drop n edits)) e
     (later_apart edits k normal)
 
-module _ (items : List Replacement) (rest k : ℕ) (e : Replacement) (below : k < length items)
-    (is : e ≡ get_or items k e) where
+-- the next replacement, by its lengths
+module _ (edits : List Edit) (rest k : ℕ) (e : Edit) (l : Lengths) (below : k < length edits)
+    (are : AreLengthsOf (get_or edits k e) l) where
   abbrev pub later : List Op
-  later = ops_of (drop (k + 1) (map edit_of items)) rest
+  later = ops_of (drop (k + 1) edits) rest
 
-  pub ops_at : ops_of (drop k (map edit_of items)) rest ≡ step_of e later
+  abbrev pub text : List ℕ
+  text = (get_or edits k e).text
+
+  pub ops_at : ops_of (drop k edits) rest ≡ step_of l text later
   ops_at =
-      ap (λ es. ops_of es rest) (drop-map edit_of k items)
-      ∙ next_ops items k rest e below is
-      ∙ ap (λ es. step_of e (ops_of es rest)) (sym (drop-map edit_of (k + 1) items))
+      ap (λ es. ops_of es rest) (drop_more edits k e below)
+      ∙ ap (λ n. keeping n (inserting text (deleting (get_or edits k e).deleted later))) (sym are.kept)
+      ∙ ap (λ n. keeping l.kept (inserting text (deleting n later))) (sym are.deleted)
 
-  pub next_passed : (end new_end : ℕ) → IsCounted e
-      → IsPassed (record { edits = map edit_of items; rest = rest })
-      (record { count = k; end = end; new_end = new_end })
-      → IsPassed (record { edits = map edit_of items; rest = rest })
+  pub next_passed : (end new_end start start' : ℕ)
+      → IsPassed (record { edits = edits; rest = rest })
+      (record { count = k; end = end; new_end = new_end; start = start })
+      → IsPassed (record { edits = edits; rest = rest })
       (record {
         count = k + 1;
-        end = end + (e.kept + e.deleted);
-        new_end = new_end + (e.kept + e.inserted);
+        end = end + (l.kept + l.deleted);
+        new_end = new_end + (l.kept + l.inserted);
+        start = start';
       })
-  next_passed end new_end counted passed =
-      let text = chars (string_bytes e.text) in
+  next_passed end new_end start start' passed =
       record {
-        within = omega (arith, below, length-map items edit_of);
+        within = omega (arith, below);
         moves = λ side i reaches.
-            let far : end + (e.kept + e.deleted) < i = reaches.more (omega arith) in
+            let far : end + (l.kept + l.deleted) < i = reaches.more (omega arith) in
             let old = passed.moves side i (record { le = omega arith; more = λ _. omega arith }) in
-            let through = step_moved e.kept text e.deleted later side (i - end) (omega arith)
-            (inserted_passed side text (i - end - e.kept) (deleting e.deleted later) (omega arith))
+            let through = step_moved l.kept text l.deleted later side (i - end) (omega arith)
+            (inserted_passed side text (i - end - l.kept) (deleting l.deleted later) (omega arith))
             in
-            let at : i - end - e.kept - e.deleted
-            ≡ i - (end + (e.kept + e.deleted)) = omega arith in
+            let at : i - end - l.kept - l.deleted
+            ≡ i - (end + (l.kept + l.deleted)) = omega arith in
             omega (
               arith,
               old,
               ap (λ x. moved side x (i - end)) ops_at,
               through,
               ap (moved side later) at,
-              counted,
+              are.inserted,
             );
         before_is = omega (
           arith,
           passed.before_is,
           ap len_before ops_at,
-          step_before e.kept text e.deleted later,
+          step_before l.kept text l.deleted later,
         );
         after_is = omega (
           arith,
           passed.after_is,
           ap len_after ops_at,
-          step_after e.kept text e.deleted later,
-          counted,
+          step_after l.kept text l.deleted later,
+          are.inserted,
         );
       }
+
+  -- an index among the characters that it keeps
+  pub between_next : (end new_end start : ℕ)
+      → IsPassed (record { edits = edits; rest = rest })
+      (record { count = k; end = end; new_end = new_end; start = start })
+      → IsBetween (record { edits = edits; rest = rest })
+      (record { count = k; end = end; new_end = new_end; start = end + l.kept })
+  between_next end new_end start passed = λ side i after before within.
+      let old = passed.moves side i (record { le = omega arith; more = λ _. after }) in
+      omega (
+        arith,
+        old,
+        ap (λ x. moved side x (i - end)) ops_at,
+        kept_stays side l.kept (i - end) (inserting text (deleting l.deleted later)) (omega arith),
+      )
+
+-- an index after all replacements
+pub between_last : (edits : List Edit) (rest k end new_end start start' : ℕ)
+    → length edits ≤ k
+    → IsPassed (record { edits = edits; rest = rest })
+    (record { count = k; end = end; new_end = new_end; start = start })
+    → IsBetween (record { edits = edits; rest = rest })
+    (record { count = k; end = end; new_end = new_end; start = start' })
+between_last edits rest k end new_end start start' none passed = λ side i after before within.
+    let old = passed.moves side i (record { le = omega arith; more = λ _. after }) in
+    let last : ops_of (drop k edits) rest ≡ keeping rest [] =
+    ap (λ es. ops_of es rest) (drop_all k edits none) in
+    omega (
+      arith,
+      old,
+      ap (λ x. moved side x (i - end)) last,
+      ap len_before last,
+      keeping_before rest [],
+      passed.before_is,
+      rest_stays side rest (i - end) (omega (
+        arith,
+        ap len_before last,
+        keeping_before rest [],
+        passed.before_is,
+      )),
+    )
 
 -- a list whose first elements are mapped
 abbrev pub mapped : (ℕ → ℕ) → ℕ → List ℕ → List ℕ

@@ -1,11 +1,6 @@
 -- A change as its replacements.
-use Rattle.std.specs.Prelude.{◌≡◌, ℕ, zero, suc, ◌+◌, ◌-◌, ◌<◌, ◌≤◌, ◌^◌, List, [], ◌∷◌, ◌++◌, length, map}
-use Rattle.std.specs.List.{All}
-use Rattle.std.specs.Str.{chars}
-use Rattle.std.specs.String.{string_bytes}
+use Rattle.std.specs.Prelude.{ℕ, zero, suc, ◌+◌, ◌-◌, ◌≤◌, List, [], ◌∷◌, ◌++◌, length}
 use Rattle.rope_changes.specs.Ops.{Op, keep, delete, insert, len_before, len_after}
-use Rattle.rope_changes.specs.declared.change_set.Replacement.{Replacement}
-use Rattle.rope_changes.specs.declared.change_set.ChangeSet.TheInside.{Inside}
 
 -- a replacement: keeps `kept` characters, then inserts `text`, then deletes `deleted` characters
 pub record Edit : Type 0 where
@@ -95,27 +90,3 @@ pub record IsInOrder (c : Change) (start end : ℕ) : Type 0 where
 -- the length of the text after such a replacement
 abbrev pub replaced_len : Change → ℕ → ℕ → List ℕ → ℕ
 replaced_len c start end text = after c - (end - start) + length text
-
-abbrev pub edit_of : Replacement → Edit
-edit_of r = record { kept = r.kept; text = chars (string_bytes r.text); deleted = r.deleted }
-
-abbrev pub change_of : Inside → Change
-change_of a = record { edits = map edit_of a.edits.items; rest = a.rest }
-
--- the number of characters of its text is the one that it holds
-abbrev pub IsCounted : Replacement → Type 0
-IsCounted r = r.inserted ≡ length (chars (string_bytes r.text))
-
--- both counts of the last replacement stay below 2^64 with `inserted` and `deleted` added
-abbrev pub LastFits : List Replacement → ℕ → ℕ → Type 0
-LastFits items inserted deleted = (front : List Replacement) (last : Replacement) → items ≡ front ++ last ∷ []
-    → (last.inserted + inserted < 2 ^ 64) × (last.deleted + deleted < 2 ^ 64)
-
--- each text is counted, both lengths are those of texts, and the replacements are in normal form
-pub record IsChangeSet (a : Inside) : Type 0 where
-  pub counted : All IsCounted a.edits.items
-  pub before_is : a.len_before ≡ before (change_of a)
-  pub after_is : a.len_after ≡ after (change_of a)
-  pub before_fits : a.len_before < 2 ^ 63
-  pub after_fits : a.len_after < 2 ^ 63
-  pub normal : IsNormal (change_of a)

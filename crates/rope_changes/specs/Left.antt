@@ -1,10 +1,8 @@
 -- What is left of a change that is read one run of operations at a time.
-use Rattle.std.specs.Prelude.{◌≡◌, ℕ, ◌+◌, ◌≤◌, ◌⊎◌, List, [], length, map, drop}
-use Rattle.std.specs.List.{All}
+use Rattle.std.specs.Prelude.{◌≡◌, ℕ, ◌+◌, ◌≤◌, ◌⊎◌, List, [], ◌∷◌, length}
 use Rattle.std.specs.Str.{chars}
 use Rattle.rope_changes.specs.Ops.{Op}
-use Rattle.rope_changes.specs.Change.{Edit, keeping, inserting, deleting, ops_of, edit_of, IsCounted}
-use Rattle.rope_changes.specs.declared.change_set.Replacement.{Replacement}
+use Rattle.rope_changes.specs.Change.{Edit, keeping, inserting, deleting, ops_of}
 use Rattle.rope_changes.specs.declared.cursor.Cursor.TheInside.{Inside}
 
 -- what is left of one replacement, those after it, and the number of characters kept after the last
@@ -34,16 +32,16 @@ left_of a =
       kept = a.kept;
       text = chars a.text.now;
       deleted = a.deleted;
-      edits = map edit_of (drop a.index a.items.now);
+      edits = a.later;
       rest = a.rest;
     }
 
--- it inserts or deletes something
-abbrev pub IsChanging : Replacement → Type 0
-IsChanging r = 1 ≤ r.inserted + r.deleted
+-- each replacement inserts or deletes something
+abbrev pub AreChanging : List Edit → Type 0
+AreChanging [] = Unit {0}
+AreChanging (e ∷ edits) = (1 ≤ length e.text + e.deleted) × AreChanging edits
 
--- the texts are counted, and each replacement changes something
+-- the text is counted, and each replacement changes something
 pub record IsCursor (a : Inside) : Type 0 where
   pub counted : a.inserted ≡ length (chars a.text.now)
-  pub all_counted : All IsCounted a.items.now
-  pub changing : All IsChanging a.items.now
+  pub changing : AreChanging a.later

@@ -3,6 +3,8 @@ pub mod Combined
 pub mod Normal
 pub mod Moved
 pub mod Change
+pub mod Packed
+pub mod Held
 pub mod Applied
 pub mod Inverted
 pub mod Listed

@@ -1,17 +1,15 @@
 -- The replacements of a change that lie before an index.
 use Rattle.std.specs.Prelude.{◌≡◌, ℕ, ◌+◌, ◌-◌, ◌<◌, ◌≤◌, List, length, drop}
-use Rattle.std.specs.Str.{chars}
-use Rattle.std.specs.String.{string_bytes}
 use Rattle.rope_changes.specs.Ops.{Op, len_before, len_after}
 use Rattle.rope_changes.specs.Change.{Change, keeping, inserting, deleting, ops_of, ops, before, after}
 use Rattle.rope_changes.specs.Moved.{moved}
-use Rattle.rope_changes.specs.declared.change_set.Replacement.{Replacement}
-use Rattle.rope_changes.specs.declared.change_set.Passed.{Passed}
+use Rattle.rope_changes.specs.declared.map.Passed.{Passed}
+use Rattle.rope_changes.specs.declared.replacements.Lengths.{Lengths}
 use Rattle.rope_changes.specs.declared.side.Side.{Side}
 
--- the operations of a replacement, and then others
-abbrev pub step_of : Replacement → List Op → List Op
-step_of r rest = keeping r.kept (inserting (chars (string_bytes r.text)) (deleting r.deleted rest))
+-- the operations of a replacement that has these lengths and this text, and then others
+abbrev pub step_of : Lengths → List ℕ → List Op → List Op
+step_of l text rest = keeping l.kept (inserting text (deleting l.deleted rest))
 
 -- the index lies after what is passed
 pub record Reaches (p : Passed) (i : ℕ) : Type 0 where
@@ -26,3 +24,8 @@ pub record IsPassed (c : Change) (p : Passed) : Type 0 where
       (i - p.end)
   pub before_is : p.end + len_before (ops_of (drop p.count c.edits) c.rest) ≡ before c
   pub after_is : p.new_end + len_after (ops_of (drop p.count c.edits) c.rest) ≡ after c
+
+-- an index between what is passed and the next replacement moves as far as what is passed does
+abbrev pub IsBetween : Change → Passed → Type 0
+IsBetween c p = (side : Side) (i : ℕ) → p.end < i → i < p.start → i ≤ before c
+    → moved side (ops c) i ≡ p.new_end + (i - p.end)

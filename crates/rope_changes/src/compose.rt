@@ -105,7 +105,7 @@ fn compose_next(
 
 impl ChangeSet {
     /// Returns the change that does what this change and then `later` do. Takes memory for the
-    /// replacements and the inserted texts of the result.
+    /// replacements and the inserted texts of both changes.
     ///
     /// # Errors
     ///
@@ -125,7 +125,12 @@ impl ChangeSet {
         if given != later.len_before() {
             return Err(ChangeError::LengthDiffers(later.len_before(), given));
         }
-        let mut made = ChangeSet::empty(self.alloc);
+        let count = self.edits.len().saturating_add(later.edits.len());
+        let bytes = self
+            .edits
+            .len_bytes()
+            .saturating_add(later.edits.len_bytes());
+        let mut made = ChangeSet::with_capacity(self.alloc, count, bytes)?;
         let mut first = Cursor::new(self);
         let mut second = Cursor::new(later);
         while load_both(&mut first, &mut second) {

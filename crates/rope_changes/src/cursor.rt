@@ -4,8 +4,9 @@ ghost use Rattle.std.specs.Str.{chars};
 ghost use Rattle.rope_changes.specs.Change.{before, after, ops, keeping, inserting, deleting};
 ghost use Rattle.rope_changes.specs.Left.{left, IsLoaded, Inserts};
 
-use crate::change_set::{ChangeSet, Replacement};
+use crate::change_set::ChangeSet;
 use crate::cut::split_chars;
+use crate::replacements::Reader;
 use std::marker::Model;
 
 /// A cursor over the runs of operations of a change: characters kept, a text inserted, characters
@@ -20,8 +21,7 @@ pub(crate) struct Cursor<'a> {
     pub(crate) inserted: usize,
     /// The number of characters to delete after the text.
     pub(crate) deleted: usize,
-    items: &'a [Replacement],
-    index: usize,
+    later: Reader<'a>,
     rest: usize,
 }
 
@@ -47,8 +47,7 @@ impl<'a> Cursor<'a> {
             text: "",
             inserted: 0,
             deleted: 0,
-            items: change.edits.as_slice(),
-            index: 0,
+            later: change.edits.read(),
             rest: change.rest,
         }
     }
@@ -64,16 +63,13 @@ impl<'a> Cursor<'a> {
         if self.kept > 0 || self.inserted > 0 || self.deleted > 0 {
             return true;
         }
-        let items = self.items;
-        if self.index >= items.len() {
+        let Some(edit) = self.later.next() else {
             self.kept = self.rest;
             self.rest = 0;
             return self.kept > 0;
-        }
-        let edit = &items[self.index];
-        self.index += 1;
+        };
         self.kept = edit.kept;
-        self.text = edit.text.as_str();
+        self.text = edit.text;
         self.inserted = edit.inserted;
         self.deleted = edit.deleted;
         true

@@ -30,13 +30,17 @@
 //! - `run`: operations of one kind in a row
 //! - `cut`: a text split after a number of characters
 //! - `splice`: a range of a rope replaced by a text, or copied
+//! - `replacements`: replacements with their texts in one string
 //! - `change_set`: changes as replacements in order
+//! - `map`: indices moved through a change
+//! - `apply`: changes of ropes, and the changes that lead back
 //! - `cursor`: the runs of operations of a change, read from the front
 //! - `compose`: two changes in a row as one
 //! - `rebase`: a change as one of the text after another change
 //! - `laws`: what replacements, compositions, inverses and rebased changes do to a text
 #![tactic(auto)]
 
+mod apply;
 mod change_set;
 mod compose;
 mod cursor;
@@ -44,7 +48,9 @@ mod cut;
 mod edit;
 mod error;
 pub mod laws;
+mod map;
 mod rebase;
+mod replacements;
 mod run;
 mod side;
 mod splice;

@@ -119,7 +119,8 @@ impl ChangeSet {
         if is_too_long(self, over, side) {
             return Err(ChangeError::TooLong);
         }
-        let mut made = ChangeSet::empty(self.alloc);
+        let (count, bytes) = (self.edits.len(), self.edits.len_bytes());
+        let mut made = ChangeSet::with_capacity(self.alloc, count, bytes)?;
         let mut first = Cursor::new(self);
         let mut second = Cursor::new(over);
         while load_both(&mut first, &mut second) {

@@ -10,4 +10,4 @@ invariant-loop-passed l = record {
 }
 
 abbrev pub decreases-loop-passed : goal.decreases-loop-passed
-decreases-loop-passed l = length l.self.edits - l.passed.count
+decreases-loop-passed l = length l.lengths - l.passed.count

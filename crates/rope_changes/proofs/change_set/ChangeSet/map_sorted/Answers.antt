@@ -4,8 +4,8 @@ use Rattle.rope_changes.specs.Moved.{moved}
 use Rattle.rope_changes.proofs.Passing.{mapped_at, mapped_next, mapped_all, mapped_length}
 use Rattle.rope_changes.proofs.change_set.ChangeSet.map_sorted.Goals as goal
 
-pub map_from-requires-clause-within : goal.map_from-requires-clause-within
-map_from-requires-clause-within c =
+pub map_next-requires-clause-within : goal.map_next-requires-clause-within
+map_next-requires-clause-within c =
     let l = c.loop-char_idx in
     let f = moved c.args.side (ops c.args.self.now) in
     let all = c.args.char_indices.now in
@@ -29,10 +29,11 @@ loop-char_idx-preserved c =
     let here : get_or l.char_indices i 0
     ≡ get_or all i 0 = ap (λ xs. get_or xs i 0) l.invariant.moved ∙ mapped_at f i 0 all in
     record {
-      moved = ap (set l.char_indices i) (c.map_from.ensures.moved ∙ ap f here)
+      moved = ap (set l.char_indices i) (c.map_next.ensures.moved ∙ ap f here)
           ∙ ap (λ xs. set xs i (f (get_or all i 0))) l.invariant.moved
           ∙ mapped_next f i 0 all (omega (arith, len, c.loop-char_idx-test.true));
-      passed = c.map_from.ensures.passed;
+      passed = c.map_next.ensures.passed;
+      between = c.map_next.ensures.between;
     }
 
 pub returns : goal.returns

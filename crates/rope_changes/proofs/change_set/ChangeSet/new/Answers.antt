@@ -4,10 +4,9 @@ use Rattle.rope_changes.proofs.change_set.ChangeSet.new.Goals as goal
 
 pub invariant_of-result : goal.invariant_of-result
 invariant_of-result c = record {
-  counted = rw c.new.ensures.items (λ k d none. absurd (omega arith));
-  before_is = rw c.new.ensures.items (omega (arith, keeping_before c.args.len []));
-  after_is = rw c.new.ensures.items (omega (arith, keeping_after c.args.len []));
+  before_is = rw c.new.ensures (omega (arith, keeping_before c.args.len []));
+  after_is = rw c.new.ensures (omega (arith, keeping_after c.args.len []));
   before_fits = omega arith;
   after_fits = omega arith;
-  normal = rw c.new.ensures.items tt;
+  normal = rw c.new.ensures tt;
 }

@@ -1,8 +1,7 @@
 use Rattle.std.proofs.Common.{◌+◌, ◌++◌, [], ap, ◌∙◌, arith}
-use Rattle.std.specs.Prelude.{map}
 use Rattle.std.specs.Str.{chars}
 use Rattle.rope_changes.specs.Ops.{len_before, len_after}
-use Rattle.rope_changes.specs.Change.{Change, before, after, ops, ops_of, inserting, deleting, edit_of, AreNormal}
+use Rattle.rope_changes.specs.Change.{Change, before, after, ops, ops_of, inserting, deleting, AreNormal}
 use Rattle.rope_changes.specs.Normal.{normal_form}
 use Rattle.rope_changes.proofs.Appended.{appended_before, appended_after, appended_normal, before_with_rest, after_with_rest}
 use Rattle.rope_changes.proofs.Lasts.{last_fits}
@@ -13,17 +12,16 @@ pub add-requires-clause-fits : goal.add-requires-clause-fits
 add-requires-clause-fits c =
     let len = ap (λ (x : Change). before x) c.self.view_is in
     let new_len = ap (λ (x : Change). after x) c.self.view_is in
-    last_fits c.self.inside.edits.items c.self.inside.rest _ _ c.self.invariant.counted
+    last_fits c.self.inside.edits c.self.inside.rest _ _
     (omega arith) (omega arith)
 
 pub invariant_of-self-2 : goal.invariant_of-self-2
 invariant_of-self-2 c =
-    let edits = map edit_of c.self.inside.edits.items in
+    let edits = c.self.inside.edits in
     let rest = c.self.inside.rest in
     let text = chars c.args.text.now in
     let deleted = c.args.deleted in
     record {
-      counted = c.in_ok-add.ensures.counts c.self.invariant.counted;
       before_is = omega (
         arith,
         ap (λ es. len_before (ops_of es 0)) c.in_ok-add.ensures.ok,
@@ -46,7 +44,7 @@ invariant_of-self-2 c =
 
 pub returns-clause-ok : goal.returns-clause-ok
 returns-clause-ok c =
-    let edits = map edit_of c.self.inside.edits.items in
+    let edits = c.self.inside.edits in
     let text = chars c.args.text.now in
     let normal : AreNormal _ = appended_normal edits c.self.inside.rest text c.args.deleted
     c.self.invariant.normal (omega arith) in

@@ -1,6 +1,5 @@
 use Rattle.std.proofs.Common.{◌+◌, ◌++◌, [], ap, ◌∙◌, arith}
-use Rattle.std.specs.Prelude.{map}
-use Rattle.rope_changes.specs.Change.{Change, before, after, ops, keeping, edit_of}
+use Rattle.rope_changes.specs.Change.{Change, before, after, ops, keeping}
 use Rattle.rope_changes.specs.Normal.{normal_form}
 use Rattle.rope_changes.proofs.Appended.{rest_before, before_with_rest, after_with_rest}
 use Rattle.rope_changes.proofs.Added.{kept_ops}
@@ -10,16 +9,15 @@ pub overflow_add-self : goal.overflow_add-self
 overflow_add-self c =
     omega (
       arith,
-      rest_before (map edit_of c.self.inside.edits.items) c.self.inside.rest,
+      rest_before c.self.inside.edits c.self.inside.rest,
       ap (λ (x : Change). before x) c.self.view_is,
     )
 
 pub invariant_of-self : goal.invariant_of-self
 invariant_of-self c =
-    let edits = map edit_of c.self.inside.edits.items in
+    let edits = c.self.inside.edits in
     let rest = c.self.inside.rest in
     record {
-      counted = c.self.invariant.counted;
       before_is = omega
           (arith, before_with_rest edits (rest + c.args.count), before_with_rest edits rest);
       after_is = omega
@@ -32,5 +30,5 @@ invariant_of-self c =
 pub returns : goal.returns
 returns c =
     kept_ops
-    (map edit_of c.self.inside.edits.items) c.self.inside.rest c.args.count c.self.invariant.normal
+    c.self.inside.edits c.self.inside.rest c.args.count c.self.invariant.normal
     ∙ ap (λ (x : Change). normal_form (ops x ++ keeping c.args.count [])) c.self.view_is

@@ -66,6 +66,12 @@ returns-in_err-push_run-clause-too_long c = λ same long.
     absurd (cc
     (c.is_too_long.ensures.1 (omega (arith, normal_after whole)), c.if-is_too_long.false))
 
+pub returns-in_err-made-clause-too_long : goal.returns-in_err-made-clause-too_long
+returns-in_err-made-clause-too_long c = λ same long.
+    let whole = carried c.args.side (ops c.args.self.now) (ops c.args.over.now) in
+    absurd (cc
+    (c.is_too_long.ensures.1 (omega (arith, normal_after whole)), c.if-is_too_long.false))
+
 pub returns-clause-too_long : goal.returns-clause-too_long
 returns-clause-too_long c = λ same long.
     let whole = carried c.args.side (ops c.args.self.now) (ops c.args.over.now) in

@@ -1,30 +1,29 @@
 use Rattle.std.proofs.Common.{◌≡◌, ◌+◌, ◌-◌, ◌≤◌, length, ap, arith}
-use Rattle.std.specs.Prelude.{map}
 use Rattle.std.specs.Str.{chars}
 use Rattle.rope_changes.specs.Ops.{len_before, len_after}
-use Rattle.rope_changes.specs.Change.{Change, before, after, edit_of, ops_of}
+use Rattle.rope_changes.specs.Change.{Change, before, after, ops_of}
 use Rattle.rope_changes.proofs.Appended.{appended_before, appended_after, appended_normal, rest_before, rest_after}
 use Rattle.rope_changes.proofs.Lasts.{last_fits}
 use Rattle.rope_changes.proofs.change_set.ChangeSet.replace.Goals.{In_ok-add, else-inserted-eq0-via-then-inserted-eq0+else-deleted-eq0, else-inserted-eq0-via-else-inserted-eq0}
 use Rattle.rope_changes.proofs.change_set.ChangeSet.replace.Goals as goal
 
 pub overflow_sub-last_end : goal.overflow_sub-last_end
-overflow_sub-last_end c = omega (arith, rest_before (map edit_of c.self.inside.edits.items) c.self.inside.rest)
+overflow_sub-last_end c = omega (arith, rest_before c.self.inside.edits c.self.inside.rest)
 
 pub overflow_sub-others : goal.overflow_sub-others
-overflow_sub-others c = omega (arith, rest_after (map edit_of c.self.inside.edits.items) c.self.inside.rest)
+overflow_sub-others c = omega (arith, rest_after c.self.inside.edits c.self.inside.rest)
 
 pub add-requires-clause-fits : goal.add-requires-clause-fits
 add-requires-clause-fits c =
-    last_fits c.self.inside.edits.items c.self.inside.rest _ _ c.self.invariant.counted (omega arith) (omega arith)
+    last_fits c.self.inside.edits c.self.inside.rest _ _ (omega arith) (omega arith)
 
 -- the edits that are left at the end, and both lengths
 ends_at : (c : In_ok-add) → c.args.start - (c.self.inside.len_before - c.self.inside.rest) + (c.args.end - c.args.start) + (c.self.inside.len_before - c.args.end) ≡ c.self.inside.rest
-ends_at c = omega (arith, rest_before (map edit_of c.self.inside.edits.items) c.self.inside.rest)
+ends_at c = omega (arith, rest_before c.self.inside.edits c.self.inside.rest)
 
-made_before : (c : In_ok-add) → c.self.inside.len_before ≡ len_before (ops_of (map edit_of c.add.new.edits.items) (c.self.inside.len_before - c.args.end))
+made_before : (c : In_ok-add) → c.self.inside.len_before ≡ len_before (ops_of c.add.new.self (c.self.inside.len_before - c.args.end))
 made_before c =
-    let edits = map edit_of c.self.inside.edits.items in
+    let edits = c.self.inside.edits in
     let rest = c.self.inside.len_before - c.args.end in
     omega (
       arith,
@@ -34,9 +33,9 @@ made_before c =
     )
 
 made_after : (c : In_ok-add) → c.self.inside.len_after - (c.args.end - c.args.start) + c.count_chars-inserted.result
-    ≡ len_after (ops_of (map edit_of c.add.new.edits.items) (c.self.inside.len_before - c.args.end))
+    ≡ len_after (ops_of c.add.new.self (c.self.inside.len_before - c.args.end))
 made_after c =
-    let edits = map edit_of c.self.inside.edits.items in
+    let edits = c.self.inside.edits in
     let rest = c.self.inside.len_before - c.args.end in
     omega (
       arith,
@@ -57,12 +56,11 @@ invariant_of-self-2 c =
       | else-inserted-eq0-via-else-inserted-eq0 w ↦ omega arith
     ] in
     record {
-      counted = c.in_ok-add.ensures.counts c.self.invariant.counted;
       before_is = made_before m;
       after_is = made_after m;
       before_fits = omega arith;
       after_fits = omega arith;
-      normal = rw c.in_ok-add.ensures.ok (appended_normal (map edit_of c.self.inside.edits.items) _ text deleted c.self.invariant.normal some);
+      normal = rw c.in_ok-add.ensures.ok (appended_normal c.self.inside.edits _ text deleted c.self.invariant.normal some);
     }
 
 pub returns-clause-len_before : goal.returns-clause-len_before

@@ -1,7 +1,6 @@
-use Rattle.std.proofs.Common.{ap, sym, ◌∙◌, drop}
-use Rattle.std.specs.Prelude.{map}
+use Rattle.std.proofs.Common.{ap, sym, ◌∙◌}
 use Rattle.std.specs.Str.{chars}
-use Rattle.rope_changes.specs.Change.{keeping, inserting, deleting, ops_of, edit_of}
+use Rattle.rope_changes.specs.Change.{keeping, inserting, deleting, ops_of}
 use Rattle.rope_changes.specs.Left.{Left, left}
 use Rattle.rope_changes.proofs.NormalLaws.{inserting_more}
 use Rattle.rope_changes.proofs.Lefts.{text_left}
@@ -10,7 +9,7 @@ use Rattle.rope_changes.proofs.cursor.Cursor.cut_text.Goals as goal
 pub returns-clause-passed : goal.returns-clause-passed
 returns-clause-passed c =
     let after = deleting c.self.inside.deleted
-    (ops_of (map edit_of (drop c.self.inside.index c.self.inside.items.now)) c.self.inside.rest) in
+    (ops_of c.self.inside.later c.self.inside.rest) in
     let front = chars c.split_chars.result.0.now in
     let back = chars c.split_chars.result.1.now in
     sym (ap left c.self.view_is)

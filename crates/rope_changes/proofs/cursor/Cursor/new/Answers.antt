@@ -1,9 +1,7 @@
 use Rattle.std.proofs.Common.{refl, ap, sym, ◌∙◌, subst, arith}
-use Rattle.std.specs.Prelude.{map}
-use Rattle.std.specs.List.{All}
 use Rattle.std.specs.Str.{chars}
-use Rattle.rope_changes.specs.Change.{Change, before, after, ops, ops_of, edit_of, IsCounted}
-use Rattle.rope_changes.specs.Left.{IsChanging}
+use Rattle.rope_changes.specs.Change.{Change, before, after, ops, ops_of}
+use Rattle.rope_changes.specs.Left.{AreChanging}
 use Rattle.rope_changes.proofs.Lefts.{all_changing}
 use Rattle.rope_changes.proofs.cursor.Cursor.new.Goals as goal
 
@@ -11,18 +9,15 @@ pub invariant_of-result : goal.invariant_of-result
 unfolding chars
 invariant_of-result c = record {
   counted = refl;
-  all_counted = subst (All IsCounted) (sym c.as_slice.ensures.value) c.change.invariant.counted;
   changing =
-      subst (All IsChanging) (sym c.as_slice.ensures.value)
-      (all_changing c.change.inside.edits.items c.change.invariant.counted
-      c.change.invariant.normal);
+      subst AreChanging (sym c.read.ensures)
+      (all_changing c.change.inside.edits c.change.invariant.normal);
 }
 
 pub returns-clause-left : goal.returns-clause-left
 unfolding chars
 returns-clause-left c =
-    ap (λ xs. ops_of (map edit_of xs) c.change.inside.rest) c.as_slice.ensures.value
-    ∙ ap ops c.change.view_is
+    ap (λ es. ops_of es c.change.inside.rest) c.read.ensures ∙ ap ops c.change.view_is
 
 pub returns-clause-before_fits : goal.returns-clause-before_fits
 returns-clause-before_fits c = omega (arith, ap (λ (x : Change). before x) c.change.view_is)

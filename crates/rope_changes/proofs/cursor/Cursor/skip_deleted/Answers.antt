@@ -1,7 +1,6 @@
-use Rattle.std.proofs.Common.{◌≡◌, ◌-◌, length, ap, sym, ◌∙◌, drop, arith}
-use Rattle.std.specs.Prelude.{map}
+use Rattle.std.proofs.Common.{◌≡◌, ◌-◌, length, ap, sym, ◌∙◌, arith}
 use Rattle.std.specs.Str.{chars}
-use Rattle.rope_changes.specs.Change.{deleting, ops_of, edit_of}
+use Rattle.rope_changes.specs.Change.{deleting, ops_of}
 use Rattle.rope_changes.specs.Left.{Left, left}
 use Rattle.rope_changes.proofs.NormalLaws.{deleting_split}
 use Rattle.rope_changes.proofs.Lefts.{deletions_left}
@@ -16,7 +15,7 @@ returns c =
     let count = c.args.count in
     let some = c.self.inside.deleted in
     let after = ops_of
-    (map edit_of (drop c.self.inside.index c.self.inside.items.now)) c.self.inside.rest in
+    c.self.inside.later c.self.inside.rest in
     sym (ap left c.self.view_is)
     ∙ deletions_left c.self.inside.kept some (chars c.self.inside.text.now) after kept text
     ∙ deleting_split some count after (omega (arith, ap (λ (x : Left). x.deleted) c.self.view_is))

@@ -1,7 +1,6 @@
-use Rattle.std.proofs.Common.{refl, ap, sym, ◌∙◌, drop}
-use Rattle.std.specs.Prelude.{map}
+use Rattle.std.proofs.Common.{refl, ap, sym, ◌∙◌}
 use Rattle.std.specs.Str.{chars}
-use Rattle.rope_changes.specs.Change.{keeping, inserting, deleting, ops_of, edit_of}
+use Rattle.rope_changes.specs.Change.{keeping, inserting, deleting, ops_of}
 use Rattle.rope_changes.specs.Left.{Left, left}
 use Rattle.rope_changes.proofs.Lefts.{text_left}
 use Rattle.rope_changes.proofs.cursor.Cursor.take_text.Goals as goal
@@ -11,7 +10,6 @@ unfolding chars
 invariant_of-self c =
     record {
       counted = refl;
-      all_counted = c.self.invariant.all_counted;
       changing = c.self.invariant.changing;
     }
 
@@ -19,7 +17,7 @@ pub returns-clause-passed : goal.returns-clause-passed
 unfolding chars
 returns-clause-passed c =
     let after = deleting c.self.inside.deleted
-    (ops_of (map edit_of (drop c.self.inside.index c.self.inside.items.now)) c.self.inside.rest) in
+    (ops_of c.self.inside.later c.self.inside.rest) in
     sym (ap left c.self.view_is)
     ∙ text_left c.self.inside.kept (chars c.self.inside.text.now) after
     (ap (λ (x : Left). x.kept) c.self.view_is ∙ c.requires)
