@@ -4,9 +4,10 @@
 #     scripts/build_c_library.sh [ARCHIVE]
 #
 # It needs `rt`, which proves the library first (and the crates below it; what was proved before in this checkout is not
-# proved again), and `ar`. The archive is crates/ropey_c/out/libropey.a, or the file that is named. What the kit's archive
-# has for memory, three functions over malloc, realloc and free, is merged into it. Beside it libropey.sources says of which
-# sources it was built. The script says what it does, and how far the proofs are.
+# proved again), a C compiler (`cc`, or the one that CC names) and binutils. The archive is crates/ropey_c/out/libropey.a, or the
+# file that is named. It has one object: what `rt lib` made of the crate, the kit's three functions over malloc, realloc and
+# free, and bindings/c/status_text.c. Its symbols are those of ropey.h. Beside it libropey.sources has the version and a checksum
+# of the sources, and libropey.proved the last line of `rt lib`, which says what was proved and on what it rests.
 set -euo pipefail
 
 top=$(cd "$(dirname "$0")/.." && pwd)
@@ -23,8 +24,7 @@ echo "proving and compiling crates/ropey_c (minutes, where it isn't proved yet)"
     { fflush() }' || { tail -n 40 "$work/proofs"; exit 1; }
 tail -n 1 "$work/proofs"
 
-cp "$top/crates/ropey_c/out/libropey_c.a" "$work/libropey.a"
-(cd "$work" && ar x "$heap" && ar rs libropey.a ./*.o)
-cp "$work/libropey.a" "$archive"
+"$top/scripts/pack_c_library.sh" "$archive" "$top/crates/ropey_c/out/libropey_c.a" "$heap"
 "$top/scripts/find_c_library.sh" --sources > "${archive%.a}.sources"
+tail -n 1 "$work/proofs" > "${archive%.a}.proved"
 echo "built $archive"

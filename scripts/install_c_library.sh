@@ -3,7 +3,7 @@
 #
 #     [DESTDIR=STAGE] scripts/install_c_library.sh PREFIX
 #
-# It builds the archive first (scripts/build_c_library.sh; `rt`, `ar` and a C compiler are needed), and leaves below PREFIX
+# It builds the archive first (scripts/build_c_library.sh; `rt`, binutils and a C compiler are needed), and leaves below PREFIX
 # what scripts/place_c_library.sh places, and LICENSE and LICENSE-ropey in share/licenses/ropey. With DESTDIR the files are
 # written below STAGE/PREFIX, for a package that unpacks them at PREFIX.
 #
@@ -15,9 +15,9 @@ top=$(cd "$(dirname "$0")/.." && pwd)
 prefix=$(realpath -m "${1:?the folder to install below}")
 folder=$(realpath -m "${DESTDIR:-}$prefix")
 
-for tool in rt ar "${CC:-cc}"; do
+for tool in rt ar ld objcopy "${CC:-cc}"; do
     command -v "$tool" > /dev/null || {
-        echo "install_c_library.sh: $tool is not found. rt comes with the Rattle kit, ar with binutils." >&2
+        echo "install_c_library.sh: $tool is not found. rt comes with the Rattle kit, ar, ld and objcopy with binutils." >&2
         exit 1
     }
 done

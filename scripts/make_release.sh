@@ -27,10 +27,10 @@ fi
 
 mkdir -p "$work/$name/rust" "$folder"
 "$top/scripts/place_c_library.sh" "$archive" "$work/$name"
-for file in Cargo.toml Cargo.lock build.rs rustfmt.toml LICENSE LICENSE-ropey src examples tests; do
+for file in Cargo.toml README.md build.rs rustfmt.toml LICENSE LICENSE-ropey src examples tests; do
     cp -r "$top/bindings/rust/$file" "$work/$name/rust"
 done
-cp "$archive" "$work/$name/rust"
+cp "$archive" "${archive%.a}.sources" "$work/$name/rust"
 cp "$top/LICENSE" "$top/LICENSE-ropey" "$work/$name"
 sed "s/@VERSION@/$version/g" "$top/bindings/release/README.md" > "$work/$name/README.md"
 chmod -R u=rwX,go=rX "$work/$name"

@@ -57,9 +57,12 @@ sed 's/^[^ ]*  //' "$release/SHA256SUMS" | diff "$work/files" -
 lib=$release/lib
 
 # The shared object exports the functions of the header, and nothing else.
-grep -oE '^(ropey_status|uint32_t|size_t|void|const char \*) ?\*?ropey_\w+\(' "$release/include/ropey.h" |
+grep -oE '^(ROPEY_NODISCARD )?(ropey_status|uint32_t|size_t|void|const char \*) ?\*?ropey_\w+\(' "$release/include/ropey.h" |
     grep -oE 'ropey_\w+\(' | tr -d '(' | sort > "$work/functions"
 nm -D --defined-only "$lib/libropey.so" | awk '{ print $3 }' | sort | diff "$work/functions" -
+
+# What `rt lib` said of the library comes with it.
+grep -q '^logic=proved functions=' "$lib/libropey.proved"
 
 # It needs no C library that is newer than the release's README says.
 newest=$(nm -D "$lib/libropey.so" | sed -n 's/.*@GLIBC_//p' | sort -V | tail -n 1)
@@ -69,9 +72,11 @@ if [ "$(printf '%s\n' "$newest" "$glibc" | sort -V | tail -n 1)" != "$glibc" ]; 
     exit 1
 fi
 
-# Runs a program that was linked with the archive, and compares what it prints with what the program NAME must print.
+# Runs a program that was linked with the archive, and compares what it prints with what the program NAME must print. The example
+# works on a file.
 static_prints() {
-    "$2" > "$work/printed"
+    cp "$work/programs/example.txt" "$work/notes.txt"
+    "$2" "$work/notes.txt" > "$work/printed"
     diff "$work/programs/$1.stdout" "$work/printed"
 }
 
@@ -84,12 +89,13 @@ shared_prints() {
 
 # The programs lie apart from the headers of the repository.
 mkdir "$work/programs"
-cp "$top"/bindings/c/{example,undo}.{c,stdout} "$top/bindings/c/wrapper.cpp" "$work/programs"
+cp "$top"/bindings/c/{example,undo,tree_sitter}.{c,stdout} "$top"/bindings/c/{example.txt,notes.stdout,{notes,wrapper,expected}.cpp} "$work/programs"
 echo 'C++: as it must be' > "$work/programs/wrapper.stdout"
+echo 'C++ without exceptions: as it must be' > "$work/programs/expected.stdout"
 cd "$work/programs"
 
 strict=(-std=c11 -pedantic -Wall -Wextra -Werror "-I$release/include")
-for program in example undo; do
+for program in example undo tree_sitter; do
     "$cc" "${strict[@]}" "$program.c" "$lib/libropey.a" -o "$work/static"
     static_prints "$program" "$work/static"
     "$cc" "${strict[@]}" "$program.c" -L"$lib" -lropey -o "$work/shared"
@@ -97,10 +103,14 @@ for program in example undo; do
 done
 
 if "$cxx" --version > /dev/null 2>&1; then
-    "$cxx" -std=c++17 -I"$release/include" wrapper.cpp "$lib/libropey.a" -o "$work/static"
-    static_prints wrapper "$work/static"
-    "$cxx" -std=c++17 -I"$release/include" wrapper.cpp -L"$lib" -lropey -o "$work/shared"
-    shared_prints wrapper "$work/shared"
+    for program in notes wrapper; do
+        "$cxx" -std=c++17 -I"$release/include" "$program.cpp" "$lib/libropey.a" -o "$work/static"
+        static_prints "$program" "$work/static"
+        "$cxx" -std=c++17 -I"$release/include" "$program.cpp" -L"$lib" -lropey -o "$work/shared"
+        shared_prints "$program" "$work/shared"
+    done
+    "$cxx" -std=c++17 -fno-exceptions -I"$release/include" expected.cpp "$lib/libropey.a" -o "$work/static"
+    static_prints expected "$work/static"
     passed+=', C++'
 fi
 
