@@ -8,6 +8,7 @@
 # and tested; one line says so where there is none of these sources. There is no `rt` on the PATH, and nothing is
 # fetched. A C compiler is needed (`cc`, or the one that CC names). Where there is no C++ compiler, pkg-config, CMake or
 # cargo, what needs it isn't tried; the last line says what passed. The status is 0 where each program printed what it must.
+# Programs of a release for aarch64 are compiled by aarch64-linux-gnu-gcc and run by qemu-aarch64.
 set -euo pipefail
 
 top=$(cd "$(dirname "$0")/.." && pwd)
@@ -28,6 +29,13 @@ if [ "$file" = --built ]; then
         grep '^Release: ' "$work/log"
     fi
     exit 0
+fi
+
+run=()
+if [[ $(basename "$file") == *-aarch64-* ]]; then
+    cc=aarch64-linux-gnu-gcc
+    cxx=aarch64-linux-gnu-g++
+    run=(qemu-aarch64 -L /usr/aarch64-linux-gnu)
 fi
 
 # From here on there is the release alone: no library that the environment names, and no `rt`. A folder of the PATH that
@@ -76,15 +84,17 @@ fi
 # works on a file.
 static_prints() {
     cp "$work/programs/example.txt" "$work/notes.txt"
-    "$2" "$work/notes.txt" > "$work/printed"
+    "${run[@]}" "$2" "$work/notes.txt" > "$work/printed"
     diff "$work/programs/$1.stdout" "$work/printed"
 }
 
 # Does so of a program that was linked with the shared object, once the loader has found that one.
 shared_prints() {
-    LD_LIBRARY_PATH=$lib ldd "$2" > "$work/loaded"
-    grep -qE "$lib/libropey.so.1(\.|\s)" "$work/loaded" || { cat "$work/loaded"; exit 1; }
-    LD_LIBRARY_PATH=$lib static_prints "$1" "$2"
+    if [ ${#run[@]} -eq 0 ]; then
+        LD_LIBRARY_PATH=$lib ldd "$2" > "$work/loaded"
+        grep -qE "$lib/libropey.so.1(\.|\s)" "$work/loaded" || { cat "$work/loaded"; exit 1; }
+    fi
+    LD_LIBRARY_PATH=$lib QEMU_SET_ENV=LD_LIBRARY_PATH=$lib static_prints "$1" "$2"
 }
 
 # The programs lie apart from the headers of the repository.
@@ -124,7 +134,7 @@ if pkg-config --version > /dev/null 2>&1; then
     passed+=', pkg-config'
 fi
 
-if cmake --version > /dev/null 2>&1 && "$cxx" --version > /dev/null 2>&1; then
+if [ ${#run[@]} -eq 0 ] && cmake --version > /dev/null 2>&1 && "$cxx" --version > /dev/null 2>&1; then
     cat > CMakeLists.txt <<'CMAKE'
 cmake_minimum_required(VERSION 3.16)
 project(editor C CXX)
@@ -147,7 +157,7 @@ CMAKE
     passed+=', CMake'
 fi
 
-if cargo --version > /dev/null 2>&1; then
+if [ -d "$release/rust" ] && cargo --version > /dev/null 2>&1; then
     mkdir "$work/rust"
     cd "$work/rust"
     { cargo new --quiet --vcs none notes && cd notes && cargo add --quiet --offline ropey --path "$release/rust" &&

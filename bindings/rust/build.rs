@@ -5,7 +5,8 @@ use std::{env, fs};
 
 const ARCHIVE: &str = "libropey.a";
 
-const ADVICE: &str = "A release has it in the crate's folder. In the repository of the library scripts/build_c_library.sh \
+const ADVICE: &str =
+    "A release has it in the crate's folder. In the repository of the library scripts/build_c_library.sh \
     makes it, and scripts/install_c_library.sh PREFIX installs it; PKG_CONFIG_PATH then has PREFIX/lib/pkgconfig. Or \
     ROPEY_LIB_DIR names the folder that holds the archive.";
 

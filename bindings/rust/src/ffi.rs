@@ -118,11 +118,35 @@ extern "C" {
     fn ropey_split_off(rope: *mut Handle, char_idx: usize, tail: *mut Handle) -> u32;
     fn ropey_append(rope: *mut Handle, other: *mut Handle) -> u32;
     fn ropey_char_to_position_in(rope: Held, char_idx: usize, encoding: u32, place: *mut Place) -> u32;
-    fn ropey_clamped_position_to_char(rope: Held, line: usize, column: usize, encoding: u32, char_idx: *mut usize) -> u32;
+    fn ropey_clamped_position_to_char(
+        rope: Held,
+        line: usize,
+        column: usize,
+        encoding: u32,
+        char_idx: *mut usize,
+    ) -> u32;
     fn ropey_text_counts_unchecked(text: *const u8, len: usize, break_set: u32, counts: *mut Counts) -> u32;
-    fn ropey_counts_in_chars_with_before(rope: Held, start: usize, end: usize, counts: *mut Counts, before: *mut Counts) -> u32;
-    fn ropey_char_slice_with_before(rope: Held, start: usize, end: usize, slice: *mut RawSlice, before: *mut Counts) -> u32;
-    fn ropey_byte_slice_with_before(rope: Held, start: usize, end: usize, slice: *mut RawSlice, before: *mut Counts) -> u32;
+    fn ropey_counts_in_chars_with_before(
+        rope: Held,
+        start: usize,
+        end: usize,
+        counts: *mut Counts,
+        before: *mut Counts,
+    ) -> u32;
+    fn ropey_char_slice_with_before(
+        rope: Held,
+        start: usize,
+        end: usize,
+        slice: *mut RawSlice,
+        before: *mut Counts,
+    ) -> u32;
+    fn ropey_byte_slice_with_before(
+        rope: Held,
+        start: usize,
+        end: usize,
+        slice: *mut RawSlice,
+        before: *mut Counts,
+    ) -> u32;
 }
 
 /// One lock for all ropes, around every call that may touch a count of owners: clones, edits, frees.
@@ -377,7 +401,8 @@ impl Root {
     #[inline]
     pub(crate) fn counts_in_chars(&self, start: usize, end: usize) -> (Counts, Counts) {
         let mut before = Counts::NONE;
-        let counts = written(|counts| unsafe { ropey_counts_in_chars_with_before(&self.0, start, end, counts, &mut before) });
+        let counts =
+            written(|counts| unsafe { ropey_counts_in_chars_with_before(&self.0, start, end, counts, &mut before) });
         (known(counts), before)
     }
 
@@ -670,10 +695,17 @@ impl<'a> Window<'a> {
         }
         fill(&mut self.list, room.min(left), |lines, room, count| unsafe {
             match self.before {
-                None if room > 1 && !is_back => {
-                    ropey_lines_from_with_before(&root.0, line_idx, lines, room, count, self.before.insert(Counts::NONE))
+                None if room > 1 && !is_back => ropey_lines_from_with_before(
+                    &root.0,
+                    line_idx,
+                    lines,
+                    room,
+                    count,
+                    self.before.insert(Counts::NONE),
+                ),
+                Some(at) if !is_back => {
+                    ropey_lines_from_char_with_before(&root.0, at.chars, lines, room, count, self.before.insert(at))
                 }
-                Some(at) if !is_back => ropey_lines_from_char_with_before(&root.0, at.chars, lines, room, count, self.before.insert(at)),
                 _ if room > 1 => ropey_lines_before(&root.0, line_idx + 1, lines, room, count),
                 _ => {
                     *count = 1;

@@ -33,7 +33,14 @@ pub use self::lines::Lines;
 /// An example: two values that are equal, after a step of a cursor over a text.
 macro_rules! example {
     ($at:literal, $first:literal, $shown:literal) => {
-        concat!("\n```\nlet rope = ropey::Rope::from_str(\"a\\nb\");\nlet mut cursor = rope.", $at, ";\n", $first, $shown, "\n```")
+        concat!(
+            "\n```\nlet rope = ropey::Rope::from_str(\"a\\nb\");\nlet mut cursor = rope.",
+            $at,
+            ";\n",
+            $first,
+            $shown,
+            "\n```"
+        )
     };
 }
 
