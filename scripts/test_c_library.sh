@@ -58,6 +58,12 @@ functions() { sed -nE 's/^(ROPEY_NODISCARD )?(ropey_status|uint32_t|size_t|void|
 functions "$here/ropey.h" | sort > "$work/functions"
 nm --defined-only --extern-only "$library" | awk 'NF == 3 { print $3 }' | sort | diff "$work/functions" -
 
+# An installation is staged, and names the folder where it is to lie nowhere.
+DESTDIR=$work/stage "$top/scripts/install_c_library.sh" /opt/ropey > /dev/null
+for file in include/ropey.h include/ropey.hpp lib/libropey.a lib/libropey.so.1 lib/pkgconfig/ropey.pc share/licenses/ropey/LICENSE-ropey; do
+    test -e "$work/stage/opt/ropey/$file"
+done
+
 # A status that is not looked at is warned of.
 printf '#include <ropey.h>\nint main(void) { ropey_rope rope = ROPEY_NO_ROPE; ropey_insert(&rope, 0, NULL, 0); return 0; }\n' > "$work/careless.c"
 if "$cc" $strict -c "$work/careless.c" -o "$work/careless.o" 2> "$work/warnings" || ! grep -q unused-result "$work/warnings"; then

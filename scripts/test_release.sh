@@ -56,6 +56,16 @@ if command -v rt; then
     echo 'Release: rt is still on the PATH' >&2
     exit 1
 fi
+
+# Without `rt` and an archive, the installer says in one line what is missing, and leaves nothing.
+mkdir "$work/bare"
+cp -r "$top/scripts" "$top/bindings" "$top/crates.txt" "$work/bare"
+if "$work/bare/scripts/install_c_library.sh" "$work/installed" > "$work/log" 2>&1 || [ -e "$work/installed" ] ||
+    ! grep -q '^install_c_library.sh: rt is not found' "$work/log" || [ "$(wc -l < "$work/log")" -ne 1 ]; then
+    cat "$work/log"
+    exit 1
+fi
+
 passed=C
 tar -C "$work" -xzf "$file"
 release=$(echo "$work"/ropey-*)
@@ -68,6 +78,18 @@ lib=$release/lib
 grep -oE '^(ROPEY_NODISCARD )?(ropey_status|uint32_t|size_t|void|const char \*) ?\*?ropey_\w+\(' "$release/include/ropey.h" |
     grep -oE 'ropey_\w+\(' | tr -d '(' | sort > "$work/functions"
 nm -D --defined-only "$lib/libropey.so" | awk '{ print $3 }' | sort | diff "$work/functions" -
+
+# A program that loads it by name reaches them, the messages of statuses among them.
+if [ ${#run[@]} -eq 0 ] && python3 --version > /dev/null 2>&1; then
+    python3 - "$lib/libropey.so" <<'PYTHON'
+import ctypes, sys
+library = ctypes.CDLL(sys.argv[1])
+library.ropey_status_text.restype = ctypes.c_char_p
+handle = ctypes.c_void_p()
+status = library.ropey_from_text(b"\xff", ctypes.c_size_t(1), 2, ctypes.byref(handle))
+sys.exit(library.ropey_status_text(status) != b"the bytes are not UTF-8")
+PYTHON
+fi
 
 # What `rt lib` said of the library comes with it.
 grep -q '^logic=proved functions=' "$lib/libropey.proved"
