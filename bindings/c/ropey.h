@@ -335,8 +335,10 @@ ROPEY_NODISCARD ropey_status ropey_get_break_set(const ropey_rope *rope, uint32_
 /* How much text lies from start up to end, as a text of its own: a CR whose LF lies outside is a line break by itself.
  * Refused: NO_ROPE_HELD, the range's refusals (CHAR_RANGE_OUT_OF_BOUNDS, CHAR_RANGE_INVALID; BYTE_RANGE_INVALID,
  * BYTE_RANGE_OUT_OF_BOUNDS, BYTE_RANGE_NOT_CHAR_BOUNDARY). */
-ROPEY_NODISCARD ropey_status ropey_counts_in_chars(const ropey_rope *rope, size_t start, size_t end, ropey_counts *counts);
-ROPEY_NODISCARD ropey_status ropey_counts_in_bytes(const ropey_rope *rope, size_t start, size_t end, ropey_counts *counts);
+ROPEY_NODISCARD ropey_status ropey_counts_in_chars(const ropey_rope *rope, size_t start, size_t end,
+    ropey_counts *counts);
+ROPEY_NODISCARD ropey_status ropey_counts_in_bytes(const ropey_rope *rope, size_t start, size_t end,
+    ropey_counts *counts);
 
 /* Conversions. An index may be the length itself, which stands for the end of the text. A byte or a code unit inside a
  * character stands for that character.
@@ -355,7 +357,8 @@ ROPEY_NODISCARD ropey_status ropey_char_to_position(const ropey_rope *rope, size
 
 /* The last character of the line that begins at the column or before it.
  * Refused: NO_ROPE_HELD, LINE_INDEX_OUT_OF_BOUNDS, UTF16_INDEX_OUT_OF_BOUNDS where the column is past the line. */
-ROPEY_NODISCARD ropey_status ropey_position_to_char(const ropey_rope *rope, size_t line, size_t column, size_t *char_idx);
+ROPEY_NODISCARD ropey_status ropey_position_to_char(const ropey_rope *rope, size_t line, size_t column,
+    size_t *char_idx);
 
 /* The place of a character, or of the end of the text, with its column in an encoding, a ropey_encoding.
  * Refused: NO_ROPE_HELD, UNKNOWN_ENCODING, CHAR_INDEX_OUT_OF_BOUNDS. */
@@ -366,8 +369,7 @@ ROPEY_NODISCARD ropey_status ropey_char_to_position_in(const ropey_rope *rope, s
  * before its line break, and a line past the last one is the end of the text. A column inside a character is that character.
  * Refused: NO_ROPE_HELD, UNKNOWN_ENCODING. */
 ROPEY_NODISCARD ropey_status ropey_clamped_position_to_char(const ropey_rope *rope, size_t line, size_t column,
-    uint32_t encoding,
-    size_t *char_idx);
+    uint32_t encoding, size_t *char_idx);
 
 /* Bytes, characters and lines. */
 
@@ -385,8 +387,7 @@ ROPEY_NODISCARD ropey_status ropey_line_break(const ropey_rope *rope, size_t lin
  * is written to count. Where they don't reach the line's end, ropey_chunks_from_byte goes on.
  * Refused: NO_ROPE_HELD, LINE_INDEX_OUT_OF_BOUNDS. */
 ROPEY_NODISCARD ropey_status ropey_line_pieces(const ropey_rope *rope, size_t line_idx, ropey_range *bytes,
-    ropey_piece *pieces,
-    size_t room, size_t *count);
+    ropey_piece *pieces, size_t room, size_t *count);
 
 /* Chunks. */
 
@@ -401,15 +402,13 @@ ROPEY_NODISCARD ropey_status ropey_chunk_at_line_break(const ropey_rope *rope, s
  * bytes lie before the first of them to bytes_before. At the end of the text there are none. To go on, ask for the byte past
  * the last piece. One look-up, and then a step a chunk. Refused: NO_ROPE_HELD, BYTE_INDEX_OUT_OF_BOUNDS. */
 ROPEY_NODISCARD ropey_status ropey_chunks_from_byte(const ropey_rope *rope, size_t byte_idx, ropey_piece *pieces,
-    size_t room,
-    size_t *count, size_t *bytes_before);
+    size_t room, size_t *count, size_t *bytes_before);
 
 /* The chunks before the one that holds a byte, the nearest first, as far as there is room: their number is written to
  * count, and how many bytes lie before the chunk that holds the byte to bytes_before. At the end of the text the last chunk
  * comes first. To go on, ask for the first byte of the last piece. Refused: NO_ROPE_HELD, BYTE_INDEX_OUT_OF_BOUNDS. */
 ROPEY_NODISCARD ropey_status ropey_chunks_before_byte(const ropey_rope *rope, size_t byte_idx, ropey_piece *pieces,
-    size_t room,
-    size_t *count, size_t *bytes_before);
+    size_t room, size_t *count, size_t *bytes_before);
 
 /* Slices. */
 
@@ -424,8 +423,8 @@ ROPEY_NODISCARD ropey_status ropey_char_slice(const ropey_rope *rope, size_t sta
  * number is written to count. One look-up, and then a step a line. Refused: NO_ROPE_HELD, LINE_INDEX_OUT_OF_BOUNDS. */
 ROPEY_NODISCARD ropey_status ropey_lines_from(const ropey_rope *rope, size_t line_idx, ropey_slice *lines, size_t room,
     size_t *count);
-ROPEY_NODISCARD ropey_status ropey_lines_before(const ropey_rope *rope, size_t line_idx, ropey_slice *lines, size_t room,
-    size_t *count);
+ROPEY_NODISCARD ropey_status ropey_lines_before(const ropey_rope *rope, size_t line_idx, ropey_slice *lines,
+    size_t room, size_t *count);
 
 /* Copies and comparisons. */
 
@@ -453,7 +452,8 @@ ROPEY_NODISCARD ropey_status ropey_builder_new(uint32_t break_set, ropey_builder
  * Refused: NO_BUILDER_HELD, what an earlier append was refused for, which leaves valid as it was, INVALID_UTF8 once four bytes
  * follow that are no text, which writes to valid how many bytes of all that was given are text, TOO_LONG, OUT_OF_MEMORY. After
  * a refusal every later call is refused for the same reason. */
-ROPEY_NODISCARD ropey_status ropey_builder_append(ropey_builder *builder, const uint8_t *bytes, size_t len, size_t *valid);
+ROPEY_NODISCARD ropey_status ropey_builder_append(ropey_builder *builder, const uint8_t *bytes, size_t len,
+    size_t *valid);
 
 /* Makes the rope, with as few chunks as ropey_from_text. Afterwards the handle holds no builder, refused or not.
  * Refused: NO_BUILDER_HELD, what an append was refused for, which leaves valid as it was, INVALID_UTF8 where bytes are left
@@ -478,8 +478,8 @@ ROPEY_NODISCARD ropey_status ropey_changes_of_edits(size_t len, const ropey_edit
 /* Adds a replacement after the last one: of the characters from start up to end of the text before the changes by a text.
  * Refused: NO_CHANGES_HELD, INVALID_UTF8, CHAR_RANGE_INVALID, CHAR_RANGE_OUT_OF_BOUNDS, CHAR_RANGE_OUT_OF_ORDER, TOO_LONG,
  * OUT_OF_MEMORY. A refused call leaves the changes as they were. */
-ROPEY_NODISCARD ropey_status ropey_changes_replace(ropey_changes *changes, size_t start, size_t end, const uint8_t *text,
-    size_t len);
+ROPEY_NODISCARD ropey_status ropey_changes_replace(ropey_changes *changes, size_t start, size_t end,
+    const uint8_t *text, size_t len);
 
 /* Frees the changes, if there are any. Afterwards the handle holds none. */
 void ropey_changes_free(ropey_changes *changes);
@@ -510,13 +510,14 @@ ROPEY_NODISCARD ropey_status ropey_changes_compose(const ropey_changes *changes,
  * the text of the changes comes first for ROPEY_BEFORE, and the text of over for ROPEY_AFTER. If each of two changes is
  * rebased over the other, with opposite sides, both orders lead to the same text.
  * Refused: NO_CHANGES_HELD, UNKNOWN_SIDE, LENGTHS_DIFFER, TOO_LONG, OUT_OF_MEMORY. */
-ROPEY_NODISCARD ropey_status ropey_changes_rebase(const ropey_changes *changes, const ropey_changes *over, uint32_t side,
-    ropey_changes *rebased);
+ROPEY_NODISCARD ropey_status ropey_changes_rebase(const ropey_changes *changes, const ropey_changes *over,
+    uint32_t side, ropey_changes *rebased);
 
 /* The index in the text after the changes of a character, or of the end, of the text before them. Where text is inserted at
  * the index, the result is on the given side of that text. An index inside a replaced range, past its start, goes to the end
  * of the new text. Refused: NO_CHANGES_HELD, UNKNOWN_SIDE, CHAR_INDEX_OUT_OF_BOUNDS. */
-ROPEY_NODISCARD ropey_status ropey_changes_map(const ropey_changes *changes, size_t char_idx, uint32_t side, size_t *moved);
+ROPEY_NODISCARD ropey_status ropey_changes_map(const ropey_changes *changes, size_t char_idx, uint32_t side,
+    size_t *moved);
 
 /* Moves each of the indices as ropey_changes_map does, or none of them: in one pass where they ascend.
  * Refused: NO_CHANGES_HELD, UNKNOWN_SIDE, CHAR_INDEX_OUT_OF_BOUNDS. */
@@ -534,65 +535,65 @@ ROPEY_NODISCARD ropey_status ropey_changes_edits(const ropey_changes *changes, r
 size_t ropey_text_valid_len(const uint8_t *text, size_t len);
 
 /* How much text there is. Refused: UNKNOWN_BREAK_SET, INVALID_UTF8. */
-ROPEY_NODISCARD ropey_status ropey_text_counts(const uint8_t *text, size_t len, uint32_t break_set, ropey_counts *counts);
+ROPEY_NODISCARD ropey_status ropey_text_counts(const uint8_t *text, size_t len, uint32_t break_set,
+    ropey_counts *counts);
 
 /* Conversions in a text. An index past the end stands for the end. A byte or a code unit inside a character stands for that
  * character. Refused: UNKNOWN_BREAK_SET where a set is given, INVALID_UTF8. */
-ROPEY_NODISCARD ropey_status ropey_text_byte_to_char(const uint8_t *text, size_t len, size_t byte_idx, size_t *char_idx);
-ROPEY_NODISCARD ropey_status ropey_text_byte_to_line(const uint8_t *text, size_t len, uint32_t break_set, size_t byte_idx,
-    size_t *line_idx);
-ROPEY_NODISCARD ropey_status ropey_text_char_to_byte(const uint8_t *text, size_t len, size_t char_idx, size_t *byte_idx);
-ROPEY_NODISCARD ropey_status ropey_text_char_to_line(const uint8_t *text, size_t len, uint32_t break_set, size_t char_idx,
-    size_t *line_idx);
-ROPEY_NODISCARD ropey_status ropey_text_char_to_utf16(const uint8_t *text, size_t len, size_t char_idx, size_t *utf16_idx);
-ROPEY_NODISCARD ropey_status ropey_text_utf16_to_char(const uint8_t *text, size_t len, size_t utf16_idx, size_t *char_idx);
-ROPEY_NODISCARD ropey_status ropey_text_line_to_byte(const uint8_t *text, size_t len, uint32_t break_set, size_t line_idx,
-    size_t *byte_idx);
-ROPEY_NODISCARD ropey_status ropey_text_line_to_char(const uint8_t *text, size_t len, uint32_t break_set, size_t line_idx,
+ROPEY_NODISCARD ropey_status ropey_text_byte_to_char(const uint8_t *text, size_t len, size_t byte_idx,
     size_t *char_idx);
+ROPEY_NODISCARD ropey_status ropey_text_byte_to_line(const uint8_t *text, size_t len, uint32_t break_set,
+    size_t byte_idx, size_t *line_idx);
+ROPEY_NODISCARD ropey_status ropey_text_char_to_byte(const uint8_t *text, size_t len, size_t char_idx,
+    size_t *byte_idx);
+ROPEY_NODISCARD ropey_status ropey_text_char_to_line(const uint8_t *text, size_t len, uint32_t break_set,
+    size_t char_idx, size_t *line_idx);
+ROPEY_NODISCARD ropey_status ropey_text_char_to_utf16(const uint8_t *text, size_t len, size_t char_idx,
+    size_t *utf16_idx);
+ROPEY_NODISCARD ropey_status ropey_text_utf16_to_char(const uint8_t *text, size_t len, size_t utf16_idx,
+    size_t *char_idx);
+ROPEY_NODISCARD ropey_status ropey_text_line_to_byte(const uint8_t *text, size_t len, uint32_t break_set,
+    size_t line_idx, size_t *byte_idx);
+ROPEY_NODISCARD ropey_status ropey_text_line_to_char(const uint8_t *text, size_t len, uint32_t break_set,
+    size_t line_idx, size_t *char_idx);
 
-/* For bindings: calls for programs that keep counts of their own, as the Rust crate over this library does. Those with _before
- * also write how much of the text lies before the first character that they show. A line break that ends past that character
- * is not counted there. */
+/* For bindings: calls for programs that keep counts of their own, as the Rust crate over this library does. Those whose names
+ * end in _with_before also write how much of the text lies before the first character that they show. A line break that ends
+ * past that character is not counted there. */
 
 /* As ropey_char_slice, and as ropey_counts_in_chars. */
 ROPEY_NODISCARD ropey_status ropey_char_slice_with_before(const ropey_rope *rope, size_t start, size_t end,
-    ropey_slice *slice,
-    ropey_counts *before);
+    ropey_slice *slice, ropey_counts *before);
 ROPEY_NODISCARD ropey_status ropey_counts_in_chars_with_before(const ropey_rope *rope, size_t start, size_t end,
-    ropey_counts *counts,
-    ropey_counts *before);
+    ropey_counts *counts, ropey_counts *before);
 
 /* The bytes from start up to end, as ropey_char_slice gives characters. Refused: NO_ROPE_HELD, BYTE_RANGE_INVALID,
  * BYTE_RANGE_OUT_OF_BOUNDS, BYTE_RANGE_NOT_CHAR_BOUNDARY. */
 ROPEY_NODISCARD ropey_status ropey_byte_slice_with_before(const ropey_rope *rope, size_t start, size_t end,
-    ropey_slice *slice,
-    ropey_counts *before);
+    ropey_slice *slice, ropey_counts *before);
 
 /* As ropey_lines_from. */
 ROPEY_NODISCARD ropey_status ropey_lines_from_with_before(const ropey_rope *rope, size_t line_idx, ropey_slice *lines,
-    size_t room,
-    size_t *count, ropey_counts *before);
+    size_t room, size_t *count, ropey_counts *before);
 
 /* The lines from a character on: the first of them begins there, wherever its line does. To go on, ask for the character past
  * the last line. Refused: NO_ROPE_HELD, CHAR_INDEX_OUT_OF_BOUNDS. */
-ROPEY_NODISCARD ropey_status ropey_lines_from_char_with_before(const ropey_rope *rope, size_t char_idx, ropey_slice *lines,
-    size_t room,
-    size_t *count, ropey_counts *before);
+ROPEY_NODISCARD ropey_status ropey_lines_from_char_with_before(const ropey_rope *rope, size_t char_idx,
+    ropey_slice *lines, size_t room, size_t *count, ropey_counts *before);
 
 /* The chunks from one on, as far as there is room: their number is written to count, and how much of the text lies before the
  * first of them to the last three. The first is the chunk that holds a byte or a character, or the line break before a line,
  * for the first line the first chunk. For the length, or the number of lines, there are none, and all of the text lies before.
  * Refused: NO_ROPE_HELD, and the index's OUT_OF_BOUNDS where it is past the length. */
 ROPEY_NODISCARD ropey_status ropey_chunks_from_byte_with_before(const ropey_rope *rope, size_t byte_idx,
-    ropey_piece *pieces, size_t room,
-    size_t *count, size_t *bytes_before, size_t *chars_before, size_t *line_breaks_before);
+    ropey_piece *pieces, size_t room, size_t *count, size_t *bytes_before, size_t *chars_before,
+    size_t *line_breaks_before);
 ROPEY_NODISCARD ropey_status ropey_chunks_from_char_with_before(const ropey_rope *rope, size_t char_idx,
-    ropey_piece *pieces, size_t room,
-    size_t *count, size_t *bytes_before, size_t *chars_before, size_t *line_breaks_before);
+    ropey_piece *pieces, size_t room, size_t *count, size_t *bytes_before, size_t *chars_before,
+    size_t *line_breaks_before);
 ROPEY_NODISCARD ropey_status ropey_chunks_from_line_break_with_before(const ropey_rope *rope, size_t line_idx,
-    ropey_piece *pieces,
-    size_t room, size_t *count, size_t *bytes_before, size_t *chars_before, size_t *line_breaks_before);
+    ropey_piece *pieces, size_t room, size_t *count, size_t *bytes_before, size_t *chars_before,
+    size_t *line_breaks_before);
 
 /* As ropey_from_text and ropey_text_counts, of a text that is known to be UTF-8, which is their condition and is not tested. Of
  * other bytes the first makes no rope, and later calls may do anything, and the second may do anything.
