@@ -11,7 +11,7 @@
  *     ropey_free(&rope);
  *
  * System. The library, libropey.a or libropey.so.1, is for Linux on x86-64 with the instructions of x86-64-v2 (SSE 4.2,
- * POPCNT). Memory comes from the program's malloc, realloc and free.
+ * POPCNT), and on aarch64. Memory comes from the program's malloc, realloc and free.
  *
  * Versions. A program that was built with one version 1.x runs with every later 1.x: functions, numbers and structs, with
  * their fields and sizes, stay as they are. New ones may be added. The memory that a handle points to may change.
