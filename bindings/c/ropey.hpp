@@ -488,7 +488,7 @@ template <typename Policy> class basic_rope {
         return Policy::give(status);
     }
 
-    /* The chunks before the one that holds a byte, the nearest first; at most so many. */
+    /* The chunks before the one that holds a byte, at most `most` of them, the nearest first. */
     answer<std::vector<std::string_view>> chunks_before(size_t byte_idx, size_t most) const {
         std::vector<ropey_piece> pieces(most);
         std::vector<std::string_view> texts;
@@ -527,7 +527,7 @@ template <typename Policy> class basic_rope {
         return Policy::give(status, ropey::lines(&handle, status == ROPEY_OK ? line_idx : len_lines(), byte));
     }
 
-    /* The lines before one, the nearest first; at most so many. */
+    /* The lines before one, at most `most` of them, the nearest first. */
     answer<std::vector<ropey::slice>> lines_before(size_t line_idx, size_t most) const {
         std::vector<ropey_slice> list(most);
         std::vector<ropey::slice> parts;

@@ -27,7 +27,7 @@ pub struct RopeBuilder {
 }
 
 impl RopeBuilder {
-    /// A builder that was given nothing.
+    /// Returns a builder of an empty rope.
     ///
     /// ```
     /// assert_eq!(ropey::RopeBuilder::new().finish(), "");
@@ -49,7 +49,7 @@ impl RopeBuilder {
         RopeBuilder { rope: Rope::new_with(breaks), text: String::new() }
     }
 
-    /// Gives the builder the text that follows.
+    /// Appends the text that follows.
     ///
     /// ```
     /// let mut builder = ropey::RopeBuilder::new();
@@ -65,7 +65,7 @@ impl RopeBuilder {
         }
     }
 
-    /// The rope of all that the builder was given.
+    /// Returns the rope of all the texts that were appended.
     ///
     /// ```
     /// let mut builder = ropey::RopeBuilder::new();

@@ -65,7 +65,7 @@ macro_rules! asked {
 
 /// Making, reading and writing.
 impl Rope {
-    /// An empty rope.
+    /// Returns an empty rope.
     ///
     /// ```
     /// assert_eq!(ropey::Rope::new().len_lines(), 1);
@@ -87,7 +87,7 @@ impl Rope {
         Rope::from_str_with("", breaks)
     }
 
-    /// A rope of a copy of the text.
+    /// Returns a rope of a copy of the text.
     ///
     /// ```
     /// assert_eq!(ropey::Rope::from_str("one\ntwo").len_lines(), 2);
@@ -113,11 +113,11 @@ impl Rope {
         Rope { root, instance: Instance::default() }
     }
 
-    /// A rope of all that the reader gives, which has to be UTF-8.
+    /// Returns a rope of all that the reader gives, which has to be UTF-8.
     ///
     /// # Errors
     ///
-    /// The reader's first error, an interruption among them, and `InvalidData` where the bytes are not UTF-8.
+    /// The reader's first error, an interruption among them, and `InvalidData` if the bytes are not UTF-8.
     ///
     /// ```
     /// let rope = ropey::Rope::from_reader(&b"one\ntwo"[..])?;
@@ -179,7 +179,7 @@ impl Rope {
         line_breaks() -> LineBreaks [root.breaks], "line_breaks(), ropey::LineBreaks::default()";
     }
 
-    /// How many bytes of text the rope's chunks have room for, those that it shares among them.
+    /// Returns how many bytes of text the rope's chunks have room for, including those that it shares.
     ///
     /// ```
     /// assert!(ropey::Rope::from_str("one").capacity() >= 3);
@@ -188,7 +188,7 @@ impl Rope {
         self.chunks().count() * MAX_BYTES
     }
 
-    /// Cuts the text into as few chunks as it can be. It shares none of them with its clones then.
+    /// Cuts the text into as few chunks as possible. The rope then shares none of them with its clones.
     ///
     /// ```
     /// let mut rope = ropey::Rope::from_str(&"one ".repeat(1000));
@@ -201,7 +201,7 @@ impl Rope {
         self.root.shrink_to_fit();
     }
 
-    /// Whether one of the two is a clone of the other, or both are clones of a third, and neither was edited since. Then
+    /// Returns whether one of the two is a clone of the other, or both are clones of a third, and neither was edited since. Then
     /// their texts are equal. Takes constant time.
     ///
     /// ```
@@ -222,7 +222,7 @@ impl Rope {
     ///
     /// # Panics
     ///
-    /// Where the index is past the end.
+    /// If the index is past the end.
     ///
     /// ```
     /// let mut rope = ropey::Rope::from_str("one three");
@@ -238,7 +238,7 @@ impl Rope {
     ///
     /// # Panics
     ///
-    /// Where the index is past the end.
+    /// If the index is past the end.
     ///
     /// ```
     /// let mut rope = ropey::Rope::from_str("nave");
@@ -250,11 +250,11 @@ impl Rope {
         self.try_insert_char(char_idx, ch).unwrap_or_else(|error| refuse(error))
     }
 
-    /// Takes a range of characters out.
+    /// Removes a range of characters.
     ///
     /// # Panics
     ///
-    /// Where the range starts past its end, or reaches past the text's.
+    /// If the range starts past its end, or reaches past the text's.
     ///
     /// ```
     /// let mut rope = ropey::Rope::from_str("one two");
@@ -266,11 +266,11 @@ impl Rope {
         self.try_remove(char_range).unwrap_or_else(|error| refuse(error))
     }
 
-    /// Keeps the characters before an index, and answers a rope of the others.
+    /// Splits the text at an index: keeps the characters before it, and returns a rope of the others.
     ///
     /// # Panics
     ///
-    /// Where the index is past the end.
+    /// If the index is past the end.
     ///
     /// ```
     /// let mut rope = ropey::Rope::from_str("one two");
@@ -306,7 +306,7 @@ impl Rope {
         }
     }
 
-    /// What [`insert`](Self::insert) does, refused where the index is past the end. Then the rope is as it was.
+    /// Does what [`insert`](Self::insert) does, or returns an error if the index is past the end. The rope is then as it was.
     ///
     /// ```
     /// let mut rope = ropey::Rope::from_str("one");
@@ -324,7 +324,7 @@ impl Rope {
         Ok(())
     }
 
-    /// What [`insert_char`](Self::insert_char) does, refused where the index is past the end. Then the rope is as it was.
+    /// Does what [`insert_char`](Self::insert_char) does, or returns an error if the index is past the end. The rope is then as it was.
     ///
     /// ```
     /// let mut rope = ropey::Rope::from_str("one");
@@ -339,7 +339,7 @@ impl Rope {
         Ok(())
     }
 
-    /// What [`remove`](Self::remove) does, refused where the range is not in range. Then the rope is as it was.
+    /// Does what [`remove`](Self::remove) does, or returns an error if the range is out of bounds. The rope is then as it was.
     ///
     /// ```
     /// let mut rope = ropey::Rope::from_str("one");
@@ -362,7 +362,7 @@ impl Rope {
         Ok(())
     }
 
-    /// What [`split_off`](Self::split_off) does, refused where the index is past the end. Then the rope is as it was.
+    /// Does what [`split_off`](Self::split_off) does, or returns an error if the index is past the end. The rope is then as it was.
     ///
     /// ```
     /// let mut rope = ropey::Rope::from_str("one");

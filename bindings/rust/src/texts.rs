@@ -21,7 +21,7 @@ macro_rules! rope_of_texts {
             }
 
             impl<$($life)?> FromIterator<$text> for Rope {
-                /// A rope of the texts, one behind another.
+                /// Returns a rope of the texts, one after another.
                 fn from_iter<T: IntoIterator<Item = $text>>(texts: T) -> Rope {
                     let mut builder = RopeBuilder::new();
                     texts.into_iter().for_each(|text| builder.append(&text));

@@ -1,7 +1,7 @@
 //! Cursors over a text's bytes, characters, lines and chunks.
 //!
-//! A cursor stands between two items, or at an end of the text. `next` passes the item ahead of it, and `prev` the one
-//! behind it, so that either takes back what the other did; at an end both answer none, and may be called again. Turned
+//! A cursor stands between two items, or at an end of the text. `next` passes the item after it, and `prev` the one
+//! before it, so that either takes back what the other did; at an end they return `None`, and may be called again. Turned
 //! round by `reverse`, a cursor goes back on `next`, from where it stands.
 //!
 //! A cursor fetches one line or three chunks at first and after a turn. Each further fetch has four times as many lines, up
