@@ -1,30 +1,78 @@
 #!/usr/bin/env bash
 # Builds the library for C: one archive, with nothing else to link.
 #
-#     scripts/build_c_library.sh [ARCHIVE]
+#     scripts/build_c_library.sh [--proved | --aarch64] [ARCHIVE]
 #
-# It needs `rt`, which proves the library first (and the crates below it; what was proved before in this checkout is not
-# proved again), and `ar`. The archive is crates/ropey_c/out/libropey.a, or the file that is named. What the kit's archive
-# has for memory, three functions over malloc, realloc and free, is merged into it. Beside it libropey.sources says of which
-# sources it was built. The script says what it does, and how far the proofs are.
+# It needs `rt`, a C compiler (`cc`, or the one that CC names) and binutils. The archive is crates/ropey_c/out/libropey.a, or the
+# file that is named. It has one object: what was compiled of crates/ropey_c, the kit's three functions over malloc, realloc and
+# free, and bindings/c/status_text.c. Its symbols are those of ropey.h. Beside it libropey.sources has the version and a checksum
+# of the sources, and libropey.proved the last line of the proof, which says on what it rests.
+#
+# `rt lib` proves the crate and those below it first; what was proved before in this checkout is not proved again. With --proved
+# the crates below are taken as `rt ci` left them, and the crate alone is proved over them. That is for .ci/run, right after
+# `rt ci` in a checkout that had no crates/*/out before: it trusts that these are what `rt ci` proved of the sources, and compares
+# nothing. `rt lib` takes none of them, since `rt ci` keeps their statements and not their proofs.
+#
+# With --aarch64 the archive is crates/ropey_c/out/aarch64/libropey.a, for Linux on aarch64. The crate is proved for that
+# processor. The kit has no heap for it: bindings/c/heap.c stands for its three functions. The C compiler and binutils are those
+# that begin with aarch64-linux-gnu-.
 set -euo pipefail
 
 top=$(cd "$(dirname "$0")/.." && pwd)
-archive=$(realpath -m "${1:-$top/crates/ropey_c/out/libropey.a}")
-heap=$(find "$(dirname "$(rt doc)")" -name liblibc_c.a | head -n 1)
+kit=$(dirname "$(rt doc)")
+is_proved=
+target=()
+folder=$top/crates/ropey_c/out
+heap=$kit/c/liblibc_c.a
+case "${1:-}" in
+--proved)
+    is_proved=yes
+    shift
+    ;;
+--aarch64)
+    target=(--target aarch64-unknown-linux-gnu)
+    folder=$folder/aarch64
+    heap=$top/bindings/c/heap.c
+    export CC=aarch64-linux-gnu-gcc LD=aarch64-linux-gnu-ld OBJCOPY=aarch64-linux-gnu-objcopy AR=aarch64-linux-gnu-ar
+    shift
+    ;;
+esac
+archive=$(realpath -m "${1:-$folder/libropey.a}")
 work=$(mktemp -d)
 trap 'rm -rf "$work"' EXIT
 
-echo "proving and compiling crates/ropey_c (minutes, where it isn't proved yet)"
-(cd "$top/crates/ropey_c" && rt lib 2>&1) | awk -v log_file="$work/proofs" '
-    { print > log_file }
-    /^checked .*[0-9]+ of [0-9]+$/ { if (++seen % 20 == 0) print "  " $(NF - 2) " of " $NF " functions of ropey_c proved" }
-    /^rt: (building|checking)/ { print "  " $0 }
-    { fflush() }' || { tail -n 40 "$work/proofs"; exit 1; }
-tail -n 1 "$work/proofs"
+# Writes what the proof says to a file, and of that to standard output how far it is.
+shown() {
+    awk -v log_file="$work/proofs" '
+        { print > log_file }
+        /^checked .*[0-9]+ of [0-9]+$/ { if (++seen % 20 == 0) print "  " $(NF - 2) " of " $NF " functions of ropey_c proved" }
+        /^rt: (building|checking)/ { print "  " $0 }
+        { fflush() }'
+}
 
-cp "$top/crates/ropey_c/out/libropey_c.a" "$work/libropey.a"
-(cd "$work" && ar x "$heap" && ar rs libropey.a ./*.o)
-cp "$work/libropey.a" "$archive"
+build() {
+    cd "$top/crates/ropey_c"
+    if [ -z "$is_proved" ]; then
+        rt lib "${target[@]}"
+        return
+    fi
+    local libraries=(--extern "std=$kit/rlibs/std.rlib" -L "dependency=$kit/rlibs") crate rlib
+    for crate in $("$top/scripts/find_c_library.sh" --crates); do
+        rlib=$top/crates/$crate/out/rlib/$crate.rlib
+        [ "$crate" = ropey_c ] || libraries+=(--extern "$crate=$rlib" -L "dependency=$(dirname "$rlib")")
+    done
+    mkdir -p out
+    "$kit/bin/rattle" build --crate-name ropey_c --crate-type staticlib src/lib.rt "${libraries[@]}" --links ropey_c= \
+        --antt-project "$kit/rattle/logic/antt-project.json" --logic-built "$kit/logic_built" --toolchain "$kit/toolchain" \
+        --jobs "${RT_JOBS:-$(nproc)}" -o out/libropey_c.a
+}
+
+echo "proving and compiling crates/ropey_c (minutes, where it isn't proved yet)"
+(build 2>&1) | shown || { tail -n 40 "$work/proofs"; exit 1; }
+grep '^logic=' "$work/proofs" | tail -n 1 | tee "$work/proved"
+grep -q '^logic=proved ' "$work/proved"
+
+"$top/scripts/pack_c_library.sh" "$archive" "$top/crates/ropey_c/out/libropey_c.a" "$heap"
 "$top/scripts/find_c_library.sh" --sources > "${archive%.a}.sources"
+cp "$work/proved" "${archive%.a}.proved"
 echo "built $archive"

@@ -1,5 +1,6 @@
 #!/usr/bin/env bash
-# Compares bindings/c/ropey.h with the functions, numbers, structs and version of crates/ropey_c that it declares.
+# Compares bindings/c/ropey.h with the functions, numbers, structs and version of crates/ropey_c that it declares. One function
+# is not of the crate: ropey_status_text, of bindings/c/status_text.c.
 #
 #     scripts/compare_c_header.sh
 #
@@ -47,9 +48,9 @@ from_header() {
             if (at) { inside = !inside }
         }
         print text }' "$header" > "$work/plain"
-    awk '/^(ropey_status|uint32_t|size_t|void) ropey_[a-z0-9_]*\(/ { on = 1; text = "" }
+    sed 's/^ROPEY_NODISCARD //' "$work/plain" | awk '/^(ropey_status|uint32_t|size_t|void) ropey_[a-z0-9_]*\(/ { on = 1; text = "" }
         on { sub(/^ +/, ""); text = text (text == "" ? "" : " ") $0 }
-        on && /;$/ { print text; on = 0 }' "$work/plain" |
+        on && /;$/ { print text; on = 0 }' |
         sed -E 's/^(\w+) (\w+\(.*\));$/\2 \1/; s/\) ropey_status$/) status/'
     sed -nE 's/^ +(ROPEY_\w+) = ([0-9]+),? *$/\1 = \2/p' "$work/plain"
     awk '/^typedef struct \{/ { on = 1; text = ""; next }

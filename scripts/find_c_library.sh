@@ -2,15 +2,16 @@
 # Prints where an archive libropey.a lies that was built of the sources as they stand, or fails.
 #
 #     scripts/find_c_library.sh            # the archive's path
-#     scripts/find_c_library.sh --sources  # the checksum of the sources that an archive is made of
+#     scripts/find_c_library.sh --crates   # ropey_c and all crates that it stands on
+#     scripts/find_c_library.sh --sources  # the version, and a checksum of the sources that an archive is made of
 #
 # An archive is looked for in the folder that ROPEY_LIB_DIR names, where scripts/build_c_library.sh leaves it, and where
-# pkg-config finds it. Beside it lies libropey.sources, with the checksum of the sources that it was built of.
+# pkg-config finds it. Beside it lies libropey.sources, with the version and the checksum of the sources that it was built of.
 set -euo pipefail
 cd "$(dirname "$0")/.."
 
-# The code of ropey_c and of all crates that it stands on.
-sources() {
+# ropey_c and all crates of this repository that it stands on.
+crates() {
     awk -F: '
         { split($1, name, " "); below[name[1]] = $2 }
         END {
@@ -22,11 +23,23 @@ sources() {
                     if (!seen[names[count]]) list[++last] = names[count]
             }
         }' crates.txt | sort | while read -r crate; do
-        if [ -d "crates/$crate" ]; then find "crates/$crate/src" -name '*.rt' | sort; fi
+        if [ -d "crates/$crate" ]; then echo "$crate"; fi
     done
 }
 
-sum=$(sources | xargs cat | sha256sum | cut -c1-16)
+# Their code, and what is compiled from C.
+sources() {
+    crates | while read -r crate; do find "crates/$crate/src" -name '*.rt' | sort; done
+    echo bindings/c/status_text.c
+}
+
+if [ "${1:-}" = --crates ]; then
+    crates
+    exit
+fi
+
+version=$(sed -n 's/^#define ROPEY_VERSION "\(.*\)"$/\1/p' bindings/c/ropey.h)
+sum="$version $(sources | xargs cat | sha256sum | cut -c1-16)"
 if [ "${1:-}" = --sources ]; then
     echo "$sum"
     exit

@@ -3,9 +3,10 @@
 #
 #     [DESTDIR=STAGE] scripts/install_c_library.sh PREFIX
 #
-# It builds the archive first (scripts/build_c_library.sh; `rt`, `ar` and a C compiler are needed), and leaves below PREFIX
-# what scripts/place_c_library.sh places, and LICENSE and LICENSE-ropey in share/licenses/ropey. With DESTDIR the files are
-# written below STAGE/PREFIX, for a package that unpacks them at PREFIX.
+# It takes the archive that scripts/find_c_library.sh finds, or else builds one (scripts/build_c_library.sh), for which `rt` and
+# binutils are needed. A C compiler is needed in any case. It leaves below PREFIX what scripts/place_c_library.sh places, and
+# LICENSE and LICENSE-ropey in share/licenses/ropey. With DESTDIR the files are written below STAGE/PREFIX, for a package that
+# unpacks them at PREFIX.
 #
 #     cc editor.c $(pkg-config --cflags --libs ropey)
 #     find_package(ropey) and target_link_libraries(editor ropey::ropey) in CMakeLists.txt
@@ -15,14 +16,20 @@ top=$(cd "$(dirname "$0")/.." && pwd)
 prefix=$(realpath -m "${1:?the folder to install below}")
 folder=$(realpath -m "${DESTDIR:-}$prefix")
 
-for tool in rt ar "${CC:-cc}"; do
+tools=("${CC:-cc}")
+archive=$("$top/scripts/find_c_library.sh") || tools+=(rt ar ld objcopy)
+for tool in "${tools[@]}"; do
     command -v "$tool" > /dev/null || {
-        echo "install_c_library.sh: $tool is not found. rt comes with the Rattle kit, ar with binutils." >&2
+        echo "install_c_library.sh: $tool is not found. rt comes with the Rattle kit, which is no part of this repository" \
+            "(README.md), and ar, ld and objcopy with binutils. A release needs none of them." >&2
         exit 1
     }
 done
 mkdir -p "$folder/lib" "$folder/share/licenses/ropey"
-"$top/scripts/build_c_library.sh" "$folder/lib/libropey.a"
-"$top/scripts/place_c_library.sh" "$folder/lib/libropey.a" "$folder"
+if [ -z "$archive" ]; then
+    archive=$folder/lib/libropey.a
+    "$top/scripts/build_c_library.sh" "$archive"
+fi
+"$top/scripts/place_c_library.sh" "$archive" "$folder"
 cp "$top/LICENSE" "$top/LICENSE-ropey" "$folder/share/licenses/ropey"
 echo "installed ropey $(sed -n 's/^#define ROPEY_VERSION "\(.*\)"$/\1/p' "$top/bindings/c/ropey.h") below $folder"

@@ -1,18 +1,28 @@
 #!/usr/bin/env bash
 # Makes a release: one file with the library for C, C++ and Rust programs, which need neither `rt` nor this repository.
 #
-#     scripts/make_release.sh VERSION [FOLDER]
+#     scripts/make_release.sh [--aarch64] VERSION [FOLDER]
 #
 # It leaves ropey-VERSION-x86_64-linux.tar.gz in FOLDER, or in the folder out of the repository, once
 # scripts/test_release.sh has passed over it. VERSION is the one that bindings/c/ropey.h has. The archive is the one that
 # scripts/find_c_library.sh finds, or a new one (scripts/build_c_library.sh). A C compiler and GNU tar are needed. The same
 # commit, archive and compiler make the same file.
+#
+# With --aarch64 the file is ropey-VERSION-aarch64-linux.tar.gz, for C and C++ programs alone.
 set -euo pipefail
 
 top=$(cd "$(dirname "$0")/.." && pwd)
+processor=x86_64
+glibc=2.14
+if [ "${1:-}" = --aarch64 ]; then
+    processor=aarch64
+    glibc=2.17
+    export CC=aarch64-linux-gnu-gcc
+    shift
+fi
 version=${1:?the version of the release}
 folder=$(realpath -m "${2:-$top/out}")
-name=ropey-$version-x86_64-linux
+name=ropey-$version-$processor-linux
 work=$(mktemp -d)
 trap 'rm -rf "$work"' EXIT
 
@@ -20,19 +30,30 @@ if ! grep -qxF "#define ROPEY_VERSION \"$version\"" "$top/bindings/c/ropey.h"; t
     echo "make_release.sh: bindings/c/ropey.h has another version than $version" >&2
     exit 1
 fi
-if ! archive=$("$top/scripts/find_c_library.sh"); then
+if [ $processor = aarch64 ]; then
+    archive=$top/crates/ropey_c/out/aarch64/libropey.a
+    if [ "$(cat "${archive%.a}.sources" 2> /dev/null)" != "$("$top/scripts/find_c_library.sh" --sources)" ]; then
+        "$top/scripts/build_c_library.sh" --aarch64
+    fi
+elif ! archive=$("$top/scripts/find_c_library.sh"); then
     "$top/scripts/build_c_library.sh"
     archive=$top/crates/ropey_c/out/libropey.a
 fi
 
 mkdir -p "$work/$name/rust" "$folder"
 "$top/scripts/place_c_library.sh" "$archive" "$work/$name"
-for file in Cargo.toml Cargo.lock build.rs rustfmt.toml LICENSE LICENSE-ropey src examples tests; do
+for file in Cargo.toml README.md build.rs rustfmt.toml LICENSE LICENSE-ropey src examples tests; do
     cp -r "$top/bindings/rust/$file" "$work/$name/rust"
 done
-cp "$archive" "$work/$name/rust"
+cp "$archive" "${archive%.a}.sources" "$work/$name/rust"
 cp "$top/LICENSE" "$top/LICENSE-ropey" "$work/$name"
-sed "s/@VERSION@/$version/g" "$top/bindings/release/README.md" > "$work/$name/README.md"
+# What is for x86-64 alone stands between lines of @x86_64@.
+drop='/@x86_64@/d'
+if [ $processor = aarch64 ]; then
+    drop='/@x86_64@/,/@x86_64@/d'
+    rm -r "$work/$name/rust"
+fi
+sed "$drop; s/@VERSION@/$version/g; s/@PROCESSOR@/$processor/g; s/@GLIBC@/$glibc/" "$top/bindings/release/README.md" > "$work/$name/README.md"
 chmod -R u=rwX,go=rX "$work/$name"
 (cd "$work/$name" && find . -type f ! -name SHA256SUMS | LC_ALL=C sort | xargs sha256sum > SHA256SUMS)
 

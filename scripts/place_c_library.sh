@@ -6,7 +6,7 @@
 # It needs a C compiler (`cc`, or the one that CC names) to link the shared object. It leaves
 #
 #     FOLDER/include/ropey.h, ropey.hpp
-#     FOLDER/lib/libropey.a, libropey.sources
+#     FOLDER/lib/libropey.a, libropey.sources, libropey.proved
 #     FOLDER/lib/libropey.so -> libropey.so.1 -> libropey.so.VERSION
 #     FOLDER/lib/pkgconfig/ropey.pc, ropey-shared.pc  for the archive, and for the shared object
 #     FOLDER/lib/cmake/ropey/ropey-config.cmake       targets ropey::ropey and ropey::shared, for the same two
@@ -27,7 +27,7 @@ trap 'rm -rf "$work"' EXIT
 
 mkdir -p "$folder/include" "$folder/lib/pkgconfig" "$folder/lib/cmake/ropey" "$folder/share/man/man3"
 cp "$header" "$top/bindings/c/ropey.hpp" "$folder/include"
-for file in "$archive" "${archive%.a}.sources"; do
+for file in "$archive" "${archive%.a}.sources" "${archive%.a}.proved"; do
     [ "$file" -ef "$folder/lib/$(basename "$file")" ] || cp "$file" "$folder/lib"
 done
 sed "s/@VERSION@/$version/" "$top/bindings/release/ropey.3" > "$folder/share/man/man3/ropey.3"

@@ -41,13 +41,35 @@ refusals="-Wl,--wrap=malloc -Wl,--wrap=realloc"
 "$cc" $strict -O2 "$here/constants.c" "$library" -o "$work/constants"
 "$work/constants"
 
-"$cc" $strict -O2 "$here/example.c" "$library" -o "$work/example"
-"$work/example" > "$work/example.stdout"
-diff "$here/example.stdout" "$work/example.stdout"
-"$cc" $strict -O2 "$here/undo.c" "$library" -o "$work/undo"
-"$work/undo" > "$work/undo.stdout"
-diff "$here/undo.stdout" "$work/undo.stdout"
+for example in example undo tree_sitter; do
+    "$cc" $strict -Wshadow -Wconversion -O2 "$here/$example.c" "$library" -o "$work/$example"
+    if [ "$example" = example ]; then
+        cp "$here/example.txt" "$work/notes.txt"
+        "$work/example" "$work/notes.txt" > "$work/printed"
+    else
+        "$work/$example" > "$work/printed"
+    fi
+    diff "$here/$example.stdout" "$work/printed"
+done
 echo 'C: the examples print what they must'
+
+# The archive's symbols are the functions of the header, and all of them can be reached by name.
+functions() { sed -nE 's/^(ROPEY_NODISCARD )?(ropey_status|uint32_t|size_t|void|const char \*) ?\*?(ropey_\w+)\(.*/\3/p' "$@"; }
+functions "$here/ropey.h" | sort > "$work/functions"
+nm --defined-only --extern-only "$library" | awk 'NF == 3 { print $3 }' | sort | diff "$work/functions" -
+
+# An installation is staged, and names the folder where it is to lie nowhere.
+DESTDIR=$work/stage "$top/scripts/install_c_library.sh" /opt/ropey > /dev/null
+for file in include/ropey.h include/ropey.hpp lib/libropey.a lib/libropey.so.1 lib/pkgconfig/ropey.pc share/licenses/ropey/LICENSE-ropey; do
+    test -e "$work/stage/opt/ropey/$file"
+done
+
+# A status that is not looked at is warned of.
+printf '#include <ropey.h>\nint main(void) { ropey_rope rope = ROPEY_NO_ROPE; ropey_insert(&rope, 0, NULL, 0); return 0; }\n' > "$work/careless.c"
+if "$cc" $strict -c "$work/careless.c" -o "$work/careless.o" 2> "$work/warnings" || ! grep -q unused-result "$work/warnings"; then
+    echo 'C: no warning tells of a status that is not looked at'
+    exit 1
+fi
 
 "$cc" $strict -O2 "$here/checksums.c" "$library" -o "$work/checksums"
 "$work/checksums" > "$work/checksums.stdout"
@@ -92,5 +114,20 @@ if ! "$cxx" --version > /dev/null 2>&1; then
     echo "C++: not tested, since there is no C++ compiler ($cxx)"
     exit 0
 fi
-"$cxx" -std=c++17 -pedantic-errors -Wall -Wextra -Werror -O2 -I"$here" "$here/wrapper.cpp" "$library" -o "$work/wrapper"
-"$work/wrapper"
+clean="-pedantic-errors -Wall -Wextra -Wshadow -Wconversion -Wsign-conversion -Werror -I$here"
+"$cxx" -std=c++17 $clean "$here/notes.cpp" "$library" -o "$work/notes"
+cp "$here/example.txt" "$work/notes.txt"
+"$work/notes" "$work/notes.txt" | diff "$here/notes.stdout" -
+cmp "$here/example.txt" "$work/notes.txt"
+for standard in c++17 c++20; do
+    "$cxx" -std=$standard $clean -O2 "$here/wrapper.cpp" "$library" -o "$work/wrapper"
+    "$work/wrapper"
+    "$cxx" -std=$standard $clean -fno-exceptions -O2 "$here/expected.cpp" "$library" -o "$work/expected"
+    "$work/expected"
+done
+
+# The classes have each call of the header that is not made for bindings.
+sed '/^\/\* For bindings:/,$d' "$here/ropey.h" > "$work/calls"
+for call in $(functions "$work/calls" | grep -vx ropey_version); do
+    grep -qw "$call" "$here/ropey.hpp" || { echo "C++: no class calls $call"; exit 1; }
+done

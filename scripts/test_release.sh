@@ -8,6 +8,7 @@
 # and tested; one line says so where there is none of these sources. There is no `rt` on the PATH, and nothing is
 # fetched. A C compiler is needed (`cc`, or the one that CC names). Where there is no C++ compiler, pkg-config, CMake or
 # cargo, what needs it isn't tried; the last line says what passed. The status is 0 where each program printed what it must.
+# Programs of a release for aarch64 are compiled by aarch64-linux-gnu-gcc and run by qemu-aarch64.
 set -euo pipefail
 
 top=$(cd "$(dirname "$0")/.." && pwd)
@@ -30,6 +31,13 @@ if [ "$file" = --built ]; then
     exit 0
 fi
 
+run=()
+if [[ $(basename "$file") == *-aarch64-* ]]; then
+    cc=aarch64-linux-gnu-gcc
+    cxx=aarch64-linux-gnu-g++
+    run=(qemu-aarch64 -L /usr/aarch64-linux-gnu)
+fi
+
 # From here on there is the release alone: no library that the environment names, and no `rt`. A folder of the PATH that
 # has an `rt` is replaced by links to the other programs in it.
 unset ROPEY_LIB_DIR PKG_CONFIG_PATH LD_LIBRARY_PATH LIBRARY_PATH CPATH CMAKE_PREFIX_PATH CARGO_TARGET_DIR
@@ -48,6 +56,16 @@ if command -v rt; then
     echo 'Release: rt is still on the PATH' >&2
     exit 1
 fi
+
+# Without `rt` and an archive, the installer says in one line what is missing, and leaves nothing.
+mkdir "$work/bare"
+cp -r "$top/scripts" "$top/bindings" "$top/crates.txt" "$work/bare"
+if "$work/bare/scripts/install_c_library.sh" "$work/installed" > "$work/log" 2>&1 || [ -e "$work/installed" ] ||
+    ! grep -q '^install_c_library.sh: rt is not found' "$work/log" || [ "$(wc -l < "$work/log")" -ne 1 ]; then
+    cat "$work/log"
+    exit 1
+fi
+
 passed=C
 tar -C "$work" -xzf "$file"
 release=$(echo "$work"/ropey-*)
@@ -57,9 +75,24 @@ sed 's/^[^ ]*  //' "$release/SHA256SUMS" | diff "$work/files" -
 lib=$release/lib
 
 # The shared object exports the functions of the header, and nothing else.
-grep -oE '^(ropey_status|uint32_t|size_t|void|const char \*) ?\*?ropey_\w+\(' "$release/include/ropey.h" |
+grep -oE '^(ROPEY_NODISCARD )?(ropey_status|uint32_t|size_t|void|const char \*) ?\*?ropey_\w+\(' "$release/include/ropey.h" |
     grep -oE 'ropey_\w+\(' | tr -d '(' | sort > "$work/functions"
 nm -D --defined-only "$lib/libropey.so" | awk '{ print $3 }' | sort | diff "$work/functions" -
+
+# A program that loads it by name reaches them, the messages of statuses among them.
+if [ ${#run[@]} -eq 0 ] && python3 --version > /dev/null 2>&1; then
+    python3 - "$lib/libropey.so" <<'PYTHON'
+import ctypes, sys
+library = ctypes.CDLL(sys.argv[1])
+library.ropey_status_text.restype = ctypes.c_char_p
+handle = ctypes.c_void_p()
+status = library.ropey_from_text(b"\xff", ctypes.c_size_t(1), 2, ctypes.byref(handle))
+sys.exit(library.ropey_status_text(status) != b"the bytes are not UTF-8")
+PYTHON
+fi
+
+# What `rt lib` said of the library comes with it.
+grep -q '^logic=proved functions=' "$lib/libropey.proved"
 
 # It needs no C library that is newer than the release's README says.
 newest=$(nm -D "$lib/libropey.so" | sed -n 's/.*@GLIBC_//p' | sort -V | tail -n 1)
@@ -69,27 +102,32 @@ if [ "$(printf '%s\n' "$newest" "$glibc" | sort -V | tail -n 1)" != "$glibc" ]; 
     exit 1
 fi
 
-# Runs a program that was linked with the archive, and compares what it prints with what the program NAME must print.
+# Runs a program that was linked with the archive, and compares what it prints with what the program NAME must print. The example
+# works on a file.
 static_prints() {
-    "$2" > "$work/printed"
+    cp "$work/programs/example.txt" "$work/notes.txt"
+    "${run[@]}" "$2" "$work/notes.txt" > "$work/printed"
     diff "$work/programs/$1.stdout" "$work/printed"
 }
 
 # Does so of a program that was linked with the shared object, once the loader has found that one.
 shared_prints() {
-    LD_LIBRARY_PATH=$lib ldd "$2" > "$work/loaded"
-    grep -qE "$lib/libropey.so.1(\.|\s)" "$work/loaded" || { cat "$work/loaded"; exit 1; }
-    LD_LIBRARY_PATH=$lib static_prints "$1" "$2"
+    if [ ${#run[@]} -eq 0 ]; then
+        LD_LIBRARY_PATH=$lib ldd "$2" > "$work/loaded"
+        grep -qE "$lib/libropey.so.1(\.|\s)" "$work/loaded" || { cat "$work/loaded"; exit 1; }
+    fi
+    LD_LIBRARY_PATH=$lib QEMU_SET_ENV=LD_LIBRARY_PATH=$lib static_prints "$1" "$2"
 }
 
 # The programs lie apart from the headers of the repository.
 mkdir "$work/programs"
-cp "$top"/bindings/c/{example,undo}.{c,stdout} "$top/bindings/c/wrapper.cpp" "$work/programs"
+cp "$top"/bindings/c/{example,undo,tree_sitter}.{c,stdout} "$top"/bindings/c/{example.txt,notes.stdout,{notes,wrapper,expected}.cpp} "$work/programs"
 echo 'C++: as it must be' > "$work/programs/wrapper.stdout"
+echo 'C++ without exceptions: as it must be' > "$work/programs/expected.stdout"
 cd "$work/programs"
 
 strict=(-std=c11 -pedantic -Wall -Wextra -Werror "-I$release/include")
-for program in example undo; do
+for program in example undo tree_sitter; do
     "$cc" "${strict[@]}" "$program.c" "$lib/libropey.a" -o "$work/static"
     static_prints "$program" "$work/static"
     "$cc" "${strict[@]}" "$program.c" -L"$lib" -lropey -o "$work/shared"
@@ -97,10 +135,14 @@ for program in example undo; do
 done
 
 if "$cxx" --version > /dev/null 2>&1; then
-    "$cxx" -std=c++17 -I"$release/include" wrapper.cpp "$lib/libropey.a" -o "$work/static"
-    static_prints wrapper "$work/static"
-    "$cxx" -std=c++17 -I"$release/include" wrapper.cpp -L"$lib" -lropey -o "$work/shared"
-    shared_prints wrapper "$work/shared"
+    for program in notes wrapper; do
+        "$cxx" -std=c++17 -I"$release/include" "$program.cpp" "$lib/libropey.a" -o "$work/static"
+        static_prints "$program" "$work/static"
+        "$cxx" -std=c++17 -I"$release/include" "$program.cpp" -L"$lib" -lropey -o "$work/shared"
+        shared_prints "$program" "$work/shared"
+    done
+    "$cxx" -std=c++17 -fno-exceptions -I"$release/include" expected.cpp "$lib/libropey.a" -o "$work/static"
+    static_prints expected "$work/static"
     passed+=', C++'
 fi
 
@@ -114,7 +156,7 @@ if pkg-config --version > /dev/null 2>&1; then
     passed+=', pkg-config'
 fi
 
-if cmake --version > /dev/null 2>&1 && "$cxx" --version > /dev/null 2>&1; then
+if [ ${#run[@]} -eq 0 ] && cmake --version > /dev/null 2>&1 && "$cxx" --version > /dev/null 2>&1; then
     cat > CMakeLists.txt <<'CMAKE'
 cmake_minimum_required(VERSION 3.16)
 project(editor C CXX)
@@ -137,7 +179,7 @@ CMAKE
     passed+=', CMake'
 fi
 
-if cargo --version > /dev/null 2>&1; then
+if [ -d "$release/rust" ] && cargo --version > /dev/null 2>&1; then
     mkdir "$work/rust"
     cd "$work/rust"
     { cargo new --quiet --vcs none notes && cd notes && cargo add --quiet --offline ropey --path "$release/rust" &&

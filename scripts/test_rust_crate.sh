@@ -3,12 +3,12 @@
 #
 #     scripts/test_rust_crate.sh [--built]
 #
-# With --built it takes the archive that scripts/find_c_library.sh finds, and says so in one line where there is none of these
-# sources.
-# It needs `cargo`, and the archive libropey.a: in the folder that ROPEY_LIB_DIR names, or as `pkg-config` finds it, or where
-# scripts/build_c_library.sh leaves it. Nothing is fetched, and nothing is left in the checkout. The tests run for each set of
-# line breaks, and with ropes that are shared between threads. Where there is no cargo, one line says so. The status is 0
-# where all tests pass.
+# It needs `cargo`, and the archive libropey.a: in the folder that ROPEY_LIB_DIR names, where scripts/build_c_library.sh leaves
+# it, or as `pkg-config` finds it. With --built it takes the archive that scripts/find_c_library.sh finds, and says so in one
+# line where there is none of these sources. Nothing is fetched, and nothing is left in the checkout. The tests run for each set
+# of line breaks that the features choose, and without the lock. Then the crate stands in ropey's place in a workspace, as a
+# member of one, and as a package; and a build for another platform, or over an archive of another version, has to fail. Where
+# there is no cargo, one line says so. The status is 0 where all is as it must be.
 set -euo pipefail
 
 top=$(cd "$(dirname "$0")/.." && pwd)
@@ -24,23 +24,41 @@ if [ "${1:-}" = --built ]; then
         echo 'Rust crate: not tested, since no archive is built of these sources (scripts/build_c_library.sh)'
         exit 0
     fi
-    ROPEY_LIB_DIR=$(dirname "$library")
-    export ROPEY_LIB_DIR
+    folder=$(dirname "$library")
+elif [ -n "${ROPEY_LIB_DIR:-}" ]; then
+    folder=$ROPEY_LIB_DIR
+elif [ -f "$top/crates/ropey_c/out/libropey.a" ]; then
+    folder=$top/crates/ropey_c/out
+else
+    folder=$(pkg-config --variable=libdir ropey)
 fi
+folder=$(realpath "$folder")
+unset ROPEY_LIB_DIR PKG_CONFIG_PATH CARGO_TARGET_DIR
 
 # The crate is to stay thin: code alone, without comments and blank lines.
 lines=$(find "$crate/src" "$crate/build.rs" -name '*.rs' -print0 | xargs -0 cat | grep -cvE '^[[:space:]]*(//|$)')
-if [ "$lines" -gt 2300 ]; then
-    echo "Rust crate: $lines lines of code, more than 2300"
+if [ "$lines" -gt 2600 ]; then
+    echo "Rust crate: $lines lines of code, more than 2600"
     exit 1
 fi
+
+# Each public function has an example, of its own or by its macro.
+find "$crate/src" -name '*.rs' -print0 | xargs -0 awk '
+    FNR == 1 { has = 0 }
+    /^ *(\/\/\/|#\[)/ { if (/```|example!/) has = 1; next }
+    /^ *pub fn / && !has { print FILENAME ": no example: " $0; missing = 1 }
+    { has = 0 }
+    END { exit missing }'
 
 work=$(mktemp -d)
 trap 'rm -rf "$work"' EXIT
 mkdir -p "$work/bindings" "$work/crates/ropey_c"
 cp -r "$crate" "$work/bindings/rust"
-ln -s "$top/crates/ropey_c/out" "$work/crates/ropey_c/out"
+rm -rf "$work/bindings/rust/target"
+ln -s "$folder" "$work/crates/ropey_c/out"
 cd "$work/bindings/rust"
+# Tests compare with plain texts, which is slow work.
+export CARGO_PROFILE_TEST_OPT_LEVEL=1
 
 # Runs the tests with some flags, and says how many passed.
 try() {
@@ -56,38 +74,89 @@ try() {
     echo "Rust crate, $name: $((passed)) tests passed"
 }
 
-echo "Rust crate: $lines lines of code"
-try "Unicode's line breaks"
-try 'LF, CR and CR LF' --no-default-features --features cr_lines
-try 'LF alone' --no-default-features
-try 'shared between threads' --features threads
+# Runs a command that has to succeed without a warning, or says what it was to show.
+must() {
+    local name=$1
+    shift
+    if ! "$@" > "$work/said" 2> "$work/log" || grep '^warning' "$work/log" | grep -qv 'manifest has no documentation'; then
+        tail -n 60 "$work/said" "$work/log"
+        echo "Rust crate, $name: FAILED"
+        exit 1
+    fi
+}
 
-# A workspace whose member asks for ropey 1.6 is served by a patch.
-mkdir -p "$work/editor/app/src"
-cat > "$work/editor/Cargo.toml" <<TOML
+# Runs a command that has to fail with a text.
+must_fail() {
+    local name=$1 text=$2
+    shift 2
+    if "$@" > "$work/log" 2>&1 || ! grep -q "$text" "$work/log"; then
+        tail -n 60 "$work/log"
+        echo "Rust crate, $name: FAILED"
+        exit 1
+    fi
+}
+
+echo "Rust crate: $lines lines of code"
+try "Unicode's line breaks, and the examples"
+try 'LF, CR and CR LF' --tests --no-default-features --features cr_lines
+try 'LF alone' --tests --no-default-features
+try 'without the lock' --tests --features single_thread
+
+# A workspace whose member asks for ropey 1.6 with its features is served by a patch; so is one that has the crate below it. Ropes
+# are Send and Sync whichever features are asked for.
+for place in "$work/bindings/rust" vendor/ropey; do
+    rm -rf "$work/editor"
+    mkdir -p "$work/editor/app/src" "$work/editor/crates/ropey_c"
+    cat > "$work/editor/Cargo.toml" <<TOML
 [workspace]
 members = ["app"]
 resolver = "2"
 [patch.crates-io]
-ropey = { path = "$work/bindings/rust" }
+ropey = { path = "$place" }
 TOML
-cat > "$work/editor/app/Cargo.toml" <<'TOML'
+    cat > "$work/editor/app/Cargo.toml" <<'TOML'
 [package]
 name = "app"
 version = "0.1.0"
 edition = "2021"
 [dependencies]
-ropey = "1.6"
+ropey = { version = "1.6", default-features = false, features = ["simd", "cr_lines"] }
 TOML
-cat > "$work/editor/app/src/main.rs" <<'RUST'
+    cat > "$work/editor/app/src/main.rs" <<'RUST'
+fn sends<T: Send + Sync + 'static>(value: T) -> T {
+    value
+}
+
 fn main() {
-    println!("{}", ropey::Rope::from_str("one\r\ntwo").len_lines());
+    let rope = sends(ropey::Rope::from_str("one\r\ntwo\u{2028}"));
+    println!("{}", std::thread::spawn(move || rope.len_lines()).join().unwrap());
 }
 RUST
-cd "$work/editor"
-if ! said=$(cargo run --quiet --offline 2> "$work/log") || [ "$said" != 2 ]; then
-    tail -n 60 "$work/log"
-    echo "Rust crate, in place of ropey 1.6: FAILED"
-    exit 1
-fi
-echo "Rust crate, in place of ropey 1.6: a workspace that patches it runs"
+    cd "$work/editor"
+    if [ "$place" = vendor/ropey ]; then
+        mkdir vendor
+        cp -r "$crate" vendor/ropey
+        rm -rf vendor/ropey/target
+        ln -s "$folder" crates/ropey_c/out
+    fi
+    must "in place of ropey 1.6 from $place" cargo run --quiet --offline
+    test "$(cat "$work/said")" = 2
+done
+echo 'Rust crate, in place of ropey 1.6: workspaces that patch it run'
+
+# The package is built from its own files.
+cd "$work/bindings/rust"
+must 'as a package' cargo package --offline --allow-dirty
+for file in Cargo.toml README.md LICENSE LICENSE-ropey build.rs src/lib.rs; do
+    cargo package --offline --allow-dirty --list 2> "$work/log" | grep -qx "$file" || { echo "Rust crate: the package has no $file"; exit 1; }
+done
+
+# Another platform is named, and an archive of another version is refused, wherever it is found.
+must_fail 'for another platform' 'this build is for linux on aarch64' cargo check --offline --target aarch64-unknown-linux-gnu
+mkdir "$work/stale"
+cp "$folder/libropey.a" "$work/stale"
+must_fail 'over an archive of no version' 'of an unknown version' env ROPEY_LIB_DIR="$work/stale" cargo check --offline
+echo '0.9.0 0123456789abcdef' > "$work/stale/libropey.sources"
+must_fail 'over an older archive' 'is 0.9.0, and this crate is for' env ROPEY_LIB_DIR="$work/stale" cargo check --offline
+must_fail 'over no archive' "ROPEY_LIB_DIR is $work, which has no libropey.a" env ROPEY_LIB_DIR="$work" cargo check --offline
+echo 'Rust crate: packed, and refused for another platform and over archives of another version'

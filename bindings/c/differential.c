@@ -464,7 +464,7 @@ static void chunks_at(pair *p) {
     typedef ropey_status one(const ropey_rope *, size_t, ropey_chunk *);
     typedef ropey_status some(const ropey_rope *, size_t, ropey_piece *, size_t, size_t *, size_t *, size_t *, size_t *);
     one *const ones[] = {ropey_chunk_at_byte, ropey_chunk_at_char, ropey_chunk_at_line_break};
-    some *const alls[] = {ropey_chunks_at_byte, ropey_chunks_at_char, ropey_chunks_at_line_break};
+    some *const alls[] = {ropey_chunks_from_byte_with_before, ropey_chunks_from_char_with_before, ropey_chunks_from_line_break_with_before};
     const model *m = &p->text;
     ropey_counts all = counts_of(m);
     size_t unit = below(3), len = unit == 0 ? all.bytes : unit == 1 ? m->len : all.line_breaks + 1, i = below(4) == 0 ? len : below(len + 2);
@@ -542,7 +542,7 @@ static void slices(pair *p) {
     if (wanted != ROPEY_OK) {
         ropey_counts none = {77, 77, 77, 77};
         CHECK(count == 77 && ropey_lines_before(&p->rope, l, found, room, &count) == wanted && count == 77);
-        CHECK(ropey_lines_from_at(&p->rope, l, found, room, &count, &none) == wanted && count == 77 && none.bytes == 77);
+        CHECK(ropey_lines_from_with_before(&p->rope, l, found, room, &count, &none) == wanted && count == 77 && none.bytes == 77);
         return;
     }
     CHECK(count == (room < lines - l ? room : lines - l));
@@ -552,7 +552,7 @@ static void slices(pair *p) {
     ropey_slice again[SLICES];
     ropey_counts before = {77, 77, 77, 77}, front = counts_before(m, start_of_line(m, l));
     memcpy(again, found, sizeof found);
-    CHECK(ropey_lines_from_at(&p->rope, l, room == 0 ? NULL : again, room, &count, &before) == ROPEY_OK);
+    CHECK(ropey_lines_from_with_before(&p->rope, l, room == 0 ? NULL : again, room, &count, &before) == ROPEY_OK);
     CHECK(count == (room < lines - l ? room : lines - l) && memcmp(again, found, count * sizeof *found) == 0);
     CHECK(memcmp(&before, &front, sizeof before) == 0);
     CHECK(ropey_lines_before(&p->rope, l, found, room, &count) == ROPEY_OK && count == (room < l ? room : l));
@@ -571,7 +571,7 @@ static void slices_at(pair *p) {
     memset(found, 0, sizeof found);
     ropey_range r = drawn_range(m->len);
     ropey_status fault = !p->held ? ROPEY_NO_ROPE_HELD : char_range_fault(m, r);
-    CHECK(ropey_char_slice_at(&p->rope, r.start, r.end, &slice, &before) == fault);
+    CHECK(ropey_char_slice_with_before(&p->rope, r.start, r.end, &slice, &before) == fault);
     CHECK(fault == ROPEY_OK || (slice.counts.bytes == 0 && before.bytes == 77));
     if (fault == ROPEY_OK) {
         see_slice(p, &slice, r.start, r.end);
@@ -580,12 +580,12 @@ static void slices_at(pair *p) {
     }
     ropey_counts counts = {77, 77, 77, 77};
     before = counts;
-    CHECK(ropey_counts_in_chars_at(&p->rope, r.start, r.end, &counts, &before) == fault);
+    CHECK(ropey_counts_in_chars_with_before(&p->rope, r.start, r.end, &counts, &before) == fault);
     CHECK(fault == ROPEY_OK ? memcmp(&counts, &slice.counts, sizeof counts) == 0 && memcmp(&before, &wanted, sizeof before) == 0
         : counts.bytes == 77 && before.bytes == 77);
     before.bytes = 77;
     fault = !p->held ? ROPEY_NO_ROPE_HELD : i > m->len ? ROPEY_CHAR_INDEX_OUT_OF_BOUNDS : ROPEY_OK;
-    CHECK(ropey_lines_at(&p->rope, i, room == 0 ? NULL : found, room, &count, &before) == fault);
+    CHECK(ropey_lines_from_char_with_before(&p->rope, i, room == 0 ? NULL : found, room, &count, &before) == fault);
     if (fault != ROPEY_OK) {
         CHECK(count == 77 && before.bytes == 77);
         return;
@@ -607,7 +607,7 @@ static void byte_slice_at(pair *p) {
     ropey_counts before = {77, 77, 77, 77};
     ropey_range r = drawn_range(counts_of(m).bytes);
     ropey_status fault = !p->held ? ROPEY_NO_ROPE_HELD : byte_range_fault(m, r);
-    CHECK(ropey_byte_slice_at(&p->rope, r.start, r.end, &slice, &before) == fault);
+    CHECK(ropey_byte_slice_with_before(&p->rope, r.start, r.end, &slice, &before) == fault);
     if (fault != ROPEY_OK) {
         CHECK(slice.counts.bytes == 0 && before.bytes == 77);
         return;

@@ -1,13 +1,14 @@
-/* A rope edited from C: each line that is printed stands beside the call that it comes from. */
+/* A small editor without a screen of its own: it loads a file, draws a few lines, edits, undoes, and saves.
+ *
+ *     example FILE */
 #include "ropey.h"
 
 #include <stdio.h>
 #include <stdlib.h>
-#include <string.h>
 
-static const uint8_t *bytes(const char *text) { return (const uint8_t *)text; }
+enum { ROWS = 4, COLUMNS = 40 };
 
-/* Ends the program where a call is refused. */
+/* Ends the program where a call fails. */
 static void expect(ropey_status status, const char *what) {
     if (status != ROPEY_OK) {
         fprintf(stderr, "%s: %s\n", what, ropey_status_text(status));
@@ -15,65 +16,116 @@ static void expect(ropey_status status, const char *what) {
     }
 }
 
-static void print(const char *label, const ropey_rope *rope) {
-    uint8_t buffer[256];
-    size_t len = 0;
-    expect(ropey_copy_chars(rope, 0, ropey_len_chars(rope), buffer, sizeof buffer, &len), "copy");
-    printf("%s: %.*s\n", label, (int)len, (const char *)buffer);
+static FILE *opened(const char *path, const char *mode) {
+    FILE *file = fopen(path, mode);
+    if (file == NULL) {
+        perror(path);
+        exit(1);
+    }
+    return file;
 }
 
-int main(void) {
-    ropey_rope rope = ROPEY_NO_ROPE, old = ROPEY_NO_ROPE, tail = ROPEY_NO_ROPE;
-    const char *text = "one\ntwo\nthr\xc3\xa9\x65\n";
-    expect(ropey_from_text(bytes(text), strlen(text), ROPEY_UNICODE, &rope), "from_text");
-    printf("bytes %zu, chars %zu, lines %zu\n", ropey_len_bytes(&rope), ropey_len_chars(&rope), ropey_len_lines(&rope));
+/* Makes a rope of a file. Its bytes come in parts, which may end inside a character. */
+static void load(const char *path, ropey_rope *rope) {
+    ropey_builder builder = ROPEY_NO_BUILDER;
+    uint8_t bytes[4096];
+    size_t len, valid = 0;
+    FILE *file = opened(path, "rb");
+    expect(ropey_builder_new(ROPEY_UNICODE, &builder), "builder_new");
+    while ((len = fread(bytes, 1, sizeof bytes, file)) > 0) {
+        ropey_status status = ropey_builder_append(&builder, bytes, len, &valid);
+        if (status == ROPEY_INVALID_UTF8) {
+            fprintf(stderr, "%s: no UTF-8 after byte %zu\n", path, valid);
+            exit(1);
+        }
+        expect(status, path);
+    }
+    if (ferror(file)) {
+        perror(path);
+        exit(1);
+    }
+    fclose(file);
+    expect(ropey_builder_finish(&builder, rope, &valid), path);
+}
 
-    ropey_range line;
-    expect(ropey_line(&rope, 1, &line), "line");
-    printf("line 1: %zu to %zu\n", line.start, line.end);
+/* Draws lines from one on, each as far as it fits in a row, without its line break. */
+static void draw(const ropey_rope *rope, size_t first) {
+    ropey_slice lines[ROWS];
+    size_t count, start;
+    expect(ropey_lines_from(rope, first, lines, ROWS, &count), "lines_from");
+    expect(ropey_line_to_char(rope, first, &start), "line_to_char");
+    for (size_t i = 0; i < count; i++) {
+        uint8_t row[4 * COLUMNS];
+        size_t line_break, len;
+        expect(ropey_line_break(rope, first + i, &line_break), "line_break");
+        size_t shown = lines[i].counts.chars - line_break;
+        if (shown > COLUMNS) {
+            shown = COLUMNS;
+        }
+        expect(ropey_copy_chars(rope, start, start + shown, row, sizeof row, &len), "copy_chars");
+        printf("%4zu  %.*s\n", first + i + 1, (int)len, (const char *)row);
+        start += lines[i].counts.chars;
+    }
+    printf("      %zu lines, %zu characters\n", ropey_len_lines(rope), ropey_len_chars(rope));
+}
 
-    expect(ropey_clone(&rope, &old), "clone");
-    expect(ropey_remove(&rope, line.start, line.end), "remove");
-    expect(ropey_insert(&rope, line.start, bytes("2, "), 3), "insert");
-    expect(ropey_insert_char(&rope, ropey_len_chars(&rope), 0x1F600), "insert_char");
-    print("edited", &rope);
-    print("clone", &old);
+/* Makes edits, all or none, and leaves in undo the changes that take them back. */
+static void edit(ropey_rope *rope, const ropey_edit *edits, size_t count, ropey_changes *undo) {
+    ropey_changes changes = ROPEY_NO_CHANGES;
+    expect(ropey_changes_of_edits(ropey_len_chars(rope), edits, count, &changes), "changes_of_edits");
+    expect(ropey_changes_invert(&changes, rope, undo), "changes_invert");
+    expect(ropey_changes_apply(&changes, rope), "changes_apply");
+    ropey_changes_free(&changes);
+}
 
-    ropey_place place;
-    expect(ropey_char_to_position(&rope, ropey_len_chars(&rope), &place), "position");
-    printf("the end: line %zu, column %zu\n", place.line, place.column);
+/* Writes the text, chunk by chunk: no text is copied. */
+static void save(const char *path, const ropey_rope *rope) {
+    ropey_piece pieces[64];
+    size_t count, before, at = 0;
+    bool is_written = true;
+    FILE *file = opened(path, "wb");
+    do {
+        expect(ropey_chunks_from_byte(rope, at, pieces, 64, &count, &before), "chunks_from_byte");
+        for (size_t i = 0; i < count; i++) {
+            is_written = is_written && fwrite(pieces[i].text, 1, pieces[i].len, file) == pieces[i].len;
+            at += pieces[i].len;
+        }
+    } while (count > 0);
+    if (fclose(file) != 0 || !is_written) {
+        perror(path);
+        exit(1);
+    }
+}
 
-    ropey_chunk chunk = ROPEY_NO_CHUNK;
-    expect(ropey_chunk_at_char(&rope, 5, &chunk), "chunk");
-    printf("chunk: %zu bytes, first %c\n", chunk.len, chunk.text[0]);
+int main(int count, char **words) {
+    ropey_rope rope = ROPEY_NO_ROPE, saved = ROPEY_NO_ROPE;
+    ropey_changes undo = ROPEY_NO_CHANGES;
+    if (count != 2) {
+        fprintf(stderr, "usage: example FILE\n");
+        return 2;
+    }
+    load(words[1], &rope);
+    draw(&rope, 2);
 
-    size_t char_idx = 0, len = 0;
-    uint32_t breaks = 0;
-    bool equal = false;
-    uint8_t few[4];
-    expect(ropey_position_to_char(&rope, 1, 3, &char_idx), "position_to_char");
-    expect(ropey_get_break_set(&rope, &breaks), "get_break_set");
-    expect(ropey_equals_text(&old, bytes(text), strlen(text), &equal), "equals_text");
-    printf("char %zu, set %u, equal %d\n", char_idx, breaks, equal);
-    expect(ropey_copy_bytes(&rope, 0, 3, few, sizeof few, &len), "copy_bytes");
-    printf("%.*s, too small: %u", (int)len, (const char *)few, ropey_copy_bytes(&rope, 0, 9, few, sizeof few, &len));
-    printf(" for %zu bytes\n", len);
-    expect(ropey_chunk_at_byte(&rope, 0, &chunk), "chunk_at_byte");
-    expect(ropey_chunk_at_line_break(&rope, 1, &chunk), "chunk_at_line_break");
-    printf("before it: %zu bytes, %zu chars, %zu line breaks\n", chunk.bytes_before, chunk.chars_before, chunk.line_breaks_before);
+    /* Two carets, at the starts of the third and fourth lines: indices are those of the text before both edits. */
+    size_t third, fourth;
+    expect(ropey_line_to_char(&rope, 2, &third), "line_to_char");
+    expect(ropey_line_to_char(&rope, 3, &fourth), "line_to_char");
+    const uint8_t mark[] = {'*', ' '};
+    const ropey_edit edits[] = {{third, third, mark, sizeof mark}, {fourth, fourth, mark, sizeof mark}};
+    edit(&rope, edits, 2, &undo);
+    draw(&rope, 2);
+    save(words[1], &rope);
 
-    expect(ropey_split_off(&rope, 4, &tail), "split_off");
-    print("front", &rope);
-    expect(ropey_append(&tail, &rope), "append");
-    print("turned around", &tail);
+    expect(ropey_changes_apply(&undo, &rope), "undo");
+    draw(&rope, 2);
 
-    int32_t order = 0;
-    expect(ropey_compare(&tail, &old, &order), "compare");
-    printf("order %d\n", order);
-    printf("refused: %u %u %u %u\n", ropey_insert(&old, 99, bytes("x"), 1), ropey_insert(&old, 0, bytes("\xff"), 1),
-        ropey_insert_char(&old, 0, 0xD800), ropey_insert(&rope, 0, bytes("x"), 1));
-    ropey_free(&old);
+    int32_t order;
+    load(words[1], &saved);
+    expect(ropey_compare(&saved, &rope, &order), "compare");
+    printf("the file is %s the text\n", order == 0 ? "still" : "no longer");
+    ropey_changes_free(&undo);
+    ropey_free(&saved);
     ropey_free(&rope);
-    ropey_free(&tail);
     return 0;
 }

@@ -1,150 +1,42 @@
-/* A rope and changes for programs in C++17: the calls of ropey.h on classes that free what they hold. An error is thrown as
- * ropey::refused, out of memory as std::bad_alloc. Both classes may be moved; a rope is copied by clone() alone. Texts are
- * UTF-8. ropey.h says what each call does, and what may run at once. */
+/* Ropes, builders and changes for programs in C++17: the calls of ropey.h on classes that free what they hold. Texts are UTF-8.
+ * ropey.h says what each call does, what it costs, and what may run at once.
+ *
+ * Errors. The classes `ropey::rope`, `ropey::builder` and `ropey::changes` throw ropey::refused, and std::bad_alloc when out of
+ * memory. Those of the same names in `ropey::expected` throw nothing of their own, and are there without exceptions too: a call
+ * returns a ropey::result, which has the value or a ropey_status. A call that fails leaves its rope as it was, unless its comment
+ * says otherwise. Both kinds take memory for a std::string or a std::vector that they return as these do.
+ *
+ * Moves. The classes may be moved; a rope is copied by clone() alone. One that was moved from holds nothing: its lengths are 0, it
+ * may be assigned to, moved and destroyed, and any other call fails with ROPEY_NO_ROPE_HELD (ROPEY_NO_BUILDER_HELD,
+ * ROPEY_NO_CHANGES_HELD).
+ *
+ * Views. A std::string_view, a slice or a range of them refers to the rope's memory. It is good until the rope is edited, assigned
+ * to or destroyed, whatever happens to its clones. */
 #ifndef ROPEY_HPP
 #define ROPEY_HPP
 
 #include "ropey.h"
+#include <cstdlib>
+#include <functional>
+#include <istream>
+#include <iterator>
 #include <new>
+#include <optional>
+#include <ostream>
 #include <stdexcept>
 #include <string>
 #include <string_view>
+#include <type_traits>
 #include <utility>
 #include <vector>
 
 namespace ropey {
 
-class refused : public std::runtime_error {
-  public:
-    explicit refused(ropey_status status) : std::runtime_error(ropey_status_text(status)), status(status) {}
-    const ropey_status status;
-};
-
-inline void check(ropey_status status) {
-    if (status == ROPEY_OUT_OF_MEMORY) {
-        throw std::bad_alloc();
-    }
-    if (status != ROPEY_OK) {
-        throw refused(status);
-    }
-}
-
-inline const uint8_t *bytes_of(std::string_view text) { return reinterpret_cast<const uint8_t *>(text.data()); }
-
-inline std::string_view text_of(const uint8_t *text, size_t len) { return {reinterpret_cast<const char *>(text), len}; }
-
-class rope {
-  public:
-    rope() : rope(std::string_view()) {}
-    explicit rope(std::string_view text, ropey_break_set breaks = ROPEY_UNICODE) {
-        check(ropey_from_text(bytes_of(text), text.size(), breaks, &handle));
-    }
-    rope(rope &&other) noexcept : handle(std::exchange(other.handle, none())) {}
-    rope &operator=(rope &&other) noexcept {
-        std::swap(handle, other.handle);
-        return *this;
-    }
-    rope(const rope &) = delete;
-    rope &operator=(const rope &) = delete;
-    ~rope() { ropey_free(&handle); }
-
-    rope clone() const {
-        rope copy{none()};
-        check(ropey_clone(&handle, &copy.handle));
-        return copy;
-    }
-
-    /* Of a range of characters. */
-    rope clone(size_t start, size_t end) const {
-        rope copy{none()};
-        check(ropey_clone_chars(&handle, start, end, &copy.handle));
-        return copy;
-    }
-
-    void insert(size_t char_idx, std::string_view text) { check(ropey_insert(&handle, char_idx, bytes_of(text), text.size())); }
-    void insert_at_byte(size_t byte_idx, std::string_view text) { check(ropey_insert_at_byte(&handle, byte_idx, bytes_of(text), text.size())); }
-    void remove(size_t start, size_t end) { check(ropey_remove(&handle, start, end)); }
-    void remove_bytes(size_t start, size_t end) { check(ropey_remove_bytes(&handle, start, end)); }
-    void replace(size_t start, size_t end, std::string_view text) { check(ropey_replace(&handle, start, end, bytes_of(text), text.size())); }
-    void replace_bytes(size_t start, size_t end, std::string_view text) {
-        check(ropey_replace_bytes(&handle, start, end, bytes_of(text), text.size()));
-    }
-    void append(rope &&other) { check(ropey_append(&handle, &other.handle)); }
-    rope split_off(size_t char_idx) {
-        rope tail{none()};
-        check(ropey_split_off(&handle, char_idx, &tail.handle));
-        return tail;
-    }
-
-    size_t len_bytes() const { return ropey_len_bytes(&handle); }
-    size_t len_chars() const { return ropey_len_chars(&handle); }
-    size_t len_lines() const { return ropey_len_lines(&handle); }
-    size_t len_utf16() const { return ropey_len_utf16(&handle); }
-
-    size_t byte_to_char(size_t i) const { return asks(ropey_byte_to_char, i); }
-    size_t byte_to_line(size_t i) const { return asks(ropey_byte_to_line, i); }
-    size_t char_to_byte(size_t i) const { return asks(ropey_char_to_byte, i); }
-    size_t char_to_line(size_t i) const { return asks(ropey_char_to_line, i); }
-    size_t char_to_utf16(size_t i) const { return asks(ropey_char_to_utf16, i); }
-    size_t utf16_to_char(size_t i) const { return asks(ropey_utf16_to_char, i); }
-    size_t line_to_byte(size_t i) const { return asks(ropey_line_to_byte, i); }
-    size_t line_to_char(size_t i) const { return asks(ropey_line_to_char, i); }
-
-    /* Shows each chunk from a byte on to a function, which gets a std::string_view and answers whether to go on. */
-    template <typename Show> void each_chunk(size_t byte_idx, Show show) const {
-        ropey_piece pieces[64] = {};
-        size_t count = 0, before = 0;
-        do {
-            check(ropey_chunks_from_byte(&handle, byte_idx, pieces, 64, &count, &before));
-            byte_idx = before;
-            for (size_t i = 0; i < count; byte_idx += pieces[i++].len) {
-                if (!show(text_of(pieces[i].text, pieces[i].len))) {
-                    return;
-                }
-            }
-        } while (count == 64);
-    }
-
-    std::string text(size_t start, size_t end) const {
-        ropey_counts counts;
-        check(ropey_counts_in_chars(&handle, start, end, &counts));
-        std::string copy(counts.bytes, '\0');
-        size_t len = 0;
-        check(ropey_copy_chars(&handle, start, end, reinterpret_cast<uint8_t *>(&copy[0]), copy.size(), &len));
-        return copy;
-    }
-    std::string text() const { return text(0, len_chars()); }
-    std::string line(size_t line_idx) const {
-        ropey_range chars;
-        check(ropey_line(&handle, line_idx, &chars));
-        return text(chars.start, chars.end);
-    }
-
-    int compare(const rope &other) const {
-        int32_t order = 0;
-        check(ropey_compare(&handle, &other.handle, &order));
-        return order;
-    }
-    bool operator==(const rope &other) const { return compare(other) == 0; }
-    bool operator!=(const rope &other) const { return compare(other) != 0; }
-
-    /* The handle, for calls of ropey.h. */
-    const ropey_rope *get() const { return &handle; }
-    ropey_rope *get() { return &handle; }
-
-  private:
-    static ropey_rope none() { return ropey_rope ROPEY_NO_ROPE; }
-    explicit rope(ropey_rope held) : handle(held) {}
-    size_t asks(ropey_status (*call)(const ropey_rope *, size_t, size_t *), size_t i) const {
-        size_t answer = 0;
-        check(call(&handle, i, &answer));
-        return answer;
-    }
-    ropey_rope handle = ROPEY_NO_ROPE;
-};
-
 /* On which side of inserted text an index stays. */
 enum class side : uint32_t { before = ROPEY_BEFORE, after = ROPEY_AFTER };
+
+/* What a column counts. */
+enum class encoding : uint32_t { utf8 = ROPEY_UTF8, utf16 = ROPEY_UTF16, utf32 = ROPEY_UTF32 };
 
 /* The characters from start up to end of a text are replaced by another text. */
 struct edit {
@@ -162,82 +54,743 @@ struct replacement {
     std::string_view text;
 };
 
-/* Changes of a text of a given length: replacements of ranges, in order and apart. */
-class changes {
+/* A chunk of a rope's text, and how much of the text lies before it. */
+struct chunk {
+    std::string_view text;
+    size_t bytes_before;
+    size_t chars_before;
+    size_t line_breaks_before;
+};
+
+inline const uint8_t *bytes_of(std::string_view text) { return reinterpret_cast<const uint8_t *>(text.data()); }
+
+inline std::string_view text_of(const uint8_t *text, size_t len) { return {reinterpret_cast<const char *>(text), len}; }
+
+/* A value, or the status of a call that failed. */
+template <typename T> class [[nodiscard]] result {
   public:
-    /* Keeps all of a text of len characters. */
-    explicit changes(size_t len) { check(ropey_changes_new(len, &handle)); }
-    /* Edits in order. */
-    changes(size_t len, const std::vector<edit> &edits) : changes(len) {
-        for (const edit &next : edits) {
-            replace(next.start, next.end, next.text);
+    result(T value) : held(std::move(value)) {}
+    result(ropey_status error) : failed(error) {}
+
+    bool has_value() const { return failed == ROPEY_OK; }
+    explicit operator bool() const { return has_value(); }
+    ropey_status error() const { return failed; }
+
+    /* The value; without one, the program ends. */
+    T &value() & { return given(), *held; }
+    const T &value() const & { return given(), *held; }
+    T &&value() && { return given(), std::move(*held); }
+    T &operator*() & { return value(); }
+    const T &operator*() const & { return value(); }
+    T &&operator*() && { return std::move(*this).value(); }
+    T *operator->() { return &value(); }
+    const T *operator->() const { return &value(); }
+
+  private:
+    void given() const {
+        if (!has_value()) {
+            std::abort();
         }
     }
-    changes(changes &&other) noexcept : handle(std::exchange(other.handle, none())) {}
-    changes &operator=(changes &&other) noexcept {
-        std::swap(handle, other.handle);
+    ropey_status failed = ROPEY_OK;
+    std::optional<T> held;
+};
+
+template <> class [[nodiscard]] result<void> {
+  public:
+    result() = default;
+    result(ropey_status error) : failed(error) {}
+
+    bool has_value() const { return failed == ROPEY_OK; }
+    explicit operator bool() const { return has_value(); }
+    ropey_status error() const { return failed; }
+
+  private:
+    ropey_status failed = ROPEY_OK;
+};
+
+/* How a call that fails returns that: by a result. */
+struct by_result {
+    static constexpr bool throws = false;
+    template <typename T> using answer = result<T>;
+    static result<void> give(ropey_status status) { return status; }
+    template <typename T> static result<T> give(ropey_status status, T &&value) {
+        return status == ROPEY_OK ? result<T>(std::forward<T>(value)) : result<T>(status);
+    }
+};
+
+#if defined(__cpp_exceptions)
+class refused : public std::runtime_error {
+  public:
+    explicit refused(ropey_status why) : std::runtime_error(ropey_status_text(why)), status(why) {}
+    const ropey_status status;
+};
+
+inline void check(ropey_status status) {
+    if (status == ROPEY_OUT_OF_MEMORY) {
+        throw std::bad_alloc();
+    }
+    if (status != ROPEY_OK) {
+        throw refused(status);
+    }
+}
+
+/* How a call that fails returns that: by an exception. */
+struct by_exception {
+    static constexpr bool throws = true;
+    template <typename T> using answer = T;
+    static void give(ropey_status status) { check(status); }
+    template <typename T> static T give(ropey_status status, T &&value) {
+        check(status);
+        return std::forward<T>(value);
+    }
+};
+#endif
+
+/* The chunks of a rope's text from a byte to another. Its begin() is called once: the chunks are fetched as it goes. */
+class chunks {
+  public:
+    chunks(const ropey_rope *of, size_t from, size_t to) : rope(of), at(from), end_at(to) { fetch(); }
+
+    class iterator {
+      public:
+        using iterator_category = std::input_iterator_tag;
+        using value_type = std::string_view;
+        using difference_type = std::ptrdiff_t;
+        using pointer = const std::string_view *;
+        using reference = std::string_view;
+
+        iterator() = default;
+        explicit iterator(chunks *over) : range(over) {}
+        std::string_view operator*() const { return range->text; }
+        iterator &operator++() {
+            range->step();
+            return *this;
+        }
+        void operator++(int) { range->step(); }
+        friend bool operator==(const iterator &a, const iterator &b) { return a.is_end() == b.is_end(); }
+        friend bool operator!=(const iterator &a, const iterator &b) { return !(a == b); }
+
+      private:
+        bool is_end() const { return range == nullptr || range->text.empty(); }
+        chunks *range = nullptr;
+    };
+
+    iterator begin() { return iterator(this); }
+    iterator end() const { return iterator(); }
+
+  private:
+    static constexpr size_t room = 16;
+
+    void fetch() {
+        size_t before = at;
+        next = 0;
+        if (at >= end_at || ropey_chunks_from_byte(rope, at, pieces, room, &count, &before) != ROPEY_OK) {
+            count = 0;
+        }
+        skipped = at - before;
+        show();
+    }
+    void step() {
+        at += text.size();
+        if (++next < count || count < room) {
+            show();
+        } else {
+            fetch();
+        }
+    }
+    /* Of the first chunk the part from `at` on, of the last the part up to the end. */
+    void show() {
+        text = std::string_view();
+        if (next < count && at < end_at) {
+            text = text_of(pieces[next].text, pieces[next].len).substr(skipped).substr(0, end_at - at);
+        }
+        skipped = 0;
+    }
+
+    const ropey_rope *rope;
+    size_t at, end_at, next = 0, count = 0, skipped = 0;
+    std::string_view text;
+    ropey_piece pieces[room];
+};
+
+/* Shows texts to a function until it returns false; one that returns nothing is shown all. */
+template <typename Texts, typename Show> void show_each(Texts &&texts, Show &show) {
+    for (std::string_view text : texts) {
+        if constexpr (std::is_void_v<std::invoke_result_t<Show &, std::string_view>>) {
+            show(text);
+        } else if (!show(text)) {
+            return;
+        }
+    }
+}
+
+/* A part of a rope's text, and how much it is. */
+class slice {
+  public:
+    slice() = default;
+    slice(const ropey_rope *of, size_t from, const ropey_slice &found) : rope(of), start(from), part(found) {}
+
+    size_t len_bytes() const { return part.counts.bytes; }
+    size_t len_chars() const { return part.counts.chars; }
+    size_t len_utf16() const { return part.counts.utf16; }
+    size_t len_lines() const { return part.counts.line_breaks + 1; }
+
+    /* The byte of the rope at which it starts. */
+    size_t start_byte() const { return start; }
+
+    /* The text where it lies in one chunk, else nothing. */
+    std::optional<std::string_view> view() const {
+        return part.len == part.counts.bytes ? std::optional<std::string_view>(text_of(part.text, part.len)) : std::nullopt;
+    }
+    ropey::chunks chunks() const { return ropey::chunks(rope, start, start + part.counts.bytes); }
+    std::string text() const {
+        std::string copy;
+        copy.reserve(part.counts.bytes);
+        for (std::string_view text : chunks()) {
+            copy += text;
+        }
+        return copy;
+    }
+    friend std::ostream &operator<<(std::ostream &out, const slice &of) {
+        for (std::string_view text : of.chunks()) {
+            out.write(text.data(), static_cast<std::streamsize>(text.size()));
+        }
+        return out;
+    }
+
+  private:
+    const ropey_rope *rope = nullptr;
+    size_t start = 0;
+    ropey_slice part = ROPEY_NO_SLICE;
+};
+
+/* The lines of a rope from one on, each with its line break. Its begin() is called once: the lines are fetched as it goes. */
+class lines {
+  public:
+    lines(const ropey_rope *of, size_t from, size_t from_byte) : rope(of), line_idx(from), at(from_byte) { fetch(); }
+
+    class iterator {
+      public:
+        using iterator_category = std::input_iterator_tag;
+        using value_type = slice;
+        using difference_type = std::ptrdiff_t;
+        using pointer = const slice *;
+        using reference = slice;
+
+        iterator() = default;
+        explicit iterator(lines *over) : range(over) {}
+        slice operator*() const { return slice(range->rope, range->at, range->list[range->next]); }
+        iterator &operator++() {
+            range->step();
+            return *this;
+        }
+        void operator++(int) { range->step(); }
+        friend bool operator==(const iterator &a, const iterator &b) { return a.is_end() == b.is_end(); }
+        friend bool operator!=(const iterator &a, const iterator &b) { return !(a == b); }
+
+      private:
+        bool is_end() const { return range == nullptr || range->next == range->count; }
+        lines *range = nullptr;
+    };
+
+    iterator begin() { return iterator(this); }
+    iterator end() const { return iterator(); }
+
+  private:
+    static constexpr size_t room = 16;
+
+    void fetch() {
+        next = 0;
+        if (ropey_lines_from(rope, line_idx, list, room, &count) != ROPEY_OK) {
+            count = 0;
+        }
+        line_idx += count;
+    }
+    void step() {
+        at += list[next].counts.bytes;
+        if (++next == count && count == room) {
+            fetch();
+        }
+    }
+
+    const ropey_rope *rope;
+    size_t line_idx, at, next = 0, count = 0;
+    ropey_slice list[room];
+};
+
+template <typename Policy> class basic_builder;
+
+/* A rope. */
+template <typename Policy> class basic_rope {
+  public:
+    template <typename T> using answer = typename Policy::template answer<T>;
+
+    /* An empty rope; of ropey::expected, one that holds nothing. */
+    basic_rope() {
+        if constexpr (Policy::throws) {
+            *this = basic_rope(std::string_view());
+        }
+    }
+    template <typename P = Policy, typename = std::enable_if_t<P::throws>>
+    explicit basic_rope(std::string_view text, ropey_break_set breaks = ROPEY_UNICODE) : basic_rope(from_text(text, breaks)) {}
+    basic_rope(basic_rope &&other) noexcept : handle(std::exchange(other.handle, none())) {}
+    basic_rope &operator=(basic_rope &&other) noexcept {
+        if (this != &other) {
+            ropey_free(&handle);
+            handle = std::exchange(other.handle, none());
+        }
         return *this;
     }
-    changes(const changes &) = delete;
-    changes &operator=(const changes &) = delete;
-    ~changes() { ropey_changes_free(&handle); }
+    basic_rope(const basic_rope &) = delete;
+    basic_rope &operator=(const basic_rope &) = delete;
+    ~basic_rope() { ropey_free(&handle); }
+
+    static answer<basic_rope> from_text(std::string_view text, ropey_break_set breaks = ROPEY_UNICODE) {
+        return made([&](ropey_rope *made) { return ropey_from_text(bytes_of(text), text.size(), breaks, made); });
+    }
+
+    /* Reads a stream to its end. Where a read fails the text ends: the stream's state says so. */
+    static answer<basic_rope> read(std::istream &in, ropey_break_set breaks = ROPEY_UNICODE) {
+        return made([&](ropey_rope *made) {
+            ropey_builder builder = ROPEY_NO_BUILDER;
+            size_t valid = 0;
+            char bytes[4096];
+            ropey_status status = ropey_builder_new(breaks, &builder);
+            while (status == ROPEY_OK && in) {
+                in.read(bytes, sizeof bytes);
+                const size_t count = static_cast<size_t>(in.gcount());
+                status = ropey_builder_append(&builder, bytes_of({bytes, count}), count, &valid);
+            }
+            if (status == ROPEY_OK) {
+                status = ropey_builder_finish(&builder, made, &valid);
+            }
+            ropey_builder_free(&builder);
+            return status;
+        });
+    }
+
+    answer<basic_rope> clone() const {
+        return made([&](ropey_rope *copy) { return ropey_clone(&handle, copy); });
+    }
+
+    /* A rope of a range of characters. */
+    answer<basic_rope> clone(size_t start, size_t end) const {
+        return made([&](ropey_rope *copy) { return ropey_clone_chars(&handle, start, end, copy); });
+    }
+
+    /* Whether it holds a rope: not one that was moved from. */
+    bool has_rope() const { return handle.ptr != nullptr; }
+
+    answer<void> insert(size_t char_idx, std::string_view text) {
+        return Policy::give(ropey_insert(&handle, char_idx, bytes_of(text), text.size()));
+    }
+    answer<void> insert_char(size_t char_idx, char32_t c) { return Policy::give(ropey_insert_char(&handle, char_idx, c)); }
+    answer<void> insert_at_byte(size_t byte_idx, std::string_view text) {
+        return Policy::give(ropey_insert_at_byte(&handle, byte_idx, bytes_of(text), text.size()));
+    }
+    answer<void> remove(size_t start, size_t end) { return Policy::give(ropey_remove(&handle, start, end)); }
+    answer<void> remove_bytes(size_t start, size_t end) { return Policy::give(ropey_remove_bytes(&handle, start, end)); }
+    answer<void> replace(size_t start, size_t end, std::string_view text) {
+        return Policy::give(ropey_replace(&handle, start, end, bytes_of(text), text.size()));
+    }
+    answer<void> replace_bytes(size_t start, size_t end, std::string_view text) {
+        return Policy::give(ropey_replace_bytes(&handle, start, end, bytes_of(text), text.size()));
+    }
+
+    /* Appends the text of other, which holds nothing afterwards, also when out of memory. A rope appended to itself has its text
+     * twice. */
+    answer<void> append(basic_rope &&other) {
+        if (this != &other) {
+            return Policy::give(ropey_append(&handle, &other.handle));
+        }
+        ropey_rope copy = none();
+        const ropey_status status = ropey_clone(&handle, &copy);
+        return Policy::give(status == ROPEY_OK ? ropey_append(&handle, &copy) : status);
+    }
+    answer<basic_rope> split_off(size_t char_idx) {
+        return made([&](ropey_rope *tail) { return ropey_split_off(&handle, char_idx, tail); });
+    }
+    answer<void> shrink_to_fit() { return Policy::give(ropey_shrink_to_fit(&handle)); }
+
+    /* Makes edits in order and apart, or none of them. Their indices are those of the text before all of them. */
+    answer<void> apply(const std::vector<edit> &edits) {
+        std::vector<ropey_edit> list;
+        list.reserve(edits.size());
+        for (const edit &next : edits) {
+            list.push_back({next.start, next.end, bytes_of(next.text), next.text.size()});
+        }
+        return Policy::give(ropey_apply_edits(&handle, list.data(), list.size()));
+    }
+
+    size_t len_bytes() const { return ropey_len_bytes(&handle); }
+    size_t len_chars() const { return ropey_len_chars(&handle); }
+    size_t len_lines() const { return ropey_len_lines(&handle); }
+    size_t len_utf16() const { return ropey_len_utf16(&handle); }
+    answer<ropey_break_set> break_set() const {
+        uint32_t found = 0;
+        const ropey_status status = ropey_get_break_set(&handle, &found);
+        return Policy::give(status, static_cast<ropey_break_set>(found));
+    }
+    answer<ropey_counts> counts(size_t start, size_t end) const { return found<ropey_counts>(ropey_counts_in_chars, start, end); }
+    answer<ropey_counts> counts_in_bytes(size_t start, size_t end) const {
+        return found<ropey_counts>(ropey_counts_in_bytes, start, end);
+    }
+
+    answer<size_t> byte_to_char(size_t i) const { return found<size_t>(ropey_byte_to_char, i); }
+    answer<size_t> byte_to_line(size_t i) const { return found<size_t>(ropey_byte_to_line, i); }
+    answer<size_t> char_to_byte(size_t i) const { return found<size_t>(ropey_char_to_byte, i); }
+    answer<size_t> char_to_line(size_t i) const { return found<size_t>(ropey_char_to_line, i); }
+    answer<size_t> char_to_utf16(size_t i) const { return found<size_t>(ropey_char_to_utf16, i); }
+    answer<size_t> utf16_to_char(size_t i) const { return found<size_t>(ropey_utf16_to_char, i); }
+    answer<size_t> line_to_byte(size_t i) const { return found<size_t>(ropey_line_to_byte, i); }
+    answer<size_t> line_to_char(size_t i) const { return found<size_t>(ropey_line_to_char, i); }
+
+    /* Columns count code units of UTF-16 where no encoding is given. */
+    answer<ropey_place> char_to_position(size_t char_idx) const { return found<ropey_place>(ropey_char_to_position, char_idx); }
+    answer<ropey_place> char_to_position(size_t char_idx, encoding columns) const {
+        return found<ropey_place>(ropey_char_to_position_in, char_idx, static_cast<uint32_t>(columns));
+    }
+    answer<size_t> position_to_char(size_t line, size_t column) const {
+        return found<size_t>(ropey_position_to_char, line, column);
+    }
+    answer<size_t> clamped_position_to_char(size_t line, size_t column, encoding columns) const {
+        return found<size_t>(ropey_clamped_position_to_char, line, column, static_cast<uint32_t>(columns));
+    }
+
+    answer<uint8_t> byte(size_t byte_idx) const { return found<uint8_t>(ropey_byte, byte_idx); }
+    answer<char32_t> character(size_t char_idx) const {
+        uint32_t c = 0;
+        const ropey_status status = ropey_char(&handle, char_idx, &c);
+        return Policy::give(status, static_cast<char32_t>(c));
+    }
+
+    /* The characters of a line, including its line break, and the number of those of the line break. */
+    answer<ropey_range> line_range(size_t line_idx) const { return found<ropey_range>(ropey_line, line_idx); }
+    answer<size_t> line_break(size_t line_idx) const { return found<size_t>(ropey_line_break, line_idx); }
+
+    answer<chunk> chunk_at_byte(size_t byte_idx) const { return chunk_at(ropey_chunk_at_byte, byte_idx); }
+    answer<chunk> chunk_at_char(size_t char_idx) const { return chunk_at(ropey_chunk_at_char, char_idx); }
+    answer<chunk> chunk_at_line_break(size_t line_idx) const { return chunk_at(ropey_chunk_at_line_break, line_idx); }
+
+    /* The chunks, and those from a byte on, of which the first begins with that byte. */
+    ropey::chunks chunks() const { return ropey::chunks(&handle, 0, len_bytes()); }
+    answer<ropey::chunks> chunks(size_t byte_idx) const {
+        return Policy::give(is_within(byte_idx), ropey::chunks(&handle, byte_idx, len_bytes()));
+    }
+
+    /* Shows the chunks from a byte on to a function that gets a std::string_view. It returns nothing, or whether to go on. */
+    template <typename Show> answer<void> each_chunk(size_t byte_idx, Show show) const {
+        const ropey_status status = is_within(byte_idx);
+        if (status == ROPEY_OK) {
+            show_each(ropey::chunks(&handle, byte_idx, len_bytes()), show);
+        }
+        return Policy::give(status);
+    }
+
+    /* The chunks before the one that holds a byte, at most `most` of them, the nearest first. */
+    answer<std::vector<std::string_view>> chunks_before(size_t byte_idx, size_t most) const {
+        std::vector<ropey_piece> pieces(most);
+        std::vector<std::string_view> texts;
+        size_t count = 0, before = 0;
+        const ropey_status status = ropey_chunks_before_byte(&handle, byte_idx, pieces.data(), most, &count, &before);
+        for (size_t i = 0; i < count; i++) {
+            texts.push_back(text_of(pieces[i].text, pieces[i].len));
+        }
+        return Policy::give(status, std::move(texts));
+    }
+
+    answer<ropey::slice> line_slice(size_t line_idx) const {
+        size_t start = 0;
+        ropey_slice part = ROPEY_NO_SLICE;
+        ropey_status status = ropey_line_slice(&handle, line_idx, &part);
+        if (status == ROPEY_OK) {
+            status = ropey_line_to_byte(&handle, line_idx, &start);
+        }
+        return Policy::give(status, ropey::slice(&handle, start, part));
+    }
+    answer<ropey::slice> slice(size_t start, size_t end) const {
+        size_t byte = 0;
+        ropey_slice part = ROPEY_NO_SLICE;
+        ropey_status status = ropey_char_slice(&handle, start, end, &part);
+        if (status == ROPEY_OK) {
+            status = ropey_char_to_byte(&handle, start, &byte);
+        }
+        return Policy::give(status, ropey::slice(&handle, byte, part));
+    }
+
+    /* The lines, and those from one on. */
+    ropey::lines lines() const { return ropey::lines(&handle, 0, 0); }
+    answer<ropey::lines> lines(size_t line_idx) const {
+        size_t byte = 0;
+        const ropey_status status = ropey_line_to_byte(&handle, line_idx, &byte);
+        return Policy::give(status, ropey::lines(&handle, status == ROPEY_OK ? line_idx : len_lines(), byte));
+    }
+
+    /* The lines before one, at most `most` of them, the nearest first. */
+    answer<std::vector<ropey::slice>> lines_before(size_t line_idx, size_t most) const {
+        std::vector<ropey_slice> list(most);
+        std::vector<ropey::slice> parts;
+        size_t count = 0, byte = 0;
+        ropey_status status = ropey_lines_before(&handle, line_idx, list.data(), most, &count);
+        if (status == ROPEY_OK) {
+            status = ropey_line_to_byte(&handle, line_idx, &byte);
+        }
+        for (size_t i = 0; i < count; i++) {
+            byte -= list[i].counts.bytes;
+            parts.push_back(ropey::slice(&handle, byte, list[i]));
+        }
+        return Policy::give(status, std::move(parts));
+    }
+
+    /* Copies of the text. */
+    std::string text() const {
+        std::string copy;
+        copy.reserve(len_bytes());
+        for (std::string_view part : chunks()) {
+            copy += part;
+        }
+        return copy;
+    }
+    answer<std::string> text(size_t start, size_t end) const {
+        return copied(ropey_counts_in_chars, ropey_copy_chars, start, end);
+    }
+    answer<std::string> text_of_bytes(size_t start, size_t end) const {
+        return copied(ropey_counts_in_bytes, ropey_copy_bytes, start, end);
+    }
+    answer<std::string> line(size_t line_idx) const {
+        ropey_range bytes = {0, 0};
+        size_t count = 0;
+        const ropey_status status = ropey_line_pieces(&handle, line_idx, &bytes, nullptr, 0, &count);
+        std::string copy;
+        for (std::string_view part : ropey::chunks(&handle, bytes.start, bytes.end)) {
+            copy += part;
+        }
+        return Policy::give(status, std::move(copy));
+    }
+
+    /* The order of two texts by their bytes: -1, 0 or 1. */
+    answer<int> compare(const basic_rope &other) const {
+        int32_t order = 0;
+        const ropey_status status = ropey_compare(&handle, &other.handle, &order);
+        return Policy::give(status, static_cast<int>(order));
+    }
+
+    /* A rope that holds nothing equals those that hold nothing. A text that is not UTF-8 equals no rope. */
+    friend bool operator==(const basic_rope &a, const basic_rope &b) {
+        int32_t order = 0;
+        const ropey_status status = ropey_compare(&a.handle, &b.handle, &order);
+        return status == ROPEY_OK ? order == 0 : a.has_rope() == b.has_rope();
+    }
+    friend bool operator!=(const basic_rope &a, const basic_rope &b) { return !(a == b); }
+    friend bool operator==(const basic_rope &a, std::string_view b) {
+        bool equal = false;
+        return ropey_equals_text(&a.handle, bytes_of(b), b.size(), &equal) == ROPEY_OK && equal;
+    }
+    friend bool operator==(std::string_view a, const basic_rope &b) { return b == a; }
+    friend bool operator!=(const basic_rope &a, std::string_view b) { return !(a == b); }
+    friend bool operator!=(std::string_view a, const basic_rope &b) { return !(b == a); }
+
+    /* Writes the text, chunk by chunk. */
+    friend std::ostream &operator<<(std::ostream &out, const basic_rope &rope) {
+        for (std::string_view part : rope.chunks()) {
+            out.write(part.data(), static_cast<std::streamsize>(part.size()));
+        }
+        return out;
+    }
+
+    /* The handle, for calls of ropey.h. */
+    const ropey_rope *get() const { return &handle; }
+    ropey_rope *get() { return &handle; }
+
+  private:
+    friend class basic_builder<Policy>;
+
+    static ropey_rope none() { return ropey_rope ROPEY_NO_ROPE; }
+    explicit basic_rope(ropey_rope held) : handle(held) {}
+
+    template <typename Make> static answer<basic_rope> made(Make make) {
+        basic_rope rope{none()};
+        const ropey_status status = make(&rope.handle);
+        return Policy::give(status, std::move(rope));
+    }
+    template <typename T, typename Call, typename... Args> answer<T> found(Call call, Args... args) const {
+        T value = T();
+        const ropey_status status = call(&handle, args..., &value);
+        return Policy::give(status, std::move(value));
+    }
+    template <typename Call> answer<chunk> chunk_at(Call call, size_t index) const {
+        ropey_chunk found = ROPEY_NO_CHUNK;
+        const ropey_status status = call(&handle, index, &found);
+        chunk shown = {text_of(found.text, found.len), found.bytes_before, found.chars_before, found.line_breaks_before};
+        return Policy::give(status, std::move(shown));
+    }
+    template <typename Count, typename Copy> answer<std::string> copied(Count count, Copy copy, size_t start, size_t end) const {
+        ropey_counts counts = {0, 0, 0, 0};
+        ropey_status status = count(&handle, start, end, &counts);
+        std::string text(counts.bytes, '\0');
+        size_t len = 0;
+        if (status == ROPEY_OK) {
+            status = copy(&handle, start, end, reinterpret_cast<uint8_t *>(text.data()), text.size(), &len);
+        }
+        return Policy::give(status, std::move(text));
+    }
+    ropey_status is_within(size_t byte_idx) const {
+        if (!has_rope()) {
+            return ROPEY_NO_ROPE_HELD;
+        }
+        return byte_idx <= len_bytes() ? ROPEY_OK : ROPEY_BYTE_INDEX_OUT_OF_BOUNDS;
+    }
+
+    ropey_rope handle = ROPEY_NO_ROPE;
+};
+
+/* A rope in the making, of bytes that are cut anywhere. */
+template <typename Policy> class basic_builder {
+  public:
+    template <typename T> using answer = typename Policy::template answer<T>;
+
+    /* A builder that was given nothing; of ropey::expected, one that holds nothing. */
+    basic_builder() {
+        if constexpr (Policy::throws) {
+            *this = start();
+        }
+    }
+    basic_builder(basic_builder &&other) noexcept
+        : handle(std::exchange(other.handle, none())), valid(std::exchange(other.valid, 0)) {}
+    basic_builder &operator=(basic_builder &&other) noexcept {
+        if (this != &other) {
+            ropey_builder_free(&handle);
+            handle = std::exchange(other.handle, none());
+            valid = std::exchange(other.valid, 0);
+        }
+        return *this;
+    }
+    basic_builder(const basic_builder &) = delete;
+    basic_builder &operator=(const basic_builder &) = delete;
+    ~basic_builder() { ropey_builder_free(&handle); }
+
+    static answer<basic_builder> start(ropey_break_set breaks = ROPEY_UNICODE) {
+        basic_builder made{none()};
+        const ropey_status status = ropey_builder_new(breaks, &made.handle);
+        return Policy::give(status, std::move(made));
+    }
+
+    /* Gives the builder the bytes that follow. After an error every later call fails in the same way. */
+    answer<void> append(std::string_view bytes) {
+        return Policy::give(ropey_builder_append(&handle, bytes_of(bytes), bytes.size(), &valid));
+    }
+
+    /* Makes the rope. Afterwards the builder holds nothing. */
+    answer<basic_rope<Policy>> finish() {
+        basic_rope<Policy> rope{basic_rope<Policy>::none()};
+        const ropey_status status = ropey_builder_finish(&handle, rope.get(), &valid);
+        return Policy::give(status, std::move(rope));
+    }
+
+    /* After ROPEY_INVALID_UTF8: how many bytes of all that was given are UTF-8. */
+    size_t valid_bytes() const { return valid; }
+
+  private:
+    static ropey_builder none() { return ropey_builder ROPEY_NO_BUILDER; }
+    explicit basic_builder(ropey_builder held) : handle(held) {}
+    ropey_builder handle = ROPEY_NO_BUILDER;
+    size_t valid = 0;
+};
+
+/* Changes of a text of a given length: replacements of ranges, in order and apart. */
+template <typename Policy> class basic_changes {
+  public:
+    template <typename T> using answer = typename Policy::template answer<T>;
+    using rope = basic_rope<Policy>;
+
+    /* Keeps all of a text of len characters. */
+    template <typename P = Policy, typename = std::enable_if_t<P::throws>>
+    explicit basic_changes(size_t len) : basic_changes(of_edits(len, {})) {}
+    /* Edits in order. */
+    template <typename P = Policy, typename = std::enable_if_t<P::throws>>
+    basic_changes(size_t len, const std::vector<edit> &edits) : basic_changes(of_edits(len, edits)) {}
+    basic_changes(basic_changes &&other) noexcept : handle(std::exchange(other.handle, none())) {}
+    basic_changes &operator=(basic_changes &&other) noexcept {
+        if (this != &other) {
+            ropey_changes_free(&handle);
+            handle = std::exchange(other.handle, none());
+        }
+        return *this;
+    }
+    basic_changes(const basic_changes &) = delete;
+    basic_changes &operator=(const basic_changes &) = delete;
+    ~basic_changes() { ropey_changes_free(&handle); }
+
+    /* Keeps all of a text of len characters. */
+    static answer<basic_changes> keep(size_t len) {
+        return made([&](ropey_changes *made) { return ropey_changes_new(len, made); });
+    }
+
+    /* Edits in order. */
+    static answer<basic_changes> of_edits(size_t len, const std::vector<edit> &edits) {
+        std::vector<ropey_edit> list;
+        list.reserve(edits.size());
+        for (const edit &next : edits) {
+            list.push_back({next.start, next.end, bytes_of(next.text), next.text.size()});
+        }
+        return made([&](ropey_changes *made) { return ropey_changes_of_edits(len, list.data(), list.size(), made); });
+    }
 
     /* Indices are those of the text before, and the range comes after the last one. */
-    void replace(size_t start, size_t end, std::string_view text) {
-        check(ropey_changes_replace(&handle, start, end, bytes_of(text), text.size()));
+    answer<void> replace(size_t start, size_t end, std::string_view text) {
+        return Policy::give(ropey_changes_replace(&handle, start, end, bytes_of(text), text.size()));
     }
 
     size_t len_before() const { return ropey_changes_len_before(&handle); }
     size_t len_after() const { return ropey_changes_len_after(&handle); }
 
     /* Whole, or not at all. */
-    void apply(rope &text) const { check(ropey_changes_apply(&handle, text.get())); }
+    answer<void> apply(rope &text) const { return Policy::give(ropey_changes_apply(&handle, text.get())); }
 
     /* The changes that lead back to the text of before. */
-    changes invert(const rope &before) const {
-        changes inverse{none()};
-        check(ropey_changes_invert(&handle, before.get(), &inverse.handle));
-        return inverse;
+    answer<basic_changes> invert(const rope &before) const {
+        return made([&](ropey_changes *inverse) { return ropey_changes_invert(&handle, before.get(), inverse); });
     }
 
     /* The changes, and then later ones. */
-    changes compose(const changes &later) const {
-        changes both{none()};
-        check(ropey_changes_compose(&handle, &later.handle, &both.handle));
-        return both;
+    answer<basic_changes> compose(const basic_changes &later) const {
+        return made([&](ropey_changes *both) { return ropey_changes_compose(&handle, &later.handle, both); });
     }
 
     /* The changes as changes of the text after over. */
-    changes rebase(const changes &over, side on) const {
-        changes rebased{none()};
-        check(ropey_changes_rebase(&handle, &over.handle, static_cast<uint32_t>(on), &rebased.handle));
-        return rebased;
+    answer<basic_changes> rebase(const basic_changes &over, side on) const {
+        const uint32_t number = static_cast<uint32_t>(on);
+        return made([&](ropey_changes *rebased) { return ropey_changes_rebase(&handle, &over.handle, number, rebased); });
     }
 
     /* Where an index of the text before lies in the text after. */
-    size_t map(size_t char_idx, side on) const {
+    answer<size_t> map(size_t char_idx, side on) const {
         size_t moved = 0;
-        check(ropey_changes_map(&handle, char_idx, static_cast<uint32_t>(on), &moved));
-        return moved;
+        const ropey_status status = ropey_changes_map(&handle, char_idx, static_cast<uint32_t>(on), &moved);
+        return Policy::give(status, std::move(moved));
     }
 
     /* Moves all indices as map does, in one pass where they ascend. */
-    void map_sorted(std::vector<size_t> &char_indices, side on) const {
-        check(ropey_changes_map_sorted(&handle, char_indices.data(), char_indices.size(), static_cast<uint32_t>(on)));
+    answer<void> map_sorted(std::vector<size_t> &char_indices, side on) const {
+        const uint32_t number = static_cast<uint32_t>(on);
+        return Policy::give(ropey_changes_map_sorted(&handle, char_indices.data(), char_indices.size(), number));
     }
 
-    /* The replacements, in order. Their texts are good until the changes are edited or destroyed. */
-    std::vector<replacement> edits() const {
+    /* The replacements, in order. Their texts are good until the changes are edited, assigned to or destroyed. */
+    answer<std::vector<replacement>> edits() const {
         size_t count = 0;
-        check(ropey_changes_edits(&handle, nullptr, 0, &count));
-        std::vector<ropey_replacement> listed(count);
-        check(ropey_changes_edits(&handle, listed.data(), count, &count));
         std::vector<replacement> shown;
+        ropey_status status = ropey_changes_edits(&handle, nullptr, 0, &count);
+        std::vector<ropey_replacement> listed(count);
+        if (status == ROPEY_OK) {
+            status = ropey_changes_edits(&handle, listed.data(), count, &count);
+        }
         shown.reserve(count);
         for (const ropey_replacement &r : listed) {
             shown.push_back({r.start, r.end, r.new_start, r.new_end, text_of(r.text, r.len)});
         }
-        return shown;
+        return Policy::give(status, std::move(shown));
     }
 
     /* The handle, for calls of ropey.h. */
@@ -246,10 +799,76 @@ class changes {
 
   private:
     static ropey_changes none() { return ropey_changes ROPEY_NO_CHANGES; }
-    explicit changes(ropey_changes held) : handle(held) {}
+    explicit basic_changes(ropey_changes held) : handle(held) {}
+    template <typename Make> static answer<basic_changes> made(Make make) {
+        basic_changes changes{none()};
+        const ropey_status status = make(&changes.handle);
+        return Policy::give(status, std::move(changes));
+    }
     ropey_changes handle = ROPEY_NO_CHANGES;
 };
 
+/* Counts of plain texts. */
+template <typename Policy> struct basic_texts {
+    template <typename T> using answer = typename Policy::template answer<T>;
+    static size_t valid_len(std::string_view text) { return ropey_text_valid_len(bytes_of(text), text.size()); }
+    static answer<ropey_counts> counts(std::string_view text, ropey_break_set breaks = ROPEY_UNICODE) {
+        ropey_counts counts = {0, 0, 0, 0};
+        const ropey_status status = ropey_text_counts(bytes_of(text), text.size(), breaks, &counts);
+        return Policy::give(status, std::move(counts));
+    }
+    static answer<size_t> byte_to_char(std::string_view text, size_t i) { return found(ropey_text_byte_to_char, text, i); }
+    static answer<size_t> char_to_byte(std::string_view text, size_t i) { return found(ropey_text_char_to_byte, text, i); }
+    static answer<size_t> char_to_utf16(std::string_view text, size_t i) { return found(ropey_text_char_to_utf16, text, i); }
+    static answer<size_t> utf16_to_char(std::string_view text, size_t i) { return found(ropey_text_utf16_to_char, text, i); }
+    static answer<size_t> byte_to_line(std::string_view text, size_t i, ropey_break_set breaks = ROPEY_UNICODE) {
+        return found(ropey_text_byte_to_line, text, breaks, i);
+    }
+    static answer<size_t> char_to_line(std::string_view text, size_t i, ropey_break_set breaks = ROPEY_UNICODE) {
+        return found(ropey_text_char_to_line, text, breaks, i);
+    }
+    static answer<size_t> line_to_byte(std::string_view text, size_t i, ropey_break_set breaks = ROPEY_UNICODE) {
+        return found(ropey_text_line_to_byte, text, breaks, i);
+    }
+    static answer<size_t> line_to_char(std::string_view text, size_t i, ropey_break_set breaks = ROPEY_UNICODE) {
+        return found(ropey_text_line_to_char, text, breaks, i);
+    }
+
+  private:
+    template <typename Call, typename... Args> static answer<size_t> found(Call call, std::string_view text, Args... args) {
+        size_t value = 0;
+        const ropey_status status = call(bytes_of(text), text.size(), args..., &value);
+        return Policy::give(status, std::move(value));
+    }
+};
+
+#if defined(__cpp_exceptions)
+using rope = basic_rope<by_exception>;
+using builder = basic_builder<by_exception>;
+using changes = basic_changes<by_exception>;
+using texts = basic_texts<by_exception>;
+#endif
+
+namespace expected {
+using rope = basic_rope<by_result>;
+using builder = basic_builder<by_result>;
+using changes = basic_changes<by_result>;
+using texts = basic_texts<by_result>;
+} // namespace expected
+
 } // namespace ropey
+
+/* Equal texts hash alike, however they are cut into chunks. */
+template <typename Policy> struct std::hash<ropey::basic_rope<Policy>> {
+    size_t operator()(const ropey::basic_rope<Policy> &rope) const {
+        uint64_t sum = 0xcbf29ce484222325;
+        for (std::string_view part : rope.chunks()) {
+            for (const char c : part) {
+                sum = (sum ^ static_cast<unsigned char>(c)) * 0x100000001b3;
+            }
+        }
+        return static_cast<size_t>(sum);
+    }
+};
 
 #endif

@@ -3,7 +3,7 @@ use std::io::{self, ErrorKind};
 
 use crate::ffi::Root;
 use crate::rope::Rope;
-use crate::BLOCK;
+use crate::{LineBreaks, BLOCK};
 
 /// How many bytes are read first.
 const READ: usize = 1 << 12;
@@ -27,12 +27,36 @@ pub struct RopeBuilder {
 }
 
 impl RopeBuilder {
-    /// A builder that was given nothing.
+    /// Returns a builder of an empty rope.
+    ///
+    /// ```
+    /// assert_eq!(ropey::RopeBuilder::new().finish(), "");
+    /// ```
     pub fn new() -> RopeBuilder {
         RopeBuilder::default()
     }
 
-    /// Gives the builder the text that follows.
+    /// Returns a builder of a rope with a set of line breaks.
+    ///
+    /// ```
+    /// use ropey::{LineBreaks, RopeBuilder};
+    ///
+    /// let mut builder = RopeBuilder::new_with(LineBreaks::Lf);
+    /// builder.append("one\rtwo");
+    /// assert_eq!(builder.finish().len_lines(), 1);
+    /// ```
+    pub fn new_with(breaks: LineBreaks) -> RopeBuilder {
+        RopeBuilder { rope: Rope::new_with(breaks), text: String::new() }
+    }
+
+    /// Appends the text that follows.
+    ///
+    /// ```
+    /// let mut builder = ropey::RopeBuilder::new();
+    /// builder.append("one ");
+    /// builder.append("two");
+    /// assert_eq!(builder.finish(), "one two");
+    /// ```
     #[inline]
     pub fn append(&mut self, chunk: &str) {
         self.text.push_str(chunk);
@@ -41,22 +65,28 @@ impl RopeBuilder {
         }
     }
 
-    /// The rope of all that the builder was given.
+    /// Returns the rope of all the texts that were appended.
+    ///
+    /// ```
+    /// let mut builder = ropey::RopeBuilder::new();
+    /// builder.append("one\n");
+    /// assert_eq!(builder.finish().len_lines(), 2);
+    /// ```
     pub fn finish(mut self) -> Rope {
         self.settle();
         self.rope
     }
 
     fn settle(&mut self) {
-        self.rope.append(Rope::of(Root::of_text(&self.text)));
+        self.rope.append(Rope::of(Root::of_text(&self.text, self.rope.line_breaks())));
         self.text.clear();
     }
 }
 
 /// The rope of all that a reader gives, which has to be UTF-8.
-pub(crate) fn read(reader: &mut impl io::Read) -> io::Result<Rope> {
+pub(crate) fn read(reader: &mut impl io::Read, breaks: LineBreaks) -> io::Result<Rope> {
     let invalid = || io::Error::new(ErrorKind::InvalidData, "the bytes that were read are not UTF-8");
-    let (mut rope, mut bytes, mut filled) = (Rope::new(), vec![0; READ], 0);
+    let (mut rope, mut bytes, mut filled) = (Rope::new_with(breaks), vec![0; READ], 0);
     loop {
         let count = reader.read(&mut bytes[filled..])?;
         filled += count;
@@ -70,7 +100,7 @@ pub(crate) fn read(reader: &mut impl io::Read) -> io::Result<Rope> {
             _ => 0,
         };
         if whole > 0 {
-            rope.append(Rope::of(Root::of_bytes(&bytes[..whole]).ok_or_else(invalid)?));
+            rope.append(Rope::of(Root::of_bytes(&bytes[..whole], breaks).ok_or_else(invalid)?));
             bytes.copy_within(whole..filled, 0);
             filled -= whole;
         }

@@ -8,15 +8,24 @@ pub(crate) fn refuse(error: Error) -> ! {
     panic!("{error}")
 }
 
+/// An example: two values that are equal, of which the first is one of a short text.
+macro_rules! example {
+    ($made:literal, $shown:literal) => {
+        concat!("\n```\nlet text = ropey::", $made, "(\"né\\r\\ntwo\\n\");\nassert_eq!(text.", $shown, ");\n```")
+    };
+}
+
 /// Over a `try_` twin, which answers the error, or a `get_` twin, which answers none.
 macro_rules! over {
-    ($($(#[$doc:meta])* $name:ident($index:ident) by $twin:ident $(else $error:ident of $len:ident)? -> $answer:ty;)*) => {
+    ($made:literal; $($(#[$doc:meta])* $name:ident($index:ident) by $twin:ident $(else $error:ident of $len:ident)? -> $answer:ty,
+        $shown:literal;)*) => {
         $(
             $(#[$doc])*
             ///
             /// # Panics
             ///
-            /// Where the index is out of bounds.
+            /// If the index is out of bounds.
+            #[doc = crate::calls::example!($made, $shown)]
             #[inline]
             #[track_caller]
             pub fn $name(&self, $index: usize) -> $answer {
@@ -30,102 +39,130 @@ macro_rules! over {
 
 /// All of them, and the cursors that stand at the start. The lifetime is that of the text which is lent.
 macro_rules! panicking_calls {
-    ($text:lifetime) => {
+    ($text:lifetime, $made:literal) => {
         crate::calls::over! {
-            /// The character that holds a byte; for the length in bytes, the length in characters.
-            byte_to_char(byte_idx) by try_byte_to_char -> usize;
-            /// The line on which a byte lies; for the length in bytes, the last line.
-            byte_to_line(byte_idx) by try_byte_to_line -> usize;
-            /// The byte at which a character starts; for the length in characters, the length in bytes.
-            char_to_byte(char_idx) by try_char_to_byte -> usize;
-            /// The line on which a character lies; for the length in characters, the last line.
-            char_to_line(char_idx) by try_char_to_line -> usize;
-            /// The UTF-16 code unit at which a character starts; for the length in characters, the length in code units.
-            char_to_utf16_cu(char_idx) by try_char_to_utf16_cu -> usize;
-            /// The character that holds a UTF-16 code unit; for the length in code units, the length in characters.
-            utf16_cu_to_char(utf16_cu_idx) by try_utf16_cu_to_char -> usize;
-            /// The byte at which a line starts; for the number of lines, the length in bytes.
-            line_to_byte(line_idx) by try_line_to_byte -> usize;
-            /// The character at which a line starts; for the number of lines, the length in characters.
-            line_to_char(line_idx) by try_line_to_char -> usize;
-            /// A byte.
-            byte(byte_idx) by get_byte else ByteIndexOutOfBounds of len_bytes -> u8;
-            /// A character.
-            char(char_idx) by get_char else CharIndexOutOfBounds of len_chars -> char;
-            /// A line, its line break among it.
-            line(line_idx) by get_line else LineIndexOutOfBounds of len_lines -> RopeSlice<$text>;
-            /// The chunk that holds a byte, and the first of its bytes, characters and line breaks, counted from the start of
+            $made;
+            /// Returns the character that holds a byte; for the length in bytes, the length in characters.
+            byte_to_char(byte_idx) by try_byte_to_char -> usize,
+                "byte_to_char(2), 1";
+            /// Returns the line on which a byte lies; for the length in bytes, the last line.
+            byte_to_line(byte_idx) by try_byte_to_line -> usize,
+                "byte_to_line(5), 1";
+            /// Returns the byte at which a character starts; for the length in characters, the length in bytes.
+            char_to_byte(char_idx) by try_char_to_byte -> usize,
+                "char_to_byte(2), 3";
+            /// Returns the line on which a character lies; for the length in characters, the last line.
+            char_to_line(char_idx) by try_char_to_line -> usize,
+                "char_to_line(4), 1";
+            /// Returns the UTF-16 code unit at which a character starts; for the length in characters, the length in code units.
+            char_to_utf16_cu(char_idx) by try_char_to_utf16_cu -> usize,
+                "char_to_utf16_cu(8), 8";
+            /// Returns the character that holds a UTF-16 code unit; for the length in code units, the length in characters.
+            utf16_cu_to_char(utf16_cu_idx) by try_utf16_cu_to_char -> usize,
+                "utf16_cu_to_char(2), 2";
+            /// Returns the byte at which a line starts; for the number of lines, the length in bytes.
+            line_to_byte(line_idx) by try_line_to_byte -> usize,
+                "line_to_byte(1), 5";
+            /// Returns the character at which a line starts; for the number of lines, the length in characters.
+            line_to_char(line_idx) by try_line_to_char -> usize,
+                "line_to_char(1), 4";
+            /// Returns a byte.
+            byte(byte_idx) by get_byte else ByteIndexOutOfBounds of len_bytes -> u8,
+                "byte(0), b'n'";
+            /// Returns a character.
+            char(char_idx) by get_char else CharIndexOutOfBounds of len_chars -> char,
+                "char(1), 'é'";
+            /// Returns a line, including its line break.
+            line(line_idx) by get_line else LineIndexOutOfBounds of len_lines -> RopeSlice<$text>,
+                "line(1), \"two\\n\"";
+            /// Returns the chunk that holds a byte, and the first of its bytes, characters and line breaks, counted from the start of
             /// the text. For the length it is the last chunk.
-            chunk_at_byte(byte_idx) by get_chunk_at_byte else ByteIndexOutOfBounds of len_bytes -> (&$text str, usize, usize, usize);
-            /// The chunk that holds a character, and the first of its bytes, characters and line breaks, counted from the
+            chunk_at_byte(byte_idx) by get_chunk_at_byte else ByteIndexOutOfBounds of len_bytes -> (&$text str, usize, usize, usize),
+                "chunk_at_byte(5).1, 0";
+            /// Returns the chunk that holds a character, and the first of its bytes, characters and line breaks, counted from the
             /// start of the text. For the length it is the last chunk.
-            chunk_at_char(char_idx) by get_chunk_at_char else CharIndexOutOfBounds of len_chars -> (&$text str, usize, usize, usize);
-            /// The chunk that holds the line break before a line, and the first of its bytes, characters and line breaks,
+            chunk_at_char(char_idx) by get_chunk_at_char else CharIndexOutOfBounds of len_chars -> (&$text str, usize, usize, usize),
+                "chunk_at_char(4).0.len(), 9";
+            /// Returns the chunk that holds the line break before a line, and the first of its bytes, characters and line breaks,
             /// counted from the start of the text. For the first line it is the first chunk, for the number of lines the last.
-            chunk_at_line_break(line_break_idx) by get_chunk_at_line_break else LineIndexOutOfBounds of len_lines -> (&$text str, usize, usize, usize);
-            /// A cursor over the bytes that stands before a byte, or at the end for the length.
-            bytes_at(byte_idx) by get_bytes_at else ByteIndexOutOfBounds of len_bytes -> Bytes<$text>;
-            /// A cursor over the characters that stands before a character, or at the end for the length.
-            chars_at(char_idx) by get_chars_at else CharIndexOutOfBounds of len_chars -> Chars<$text>;
-            /// A cursor over the lines that stands before a line, or at the end for the number of lines.
-            lines_at(line_idx) by get_lines_at else LineIndexOutOfBounds of len_lines -> Lines<$text>;
-            /// A cursor over the chunks that stands before the one that holds a byte, or at the end for the length; and the
+            chunk_at_line_break(line_break_idx) by get_chunk_at_line_break else LineIndexOutOfBounds of len_lines -> (&$text str, usize, usize, usize),
+                "chunk_at_line_break(1).3, 0";
+            /// Returns a cursor over the bytes that stands before a byte, or at the end for the length.
+            bytes_at(byte_idx) by get_bytes_at else ByteIndexOutOfBounds of len_bytes -> Bytes<$text>,
+                "bytes_at(5).next(), Some(b't')";
+            /// Returns a cursor over the characters that stands before a character, or at the end for the length.
+            chars_at(char_idx) by get_chars_at else CharIndexOutOfBounds of len_chars -> Chars<$text>,
+                "chars_at(4).next(), Some('t')";
+            /// Returns a cursor over the lines that stands before a line, or at the end for the number of lines.
+            lines_at(line_idx) by get_lines_at else LineIndexOutOfBounds of len_lines -> Lines<$text>,
+                "lines_at(1).next().unwrap(), \"two\\n\"";
+            /// Returns a cursor over the chunks that stands before the one that holds a byte, or at the end for the length; and the
             /// byte, character and line break at which it stands.
-            chunks_at_byte(byte_idx) by get_chunks_at_byte else ByteIndexOutOfBounds of len_bytes -> (Chunks<$text>, usize, usize, usize);
-            /// A cursor over the chunks that stands before the one that holds a character, or at the end for the length; and
+            chunks_at_byte(byte_idx) by get_chunks_at_byte else ByteIndexOutOfBounds of len_bytes -> (Chunks<$text>, usize, usize, usize),
+                "chunks_at_byte(5).0.count(), 1";
+            /// Returns a cursor over the chunks that stands before the one that holds a character, or at the end for the length; and
             /// the byte, character and line break at which it stands.
-            chunks_at_char(char_idx) by get_chunks_at_char else CharIndexOutOfBounds of len_chars -> (Chunks<$text>, usize, usize, usize);
-            /// A cursor over the chunks that stands before the one that holds the line break before a line, or at the end for
+            chunks_at_char(char_idx) by get_chunks_at_char else CharIndexOutOfBounds of len_chars -> (Chunks<$text>, usize, usize, usize),
+                "chunks_at_char(8).0.count(), 0";
+            /// Returns a cursor over the chunks that stands before the one that holds the line break before a line, or at the end for
             /// the number of lines; and the byte, character and line break at which it stands.
-            chunks_at_line_break(line_break_idx) by get_chunks_at_line_break else LineIndexOutOfBounds of len_lines -> (Chunks<$text>, usize, usize, usize);
+            chunks_at_line_break(line_break_idx) by get_chunks_at_line_break else LineIndexOutOfBounds of len_lines -> (Chunks<$text>, usize, usize, usize),
+                "chunks_at_line_break(3).1, 9";
         }
 
-        /// A cursor over the bytes.
+        /// Returns a cursor over the bytes.
+        #[doc = crate::calls::example!($made, "bytes().count(), 9")]
         #[inline]
         pub fn bytes(&self) -> Bytes<$text> {
             self.bytes_at(0)
         }
 
-        /// A cursor over the characters.
+        /// Returns a cursor over the characters.
+        #[doc = crate::calls::example!($made, "chars().nth(1), Some('é')")]
         #[inline]
         pub fn chars(&self) -> Chars<$text> {
             self.chars_at(0)
         }
 
-        /// A cursor over the lines, each with its line break.
+        /// Returns a cursor over the lines, each with its line break.
+        #[doc = crate::calls::example!($made, "lines().count(), 3")]
         #[inline]
         pub fn lines(&self) -> Lines<$text> {
             self.lines_at(0)
         }
 
-        /// A slice of a range of characters; none where it is not in range.
+        /// Returns a slice of a range of characters; none where it is not in range.
+        #[doc = crate::calls::example!($made, "get_slice(0..9).is_none(), true")]
         #[inline]
         pub fn get_slice<R: RangeBounds<usize>>(&self, char_range: R) -> Option<RopeSlice<$text>> {
             self.slice_chars(Bounds::of(&char_range)).ok()
         }
 
-        /// A slice of a range of bytes; none where it is not in range, or one of its bounds lies inside a character.
+        /// Returns a slice of a range of bytes; none where it is not in range, or one of its bounds lies inside a character.
+        #[doc = crate::calls::example!($made, "get_byte_slice(0..2).is_none(), true")]
         #[inline]
         pub fn get_byte_slice<R: RangeBounds<usize>>(&self, byte_range: R) -> Option<RopeSlice<$text>> {
             self.slice_bytes(Bounds::of(&byte_range)).ok()
         }
 
-        /// A slice of a range of characters. No text is copied.
+        /// Returns a slice of a range of characters. No text is copied.
         ///
         /// # Panics
         ///
-        /// Where the range starts past its end, or reaches past the text's.
+        /// If the range starts past its end, or reaches past the text's.
+        #[doc = crate::calls::example!($made, "slice(4..7), \"two\"")]
         #[inline]
         #[track_caller]
         pub fn slice<R: RangeBounds<usize>>(&self, char_range: R) -> RopeSlice<$text> {
             self.slice_chars(Bounds::of(&char_range)).unwrap_or_else(|error| crate::calls::refuse(error))
         }
 
-        /// A slice of a range of bytes. No text is copied.
+        /// Returns a slice of a range of bytes. No text is copied.
         ///
         /// # Panics
         ///
-        /// Where the range starts past its end, reaches past the text's, or has a bound inside a character.
+        /// If the range starts past its end, reaches past the text's, or has a bound inside a character.
+        #[doc = crate::calls::example!($made, "byte_slice(5..8), \"two\"")]
         #[inline]
         #[track_caller]
         pub fn byte_slice<R: RangeBounds<usize>>(&self, byte_range: R) -> RopeSlice<$text> {
@@ -134,4 +171,4 @@ macro_rules! panicking_calls {
     };
 }
 
-pub(crate) use {over, panicking_calls};
+pub(crate) use {example, over, panicking_calls};

@@ -120,6 +120,14 @@ impl ChangeSet {
     /// # Errors
     ///
     /// `TooLong` if `len` is above `isize::MAX`.
+    ///
+    /// ```
+    /// use ropey::changes::ChangeSet;
+    ///
+    /// let changes = ChangeSet::new(7)?;
+    /// assert_eq!(changes.len_after(), 7);
+    /// # Ok::<(), ropey::changes::ChangeError>(())
+    /// ```
     pub fn new(len: usize) -> Result<ChangeSet, ChangeError> {
         Changes::new(len).map(ChangeSet::of).map_err(|_| ChangeError::TooLong)
     }
@@ -133,6 +141,14 @@ impl ChangeSet {
     /// # Errors
     ///
     /// `TooLong` if `len` is above `isize::MAX`; then the error of `replace` for the first edit that it refuses.
+    ///
+    /// ```
+    /// use ropey::changes::{ChangeSet, Edit};
+    ///
+    /// let changes = ChangeSet::of_edits(7, &[Edit { start: 0, end: 3, text: "1" }])?;
+    /// assert_eq!(changes.len_after(), 5);
+    /// # Ok::<(), ropey::changes::ChangeError>(())
+    /// ```
     pub fn of_edits(len: usize, edits: &[Edit<'_>]) -> Result<ChangeSet, ChangeError> {
         let mut made = ChangeSet::new(len)?;
         edits.iter().try_for_each(|edit| made.replace(edit.start, edit.end, edit.text))?;
@@ -147,6 +163,16 @@ impl ChangeSet {
     ///
     /// First `RangeInvalid`, then `RangeOutOfBounds`, then `OutOfOrder`; then `TooLong` if the text after the changes would have
     /// more than `isize::MAX` characters. A call that fails leaves the changes as they were.
+    ///
+    /// ```
+    /// use ropey::changes::ChangeSet;
+    ///
+    /// let mut changes = ChangeSet::new(7)?;
+    /// changes.replace(0, 3, "1")?;
+    /// assert!(changes.replace(2, 4, "2").is_err());
+    /// assert_eq!(changes.len_after(), 5);
+    /// # Ok::<(), ropey::changes::ChangeError>(())
+    /// ```
     pub fn replace(&mut self, start: usize, end: usize, text: &str) -> Result<(), ChangeError> {
         self.changes.replace(start, end, text).map_err(|status| match status {
             RANGE_INVALID => ChangeError::RangeInvalid(start, end),
@@ -157,21 +183,56 @@ impl ChangeSet {
     }
 
     /// The number of characters of the text before the changes.
+    ///
+    /// ```
+    /// use ropey::changes::ChangeSet;
+    ///
+    /// let mut changes = ChangeSet::new(7)?;
+    /// changes.replace(0, 3, "1")?;
+    /// assert_eq!(changes.len_before(), 7);
+    /// # Ok::<(), ropey::changes::ChangeError>(())
+    /// ```
     pub fn len_before(&self) -> usize {
         self.changes.len_before()
     }
 
     /// The number of characters of the text after the changes.
+    ///
+    /// ```
+    /// use ropey::changes::ChangeSet;
+    ///
+    /// let mut changes = ChangeSet::new(7)?;
+    /// changes.replace(0, 3, "1")?;
+    /// assert_eq!(changes.len_after(), 5);
+    /// # Ok::<(), ropey::changes::ChangeError>(())
+    /// ```
     pub fn len_after(&self) -> usize {
         self.changes.len_after()
     }
 
     /// Whether the changes replace nothing.
+    ///
+    /// ```
+    /// use ropey::changes::ChangeSet;
+    ///
+    /// assert!(ChangeSet::new(7)?.is_empty());
+    /// # Ok::<(), ropey::changes::ChangeError>(())
+    /// ```
     pub fn is_empty(&self) -> bool {
         self.changes.count() == 0
     }
 
     /// The replacements, in order.
+    ///
+    /// ```
+    /// use ropey::changes::ChangeSet;
+    ///
+    /// let mut changes = ChangeSet::new(7)?;
+    /// changes.replace(0, 3, "1")?;
+    /// let edits = changes.edits();
+    /// assert_eq!((edits[0].start, edits[0].end, edits[0].text), (0, 3, "1"));
+    /// # Ok::<(), ropey::changes::ChangeError>(())
+    /// ```
     pub fn edits(&self) -> Vec<EditRange<'_>> {
         self.changes.edits()
     }
@@ -182,6 +243,17 @@ impl ChangeSet {
     ///
     /// `LengthDiffers` if the rope's length isn't `len_before()`; then `TooLong` if its text and the texts that the changes
     /// insert have more than `isize::MAX` bytes together. A call that fails leaves the rope as it was.
+    ///
+    /// ```
+    /// use ropey::changes::ChangeSet;
+    ///
+    /// let mut changes = ChangeSet::new(7)?;
+    /// changes.replace(0, 3, "1")?;
+    /// let mut rope = ropey::Rope::from_str("one two");
+    /// changes.apply(&mut rope)?;
+    /// assert_eq!(rope, "1 two");
+    /// # Ok::<(), ropey::changes::ChangeError>(())
+    /// ```
     pub fn apply(&self, rope: &mut Rope) -> Result<(), ChangeError> {
         let error = for_lengths(self.len_before(), rope.len_chars());
         rope.apply(&self.changes).map_err(error)
@@ -192,6 +264,19 @@ impl ChangeSet {
     /// # Errors
     ///
     /// `LengthDiffers` if the rope's length isn't `len_before()`.
+    ///
+    /// ```
+    /// use ropey::changes::ChangeSet;
+    ///
+    /// let mut changes = ChangeSet::new(7)?;
+    /// changes.replace(0, 3, "1")?;
+    /// let mut rope = ropey::Rope::from_str("one two");
+    /// let undo = changes.invert(&rope)?;
+    /// changes.apply(&mut rope)?;
+    /// undo.apply(&mut rope)?;
+    /// assert_eq!(rope, "one two");
+    /// # Ok::<(), ropey::changes::ChangeError>(())
+    /// ```
     pub fn invert(&self, before: &Rope) -> Result<ChangeSet, ChangeError> {
         let error = for_lengths(self.len_before(), before.len_chars());
         self.changes.invert(&before.root).map(ChangeSet::of).map_err(error)
@@ -202,6 +287,19 @@ impl ChangeSet {
     /// # Errors
     ///
     /// `LengthDiffers` if `later` isn't for a text of `len_after()` characters.
+    ///
+    /// ```
+    /// use ropey::changes::ChangeSet;
+    ///
+    /// let mut changes = ChangeSet::new(7)?;
+    /// changes.replace(0, 3, "1")?;
+    /// let mut later = ChangeSet::new(5)?;
+    /// later.replace(2, 5, "2")?;
+    /// let mut rope = ropey::Rope::from_str("one two");
+    /// changes.compose(&later)?.apply(&mut rope)?;
+    /// assert_eq!(rope, "1 2");
+    /// # Ok::<(), ropey::changes::ChangeError>(())
+    /// ```
     pub fn compose(&self, later: &ChangeSet) -> Result<ChangeSet, ChangeError> {
         let error = for_lengths(later.len_before(), self.len_after());
         self.changes.compose(&later.changes).map(ChangeSet::of).map_err(error)
@@ -215,6 +313,20 @@ impl ChangeSet {
     ///
     /// `LengthDiffers` if the two are for different lengths; then `TooLong` if the text after the result would have more than
     /// `isize::MAX` characters.
+    ///
+    /// ```
+    /// use ropey::changes::{ChangeSet, Side};
+    ///
+    /// let mut changes = ChangeSet::new(7)?;
+    /// changes.replace(0, 3, "1")?;
+    /// let mut other = ChangeSet::new(7)?;
+    /// other.replace(4, 7, "2")?;
+    /// let mut rope = ropey::Rope::from_str("one two");
+    /// changes.apply(&mut rope)?;
+    /// other.rebase(&changes, Side::After)?.apply(&mut rope)?;
+    /// assert_eq!(rope, "1 2");
+    /// # Ok::<(), ropey::changes::ChangeError>(())
+    /// ```
     pub fn rebase(&self, over: &ChangeSet, side: Side) -> Result<ChangeSet, ChangeError> {
         let error = for_lengths(self.len_before(), over.len_before());
         self.changes.rebase(&over.changes, side as u32).map(ChangeSet::of).map_err(error)
@@ -227,6 +339,15 @@ impl ChangeSet {
     /// # Panics
     ///
     /// If the index is past `len_before()`.
+    ///
+    /// ```
+    /// use ropey::changes::{ChangeSet, Side};
+    ///
+    /// let mut changes = ChangeSet::new(7)?;
+    /// changes.replace(0, 3, "1")?;
+    /// assert_eq!(changes.map(4, Side::Before), 2);
+    /// # Ok::<(), ropey::changes::ChangeError>(())
+    /// ```
     #[track_caller]
     pub fn map(&self, char_idx: usize, side: Side) -> usize {
         match self.changes.map(char_idx, side as u32) {
@@ -240,6 +361,17 @@ impl ChangeSet {
     /// # Panics
     ///
     /// If one of the indices is past `len_before()`.
+    ///
+    /// ```
+    /// use ropey::changes::{ChangeSet, Side};
+    ///
+    /// let mut changes = ChangeSet::new(7)?;
+    /// changes.replace(0, 3, "1")?;
+    /// let mut carets = [0, 4, 7];
+    /// changes.map_sorted(&mut carets, Side::Before);
+    /// assert_eq!(carets, [0, 2, 5]);
+    /// # Ok::<(), ropey::changes::ChangeError>(())
+    /// ```
     #[track_caller]
     pub fn map_sorted(&self, char_indices: &mut [usize], side: Side) {
         let moved = self.changes.map_sorted(char_indices, side as u32);

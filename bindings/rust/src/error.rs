@@ -1,10 +1,10 @@
-//! Why calls are refused.
+//! Why calls fail.
 use std::fmt;
 
-/// What a call that may be refused answers.
+/// What a call that may fail returns.
 pub type Result<T> = std::result::Result<T, Error>;
 
-/// Why a call was refused, with the index or range that it was given and the length that it met.
+/// Why a call failed, with the index or range that it was given and the length that it met.
 ///
 /// `Debug` prints what `Display` prints.
 ///
@@ -30,7 +30,7 @@ pub enum Error {
     LineIndexOutOfBounds(usize, usize),
     /// An index in UTF-16 past the end: the index, and the length in code units.
     Utf16IndexOutOfBounds(usize, usize),
-    /// A byte index inside a character. No call answers it.
+    /// A byte index inside a character. No call returns it.
     ByteIndexNotCharBoundary(usize),
     /// A range of bytes that starts or ends inside a character: its bounds as they were given.
     ByteRangeNotCharBoundary(Option<usize>, Option<usize>),

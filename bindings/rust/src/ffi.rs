@@ -8,19 +8,20 @@
 //! - The bytes of a chunk, and of a piece, are UTF-8, and a character that is answered is a Unicode scalar value.
 //! - A `&str` is UTF-8, and its length is at most `isize::MAX`.
 //! - What a call writes to is never read by it, so that a list is handed over as room that holds nothing yet.
-//! - Counts of owners are not atomic. Without the feature `threads`, nothing that holds a `Root` is `Send` or `Sync`.
+//! - Counts of owners are not atomic: whoever changes one holds the lock. With the feature `single_thread` there is no lock, and
+//!   nothing that holds a `Root` is `Send` or `Sync`.
 #![allow(unsafe_code)]
 
 use std::alloc::{handle_alloc_error, Layout};
-use std::arch::x86_64::{_mm_prefetch, _MM_HINT_T0};
 use std::cell::Cell;
 use std::ffi::c_void;
 use std::marker::PhantomData;
 use std::mem::MaybeUninit;
 use std::ptr;
 
+use crate::positions::Encoding;
 use crate::slice::known;
-use crate::MAX_BYTES;
+use crate::{LineBreaks, MAX_BYTES};
 
 pub(crate) mod changes;
 
@@ -62,6 +63,13 @@ impl Piece {
     }
 }
 
+/// `ropey_place`.
+#[repr(C)]
+struct Place {
+    line: usize,
+    column: usize,
+}
+
 /// `ropey_counts`: how much a text holds.
 #[repr(C)]
 #[derive(Clone, Copy, Debug)]
@@ -96,13 +104,6 @@ const OK: u32 = 0;
 const OUT_OF_MEMORY: u32 = 1;
 const TOO_LONG: u32 = 15;
 
-/// The set of line breaks that the crate was built with: LF; LF, CR and CR LF; or all of Unicode's.
-const BREAK_SET: u32 = match (cfg!(feature = "cr_lines"), cfg!(feature = "unicode_lines")) {
-    (false, false) => 0,
-    (true, false) => 1,
-    (_, true) => 2,
-};
-
 // Those that are alike are declared where they are called.
 extern "C" {
     fn ropey_from_text(text: *const u8, len: usize, break_set: u32, rope: *mut Handle) -> u32;
@@ -116,14 +117,40 @@ extern "C" {
     fn ropey_remove(rope: *mut Handle, start: usize, end: usize) -> u32;
     fn ropey_split_off(rope: *mut Handle, char_idx: usize, tail: *mut Handle) -> u32;
     fn ropey_append(rope: *mut Handle, other: *mut Handle) -> u32;
+    fn ropey_char_to_position_in(rope: Held, char_idx: usize, encoding: u32, place: *mut Place) -> u32;
+    fn ropey_clamped_position_to_char(
+        rope: Held,
+        line: usize,
+        column: usize,
+        encoding: u32,
+        char_idx: *mut usize,
+    ) -> u32;
     fn ropey_text_counts_unchecked(text: *const u8, len: usize, break_set: u32, counts: *mut Counts) -> u32;
-    fn ropey_counts_in_chars_at(rope: Held, start: usize, end: usize, counts: *mut Counts, before: *mut Counts) -> u32;
-    fn ropey_char_slice_at(rope: Held, start: usize, end: usize, slice: *mut RawSlice, before: *mut Counts) -> u32;
-    fn ropey_byte_slice_at(rope: Held, start: usize, end: usize, slice: *mut RawSlice, before: *mut Counts) -> u32;
+    fn ropey_counts_in_chars_with_before(
+        rope: Held,
+        start: usize,
+        end: usize,
+        counts: *mut Counts,
+        before: *mut Counts,
+    ) -> u32;
+    fn ropey_char_slice_with_before(
+        rope: Held,
+        start: usize,
+        end: usize,
+        slice: *mut RawSlice,
+        before: *mut Counts,
+    ) -> u32;
+    fn ropey_byte_slice_with_before(
+        rope: Held,
+        start: usize,
+        end: usize,
+        slice: *mut RawSlice,
+        before: *mut Counts,
+    ) -> u32;
 }
 
 /// One lock for all ropes, around every call that may touch a count of owners: clones, edits, frees.
-#[cfg(feature = "threads")]
+#[cfg(not(feature = "single_thread"))]
 mod owners {
     use std::sync::{Mutex, MutexGuard, PoisonError};
 
@@ -145,7 +172,7 @@ mod owners {
     unsafe impl Sync for super::Piece {}
 }
 
-#[cfg(not(feature = "threads"))]
+#[cfg(feature = "single_thread")]
 mod owners {
     pub(super) fn lock() -> impl Sized {}
 }
@@ -190,8 +217,8 @@ unsafe fn text_at<'a>(piece: Piece) -> &'a str {
     std::str::from_utf8_unchecked(std::slice::from_raw_parts(piece.text, piece.len))
 }
 
-/// A rope of the library.
-pub(crate) struct Root(Handle);
+/// A rope of the library, and its set of line breaks.
+pub(crate) struct Root(Handle, LineBreaks);
 
 impl Drop for Root {
     fn drop(&mut self) {
@@ -202,7 +229,7 @@ impl Drop for Root {
 
 impl Clone for Root {
     fn clone(&self) -> Root {
-        let mut copy = Root(NONE);
+        let mut copy = Root(NONE, self.1);
         let _lock = lock();
         must(unsafe { ropey_clone(&self.0, &mut copy.0) });
         copy
@@ -211,22 +238,27 @@ impl Clone for Root {
 
 /// Edits answer whether the index or range was in range. Out of memory, they end as those of a `Vec` do.
 impl Root {
-    pub(crate) fn of_text(text: &str) -> Root {
-        let mut root = Root(NONE);
+    pub(crate) fn of_text(text: &str, breaks: LineBreaks) -> Root {
+        let mut root = Root(NONE, breaks);
         // Safety: a `&str` is UTF-8.
-        must(unsafe { ropey_from_text_unchecked(text.as_ptr(), text.len(), BREAK_SET, &mut root.0) });
+        must(unsafe { ropey_from_text_unchecked(text.as_ptr(), text.len(), breaks as u32, &mut root.0) });
         root
     }
 
     /// A rope of the bytes; none where they are not UTF-8.
-    pub(crate) fn of_bytes(bytes: &[u8]) -> Option<Root> {
-        let mut root = Root(NONE);
-        done(unsafe { ropey_from_text(bytes.as_ptr(), bytes.len(), BREAK_SET, &mut root.0) }).then_some(root)
+    pub(crate) fn of_bytes(bytes: &[u8], breaks: LineBreaks) -> Option<Root> {
+        let mut root = Root(NONE, breaks);
+        done(unsafe { ropey_from_text(bytes.as_ptr(), bytes.len(), breaks as u32, &mut root.0) }).then_some(root)
+    }
+
+    #[inline]
+    pub(crate) fn breaks(&self) -> LineBreaks {
+        self.1
     }
 
     /// A rope of the characters from `start` up to `end`, which are in range.
     pub(crate) fn clone_chars(&self, start: usize, end: usize) -> Root {
-        let mut copy = Root(NONE);
+        let mut copy = Root(NONE, self.1);
         let _lock = lock();
         must(unsafe { ropey_clone_chars(&self.0, start, end, &mut copy.0) });
         copy
@@ -253,7 +285,7 @@ impl Root {
     }
 
     pub(crate) fn split_off(&mut self, char_idx: usize) -> Option<Root> {
-        let mut tail = Root(NONE);
+        let mut tail = Root(NONE, self.1);
         let is_done = {
             let _lock = lock();
             done(unsafe { ropey_split_off(&mut self.0, char_idx, &mut tail.0) })
@@ -352,7 +384,7 @@ impl Root {
     #[inline]
     pub(crate) fn char_slice(&self, start: usize, end: usize) -> (Lent<'_>, Counts) {
         let mut before = Counts::NONE;
-        let slice = written(|slice| unsafe { ropey_char_slice_at(&self.0, start, end, slice, &mut before) });
+        let slice = written(|slice| unsafe { ropey_char_slice_with_before(&self.0, start, end, slice, &mut before) });
         (unsafe { known(slice).lent() }, before)
     }
 
@@ -361,7 +393,7 @@ impl Root {
     #[inline]
     pub(crate) fn byte_slice(&self, start: usize, end: usize) -> Option<(Lent<'_>, Counts)> {
         let mut before = Counts::NONE;
-        let slice = written(|slice| unsafe { ropey_byte_slice_at(&self.0, start, end, slice, &mut before) })?;
+        let slice = written(|slice| unsafe { ropey_byte_slice_with_before(&self.0, start, end, slice, &mut before) })?;
         Some((unsafe { slice.lent() }, before))
     }
 
@@ -369,8 +401,20 @@ impl Root {
     #[inline]
     pub(crate) fn counts_in_chars(&self, start: usize, end: usize) -> (Counts, Counts) {
         let mut before = Counts::NONE;
-        let counts = written(|counts| unsafe { ropey_counts_in_chars_at(&self.0, start, end, counts, &mut before) });
+        let counts =
+            written(|counts| unsafe { ropey_counts_in_chars_with_before(&self.0, start, end, counts, &mut before) });
         (known(counts), before)
+    }
+
+    /// The line and column of a character; none where it is past the end.
+    pub(crate) fn char_to_position(&self, char_idx: usize, encoding: Encoding) -> Option<(usize, usize)> {
+        let place = written(|place| unsafe { ropey_char_to_position_in(&self.0, char_idx, encoding as u32, place) });
+        place.map(|Place { line, column }| (line, column))
+    }
+
+    /// The character at a line and column, each of them any number.
+    pub(crate) fn clamped_position_to_char(&self, line: usize, column: usize, encoding: Encoding) -> usize {
+        known(written(|i| unsafe { ropey_clamped_position_to_char(&self.0, line, column, encoding as u32, i) }))
     }
 
     /// How much the rope holds.
@@ -395,12 +439,12 @@ macro_rules! lists {
 }
 
 lists! {
-    ropey_chunks_at_byte: Piece, usize, usize, usize;
-    ropey_chunks_at_char: Piece, usize, usize, usize;
-    ropey_chunks_at_line_break: Piece, usize, usize, usize;
+    ropey_chunks_from_byte_with_before: Piece, usize, usize, usize;
+    ropey_chunks_from_char_with_before: Piece, usize, usize, usize;
+    ropey_chunks_from_line_break_with_before: Piece, usize, usize, usize;
     ropey_chunks_before_byte: Piece, usize;
-    ropey_lines_at: RawSlice, Counts;
-    ropey_lines_from_at: RawSlice, Counts;
+    ropey_lines_from_char_with_before: RawSlice, Counts;
+    ropey_lines_from_with_before: RawSlice, Counts;
     ropey_lines_before: RawSlice;
 }
 
@@ -413,6 +457,18 @@ fn fill<T>(list: &mut Vec<T>, room: usize, call: impl FnOnce(*mut T, usize, *mut
     must(call(list.as_mut_ptr(), room, &mut count));
     // Safety: the library wrote so many, for which there is room.
     unsafe { list.set_len(count) };
+}
+
+/// Has the processor fetch a byte that is read soon. Nothing is read here.
+#[inline(always)]
+fn prefetch(byte: *const u8) {
+    #[cfg(target_arch = "x86_64")]
+    unsafe {
+        use std::arch::x86_64::{_mm_prefetch, _MM_HINT_T0};
+        _mm_prefetch::<_MM_HINT_T0>(byte.cast());
+    }
+    #[cfg(not(target_arch = "x86_64"))]
+    let _ = byte;
 }
 
 /// How many pieces take no memory of their own.
@@ -475,8 +531,8 @@ impl<'a> Pieces<'a> {
     pub(crate) fn touch(&mut self, i: usize) {
         let text = self.get(i).unwrap_or_default();
         for line in (0..text.len()).step_by(64) {
-            // Safety: nothing is read.
-            unsafe { _mm_prefetch::<_MM_HINT_T0>(text.as_ptr().add(line).cast()) };
+            // Safety: the byte is one of the text.
+            prefetch(unsafe { text.as_ptr().add(line) });
         }
     }
 
@@ -553,9 +609,9 @@ macro_rules! chunks_at {
 }
 
 chunks_at! {
-    fetch_at_byte: ropey_chunks_at_byte;
-    fetch_at_char: ropey_chunks_at_char;
-    fetch_at_line_break: ropey_chunks_at_line_break;
+    fetch_at_byte: ropey_chunks_from_byte_with_before;
+    fetch_at_char: ropey_chunks_from_char_with_before;
+    fetch_at_line_break: ropey_chunks_from_line_break_with_before;
 }
 
 /// Some lines of a rope, from the line `first` on, or from it back.
@@ -639,10 +695,17 @@ impl<'a> Window<'a> {
         }
         fill(&mut self.list, room.min(left), |lines, room, count| unsafe {
             match self.before {
-                None if room > 1 && !is_back => {
-                    ropey_lines_from_at(&root.0, line_idx, lines, room, count, self.before.insert(Counts::NONE))
+                None if room > 1 && !is_back => ropey_lines_from_with_before(
+                    &root.0,
+                    line_idx,
+                    lines,
+                    room,
+                    count,
+                    self.before.insert(Counts::NONE),
+                ),
+                Some(at) if !is_back => {
+                    ropey_lines_from_char_with_before(&root.0, at.chars, lines, room, count, self.before.insert(at))
                 }
-                Some(at) if !is_back => ropey_lines_at(&root.0, at.chars, lines, room, count, self.before.insert(at)),
                 _ if room > 1 => ropey_lines_before(&root.0, line_idx + 1, lines, room, count),
                 _ => {
                     *count = 1;
@@ -658,50 +721,60 @@ impl<'a> Window<'a> {
 /// times as many each time that it goes on in the same direction.
 const LINES: usize = 50;
 
-/// Conversions in a text, by the set of line breaks where it is given. An index past the end stands for the end.
+/// A plain text, and the set of line breaks by which its lines are counted.
+#[derive(Clone, Copy)]
+pub(crate) struct Plain<'a> {
+    pub text: &'a str,
+    pub breaks: LineBreaks,
+}
+
+impl<'a> Plain<'a> {
+    /// How much the text holds.
+    pub(crate) fn counts(self) -> Counts {
+        let (text, len) = (self.text.as_ptr(), self.text.len());
+        // Safety: a `&str` is UTF-8.
+        known(written(|counts| unsafe { ropey_text_counts_unchecked(text, len, self.breaks as u32, counts) }))
+    }
+
+    /// Another text with the same set of line breaks.
+    #[inline]
+    pub(crate) fn with(self, text: &'a str) -> Plain<'a> {
+        Plain { text, ..self }
+    }
+}
+
+/// Conversions in a text, by its set of line breaks where `breaks` stands. An index past the end stands for the end.
 macro_rules! text_conversions {
-    ($($(#[$doc:meta])* $name:ident: $call:ident($($break_set:ident: $set:ty)?);)*) => {
+    ($($name:ident: $call:ident($($breaks:ident)?);)*) => {
         extern "C" {
-            $(fn $call(text: *const u8, len: usize, $(break_set: $set,)? index: usize, answer: *mut usize) -> u32;)*
+            $(fn $call(text: *const u8, len: usize, $($breaks: u32,)? index: usize, answer: *mut usize) -> u32;)*
         }
 
-        $(
-            $(#[$doc])*
-            #[inline]
-            pub fn $name(text: &str, index: usize) -> usize {
-                known(written(|answer| unsafe { $call(text.as_ptr(), text.len(), $($break_set,)? index, answer) }))
-            }
-        )*
+        impl Plain<'_> {
+            $(
+                #[inline]
+                pub(crate) fn $name(self, index: usize) -> usize {
+                    let (text, len) = (self.text.as_ptr(), self.text.len());
+                    known(written(|answer| unsafe { $call(text, len, $(self.$breaks as u32,)? index, answer) }))
+                }
+            )*
+        }
     };
 }
 
 text_conversions! {
-    /// The character that holds a byte.
     byte_to_char: ropey_text_byte_to_char();
-    /// The byte at which a character starts.
     char_to_byte: ropey_text_char_to_byte();
-    /// The code unit at which a character starts.
     char_to_utf16: ropey_text_char_to_utf16();
-    /// The character that holds a code unit.
     utf16_to_char: ropey_text_utf16_to_char();
-    /// The line on which a byte lies.
-    byte_to_line: ropey_text_byte_to_line(BREAK_SET: u32);
-    /// The line on which a character lies.
-    char_to_line: ropey_text_char_to_line(BREAK_SET: u32);
-    /// The byte at which a line starts.
-    line_to_byte: ropey_text_line_to_byte(BREAK_SET: u32);
-    /// The character at which a line starts.
-    line_to_char: ropey_text_line_to_char(BREAK_SET: u32);
+    byte_to_line: ropey_text_byte_to_line(breaks);
+    char_to_line: ropey_text_char_to_line(breaks);
+    line_to_byte: ropey_text_line_to_byte(breaks);
+    line_to_char: ropey_text_line_to_char(breaks);
 }
 
 impl Counts {
     pub(crate) const NONE: Counts = Counts { bytes: 0, chars: 0, utf16: 0, line_breaks: 0 };
-
-    /// How much a text holds.
-    pub(crate) fn of(text: &str) -> Counts {
-        // Safety: a `&str` is UTF-8.
-        known(written(|counts| unsafe { ropey_text_counts_unchecked(text.as_ptr(), text.len(), BREAK_SET, counts) }))
-    }
 
     #[inline(always)]
     fn with(self, other: Counts, each: impl Fn(usize, usize) -> usize) -> Counts {

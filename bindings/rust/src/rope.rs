@@ -3,14 +3,14 @@ use std::io;
 use std::ops::RangeBounds;
 
 use crate::builder;
-use crate::calls::{panicking_calls, refuse};
+use crate::calls::{example, panicking_calls, refuse};
 use crate::ffi::changes::Changes;
 use crate::ffi::{ChunkAt, Counts, Root};
 use crate::instance::Instance;
 use crate::iter::{Bytes, Chars, Chunks, Lines};
 use crate::range::Bounds;
 use crate::slice::{ChunksAt, RopeSlice};
-use crate::{Error, Result, MAX_BYTES};
+use crate::{Error, LineBreaks, Result, MAX_BYTES};
 
 /// A long text that is edited anywhere.
 ///
@@ -37,9 +37,10 @@ pub struct Rope {
 }
 
 macro_rules! conversions {
-    ($($name:ident($index:ident) else $error:ident of $len:ident by $call:ident for $plain:literal;)*) => {
+    ($($name:ident($index:ident) else $error:ident of $len:ident by $call:ident for $plain:literal, $shown:literal;)*) => {
         $(
-            #[doc = concat!("What [`", $plain, "`](Self::", $plain, ") answers, refused where the index is past the end.")]
+            #[doc = concat!("Returns what [`", $plain, "`](Self::", $plain, ") does, or an error if the index is past the end.")]
+            #[doc = example!("Rope::from_str", $shown)]
             #[inline]
             pub fn $name(&self, $index: usize) -> Result<usize> {
                 self.root.$call($index).ok_or_else(|| Error::$error($index, self.$len()))
@@ -50,9 +51,10 @@ macro_rules! conversions {
 
 /// Calls of the root, or of the slice of all of the rope. Those with an index answer none where it is past the end.
 macro_rules! asked {
-    ($($(#[$doc:meta])* $name:ident($($index:ident)?) -> $answer:ty [$($call:tt)+];)*) => {
+    ($($(#[$doc:meta])* $name:ident($($index:ident)?) -> $answer:ty [$($call:tt)+], $shown:literal;)*) => {
         $(
             $(#[$doc])*
+            #[doc = example!("Rope::from_str", $shown)]
             #[inline]
             pub fn $name(&self, $($index: usize)?) -> $answer {
                 self.$($call)+($($index)?)
@@ -63,28 +65,84 @@ macro_rules! asked {
 
 /// Making, reading and writing.
 impl Rope {
-    /// An empty rope.
+    /// Returns an empty rope.
+    ///
+    /// ```
+    /// assert_eq!(ropey::Rope::new().len_lines(), 1);
+    /// ```
     pub fn new() -> Rope {
-        Rope::from_str("")
+        Rope::new_with(LineBreaks::CHOSEN)
     }
 
-    /// A rope of a copy of the text.
+    /// Returns an empty rope with a set of line breaks.
+    ///
+    /// ```
+    /// use ropey::{LineBreaks, Rope};
+    ///
+    /// let mut rope = Rope::new_with(LineBreaks::Lf);
+    /// rope.insert(0, "one\rtwo\n");
+    /// assert_eq!(rope.len_lines(), 2);
+    /// ```
+    pub fn new_with(breaks: LineBreaks) -> Rope {
+        Rope::from_str_with("", breaks)
+    }
+
+    /// Returns a rope of a copy of the text.
+    ///
+    /// ```
+    /// assert_eq!(ropey::Rope::from_str("one\ntwo").len_lines(), 2);
+    /// ```
     #[allow(clippy::should_implement_trait)]
     pub fn from_str(text: &str) -> Rope {
-        Rope::of(Root::of_text(text))
+        Rope::from_str_with(text, LineBreaks::CHOSEN)
+    }
+
+    /// Returns a rope of a copy of the text, with a set of line breaks.
+    ///
+    /// ```
+    /// use ropey::{LineBreaks, Rope};
+    ///
+    /// let rope = Rope::from_str_with("one\u{2028}two\n", LineBreaks::CrLf);
+    /// assert_eq!(rope.line(0), "one\u{2028}two\n");
+    /// ```
+    pub fn from_str_with(text: &str, breaks: LineBreaks) -> Rope {
+        Rope::of(Root::of_text(text, breaks))
     }
 
     pub(crate) fn of(root: Root) -> Rope {
         Rope { root, instance: Instance::default() }
     }
 
-    /// A rope of all that the reader gives, which has to be UTF-8.
+    /// Returns a rope of all that the reader gives, which has to be UTF-8.
     ///
     /// # Errors
     ///
-    /// The reader's first error, an interruption among them, and `InvalidData` where the bytes are not UTF-8.
-    pub fn from_reader<T: io::Read>(mut reader: T) -> io::Result<Rope> {
-        builder::read(&mut reader)
+    /// The reader's first error, an interruption among them, and `InvalidData` if the bytes are not UTF-8.
+    ///
+    /// ```
+    /// let rope = ropey::Rope::from_reader(&b"one\ntwo"[..])?;
+    /// assert_eq!(rope, "one\ntwo");
+    /// # std::io::Result::Ok(())
+    /// ```
+    pub fn from_reader<T: io::Read>(reader: T) -> io::Result<Rope> {
+        Rope::from_reader_with(reader, LineBreaks::CHOSEN)
+    }
+
+    /// Returns a rope of all that the reader gives, which has to be UTF-8, with a set of line breaks.
+    ///
+    /// # Errors
+    ///
+    /// The reader's first error, an interruption among them, and `InvalidData` if the bytes are not UTF-8.
+    ///
+    /// ```
+    /// use ropey::{LineBreaks, Rope};
+    ///
+    /// let rope = Rope::from_reader_with(&b"one\rtwo"[..], LineBreaks::CrLf)?;
+    /// assert_eq!(rope.len_lines(), 2);
+    /// # std::io::Result::Ok(())
+    /// ```
+    pub fn from_reader_with<T: io::Read>(mut reader: T, breaks: LineBreaks) -> io::Result<Rope> {
+        builder::read(&mut reader, breaks)
     }
 
     /// Writes the text, chunk by chunk.
@@ -92,6 +150,13 @@ impl Rope {
     /// # Errors
     ///
     /// The writer's first error. A beginning of the text is written then.
+    ///
+    /// ```
+    /// let mut written = Vec::new();
+    /// ropey::Rope::from_str("one\ntwo").write_to(&mut written)?;
+    /// assert_eq!(written, b"one\ntwo");
+    /// # std::io::Result::Ok(())
+    /// ```
     pub fn write_to<T: io::Write>(&self, mut writer: T) -> io::Result<()> {
         self.chunks().read().try_for_each(|chunk| writer.write_all(chunk.as_bytes()))
     }
@@ -100,31 +165,52 @@ impl Rope {
 /// Lengths and memory.
 impl Rope {
     asked! {
-        /// The length in bytes, in constant time.
-        len_bytes() -> usize [root.len_bytes];
-        /// The length in characters, in constant time.
-        len_chars() -> usize [root.len_chars];
-        /// The number of lines, in constant time: one more than there are line breaks.
-        len_lines() -> usize [root.len_lines];
-        /// The length in UTF-16 code units, in constant time.
-        len_utf16_cu() -> usize [root.len_utf16];
-        /// A cursor over the chunks.
-        chunks() -> Chunks<'_> [part().chunks];
+        /// Returns the length in bytes, in constant time.
+        len_bytes() -> usize [root.len_bytes], "len_bytes(), 9";
+        /// Returns the length in characters, in constant time.
+        len_chars() -> usize [root.len_chars], "len_chars(), 8";
+        /// Returns the number of lines, in constant time: one more than there are line breaks.
+        len_lines() -> usize [root.len_lines], "len_lines(), 3";
+        /// Returns the length in UTF-16 code units, in constant time.
+        len_utf16_cu() -> usize [root.len_utf16], "len_utf16_cu(), 8";
+        /// Returns a cursor over the chunks.
+        chunks() -> Chunks<'_> [part().chunks], "chunks().count(), 1";
+        /// Returns the set of line breaks.
+        line_breaks() -> LineBreaks [root.breaks], "line_breaks(), ropey::LineBreaks::default()";
     }
 
-    /// How many bytes of text the rope's chunks have room for, those that it shares among them.
+    /// Returns how many bytes of text the rope's chunks have room for, including those that it shares.
+    ///
+    /// ```
+    /// assert!(ropey::Rope::from_str("one").capacity() >= 3);
+    /// ```
     pub fn capacity(&self) -> usize {
         self.chunks().count() * MAX_BYTES
     }
 
-    /// Cuts the text into as few chunks as it can be. It shares none of them with its clones then.
+    /// Cuts the text into as few chunks as possible. The rope then shares none of them with its clones.
+    ///
+    /// ```
+    /// let mut rope = ropey::Rope::from_str(&"one ".repeat(1000));
+    /// rope.remove(500..3500);
+    /// rope.shrink_to_fit();
+    /// assert!(rope.capacity() <= 2 * 984);
+    /// ```
     pub fn shrink_to_fit(&mut self) {
         self.instance.forget();
         self.root.shrink_to_fit();
     }
 
-    /// Whether one of the two is a clone of the other, or both are clones of a third, and neither was edited since. Then
+    /// Returns whether one of the two is a clone of the other, or both are clones of a third, and neither was edited since. Then
     /// their texts are equal. Takes constant time.
+    ///
+    /// ```
+    /// use ropey::Rope;
+    ///
+    /// let rope = Rope::from_str("one");
+    /// assert!(rope.is_instance(&rope.clone()));
+    /// assert!(!rope.is_instance(&Rope::from_str("one")));
+    /// ```
     pub fn is_instance(&self, other: &Rope) -> bool {
         std::ptr::eq(self, other) || self.instance.is(&other.instance)
     }
@@ -136,7 +222,13 @@ impl Rope {
     ///
     /// # Panics
     ///
-    /// Where the index is past the end.
+    /// If the index is past the end.
+    ///
+    /// ```
+    /// let mut rope = ropey::Rope::from_str("one three");
+    /// rope.insert(4, "two ");
+    /// assert_eq!(rope, "one two three");
+    /// ```
     #[track_caller]
     pub fn insert(&mut self, char_idx: usize, text: &str) {
         self.try_insert(char_idx, text).unwrap_or_else(|error| refuse(error))
@@ -146,34 +238,66 @@ impl Rope {
     ///
     /// # Panics
     ///
-    /// Where the index is past the end.
+    /// If the index is past the end.
+    ///
+    /// ```
+    /// let mut rope = ropey::Rope::from_str("nave");
+    /// rope.insert_char(2, 'ï');
+    /// assert_eq!(rope, "naïve");
+    /// ```
     #[track_caller]
     pub fn insert_char(&mut self, char_idx: usize, ch: char) {
         self.try_insert_char(char_idx, ch).unwrap_or_else(|error| refuse(error))
     }
 
-    /// Takes a range of characters out.
+    /// Removes a range of characters.
     ///
     /// # Panics
     ///
-    /// Where the range starts past its end, or reaches past the text's.
+    /// If the range starts past its end, or reaches past the text's.
+    ///
+    /// ```
+    /// let mut rope = ropey::Rope::from_str("one two");
+    /// rope.remove(3..);
+    /// assert_eq!(rope, "one");
+    /// ```
     #[track_caller]
     pub fn remove<R: RangeBounds<usize>>(&mut self, char_range: R) {
         self.try_remove(char_range).unwrap_or_else(|error| refuse(error))
     }
 
-    /// Keeps the characters before an index, and answers a rope of the others.
+    /// Splits the text at an index: keeps the characters before it, and returns a rope of the others.
     ///
     /// # Panics
     ///
-    /// Where the index is past the end.
+    /// If the index is past the end.
+    ///
+    /// ```
+    /// let mut rope = ropey::Rope::from_str("one two");
+    /// assert_eq!(rope.split_off(4), "two");
+    /// assert_eq!(rope, "one ");
+    /// ```
     #[track_caller]
     pub fn split_off(&mut self, char_idx: usize) -> Rope {
         self.try_split_off(char_idx).unwrap_or_else(|error| refuse(error))
     }
 
-    /// Puts the text of another rope behind this one's.
+    /// Appends the text of another rope.
+    ///
+    /// # Panics
+    ///
+    /// If the ropes have different sets of line breaks. Ropes that were given none have one set.
+    ///
+    /// ```
+    /// use ropey::Rope;
+    ///
+    /// let mut rope = Rope::from_str("one ");
+    /// rope.append(Rope::from_str("two"));
+    /// assert_eq!(rope, "one two");
+    /// ```
+    #[track_caller]
     pub fn append(&mut self, other: Rope) {
+        assert!(self.line_breaks() == other.line_breaks(), "Ropes have different sets of line breaks");
         if self.len_bytes() == 0 {
             *self = other;
         } else if other.len_bytes() > 0 {
@@ -182,7 +306,14 @@ impl Rope {
         }
     }
 
-    /// What [`insert`](Self::insert) does, refused where the index is past the end. Then the rope is as it was.
+    /// Does what [`insert`](Self::insert) does, or returns an error if the index is past the end. The rope is then as it was.
+    ///
+    /// ```
+    /// let mut rope = ropey::Rope::from_str("one");
+    /// assert!(rope.try_insert(4, "!").is_err());
+    /// assert!(rope.try_insert(3, "!").is_ok());
+    /// assert_eq!(rope, "one!");
+    /// ```
     pub fn try_insert(&mut self, char_idx: usize, text: &str) -> Result<()> {
         if !self.root.insert(char_idx, text) {
             return Err(Error::CharIndexOutOfBounds(char_idx, self.len_chars()));
@@ -193,7 +324,13 @@ impl Rope {
         Ok(())
     }
 
-    /// What [`insert_char`](Self::insert_char) does, refused where the index is past the end. Then the rope is as it was.
+    /// Does what [`insert_char`](Self::insert_char) does, or returns an error if the index is past the end. The rope is then as it was.
+    ///
+    /// ```
+    /// let mut rope = ropey::Rope::from_str("one");
+    /// assert!(rope.try_insert_char(4, '!').is_err());
+    /// assert_eq!(rope, "one");
+    /// ```
     pub fn try_insert_char(&mut self, char_idx: usize, ch: char) -> Result<()> {
         if !self.root.insert_char(char_idx, ch) {
             return Err(Error::CharIndexOutOfBounds(char_idx, self.len_chars()));
@@ -202,7 +339,13 @@ impl Rope {
         Ok(())
     }
 
-    /// What [`remove`](Self::remove) does, refused where the range is not in range. Then the rope is as it was.
+    /// Does what [`remove`](Self::remove) does, or returns an error if the range is out of bounds. The rope is then as it was.
+    ///
+    /// ```
+    /// let mut rope = ropey::Rope::from_str("one");
+    /// assert!(rope.try_remove(1..4).is_err());
+    /// assert_eq!(rope, "one");
+    /// ```
     pub fn try_remove<R: RangeBounds<usize>>(&mut self, char_range: R) -> Result<()> {
         let (start, end) = Bounds::of(&char_range).of_chars(self.len_chars())?;
         self.instance.forget();
@@ -219,7 +362,13 @@ impl Rope {
         Ok(())
     }
 
-    /// What [`split_off`](Self::split_off) does, refused where the index is past the end. Then the rope is as it was.
+    /// Does what [`split_off`](Self::split_off) does, or returns an error if the index is past the end. The rope is then as it was.
+    ///
+    /// ```
+    /// let mut rope = ropey::Rope::from_str("one");
+    /// assert!(rope.try_split_off(4).is_err());
+    /// assert_eq!(rope.try_split_off(1).unwrap(), "ne");
+    /// ```
     pub fn try_split_off(&mut self, char_idx: usize) -> Result<Rope> {
         let len = self.len_chars();
         match self.root.split_off(char_idx) {
@@ -236,44 +385,52 @@ impl Rope {
 
 /// Look-ups. They take no memory.
 impl Rope {
-    panicking_calls!('_);
+    panicking_calls!('_, "Rope::from_str");
 
     conversions! {
-        try_byte_to_char(byte_idx) else ByteIndexOutOfBounds of len_bytes by byte_to_char for "byte_to_char";
-        try_byte_to_line(byte_idx) else ByteIndexOutOfBounds of len_bytes by byte_to_line for "byte_to_line";
-        try_char_to_byte(char_idx) else CharIndexOutOfBounds of len_chars by char_to_byte for "char_to_byte";
-        try_char_to_line(char_idx) else CharIndexOutOfBounds of len_chars by char_to_line for "char_to_line";
-        try_char_to_utf16_cu(char_idx) else CharIndexOutOfBounds of len_chars by char_to_utf16 for "char_to_utf16_cu";
-        try_utf16_cu_to_char(utf16_cu_idx) else Utf16IndexOutOfBounds of len_utf16_cu by utf16_to_char for "utf16_cu_to_char";
-        try_line_to_byte(line_idx) else LineIndexOutOfBounds of len_lines by line_to_byte for "line_to_byte";
-        try_line_to_char(line_idx) else LineIndexOutOfBounds of len_lines by line_to_char for "line_to_char";
+        try_byte_to_char(byte_idx) else ByteIndexOutOfBounds of len_bytes by byte_to_char for "byte_to_char",
+            "try_byte_to_char(2).unwrap(), 1";
+        try_byte_to_line(byte_idx) else ByteIndexOutOfBounds of len_bytes by byte_to_line for "byte_to_line",
+            "try_byte_to_line(5).unwrap(), 1";
+        try_char_to_byte(char_idx) else CharIndexOutOfBounds of len_chars by char_to_byte for "char_to_byte",
+            "try_char_to_byte(2).unwrap(), 3";
+        try_char_to_line(char_idx) else CharIndexOutOfBounds of len_chars by char_to_line for "char_to_line",
+            "try_char_to_line(9).is_err(), true";
+        try_char_to_utf16_cu(char_idx) else CharIndexOutOfBounds of len_chars by char_to_utf16 for "char_to_utf16_cu",
+            "try_char_to_utf16_cu(8).unwrap(), 8";
+        try_utf16_cu_to_char(utf16_cu_idx) else Utf16IndexOutOfBounds of len_utf16_cu by utf16_to_char for "utf16_cu_to_char",
+            "try_utf16_cu_to_char(9).is_err(), true";
+        try_line_to_byte(line_idx) else LineIndexOutOfBounds of len_lines by line_to_byte for "line_to_byte",
+            "try_line_to_byte(4).is_err(), true";
+        try_line_to_char(line_idx) else LineIndexOutOfBounds of len_lines by line_to_char for "line_to_char",
+            "try_line_to_char(3).unwrap(), 8";
     }
 
     asked! {
-        /// A byte; none where the index is past the last one.
-        get_byte(byte_idx) -> Option<u8> [root.byte];
-        /// A character; none where the index is past the last one.
-        get_char(char_idx) -> Option<char> [root.char];
-        /// A line, its line break among it; none where the index is past the last one.
-        get_line(line_idx) -> Option<RopeSlice<'_>> [root.line];
-        /// What [`chunk_at_byte`](Self::chunk_at_byte) answers; none where the index is past the end.
-        get_chunk_at_byte(byte_idx) -> Option<ChunkAt<'_>> [root.chunk_at_byte];
-        /// What [`chunk_at_char`](Self::chunk_at_char) answers; none where the index is past the end.
-        get_chunk_at_char(char_idx) -> Option<ChunkAt<'_>> [root.chunk_at_char];
-        /// What [`chunk_at_line_break`](Self::chunk_at_line_break) answers; none where the index is past the number of lines.
-        get_chunk_at_line_break(line_break_idx) -> Option<ChunkAt<'_>> [root.chunk_at_line_break];
-        /// A cursor over the bytes that stands before a byte; none where the index is past the end.
-        get_bytes_at(byte_idx) -> Option<Bytes<'_>> [part().get_bytes_at];
-        /// A cursor over the characters that stands before a character; none where the index is past the end.
-        get_chars_at(char_idx) -> Option<Chars<'_>> [part().get_chars_at];
-        /// A cursor over the lines that stands before a line; none where the index is past the number of lines.
-        get_lines_at(line_idx) -> Option<Lines<'_>> [part().get_lines_at];
-        /// What [`chunks_at_byte`](Self::chunks_at_byte) answers; none where the index is past the end.
-        get_chunks_at_byte(byte_idx) -> Option<ChunksAt<'_>> [part().get_chunks_at_byte];
-        /// What [`chunks_at_char`](Self::chunks_at_char) answers; none where the index is past the end.
-        get_chunks_at_char(char_idx) -> Option<ChunksAt<'_>> [part().get_chunks_at_char];
-        /// What [`chunks_at_line_break`](Self::chunks_at_line_break) answers; none where the index is past the number of lines.
-        get_chunks_at_line_break(line_break_idx) -> Option<ChunksAt<'_>> [part().get_chunks_at_line_break];
+        /// Returns a byte, or `None` if the index is past the last one.
+        get_byte(byte_idx) -> Option<u8> [root.byte], "get_byte(9), None";
+        /// Returns a character, or `None` if the index is past the last one.
+        get_char(char_idx) -> Option<char> [root.char], "get_char(1), Some('é')";
+        /// Returns a line, its line break among it, or `None` if the index is past the last one.
+        get_line(line_idx) -> Option<RopeSlice<'_>> [root.line], "get_line(3).is_none(), true";
+        /// Returns what [`chunk_at_byte`](Self::chunk_at_byte) does, or `None` if the index is past the end.
+        get_chunk_at_byte(byte_idx) -> Option<ChunkAt<'_>> [root.chunk_at_byte], "get_chunk_at_byte(10).is_none(), true";
+        /// Returns what [`chunk_at_char`](Self::chunk_at_char) does, or `None` if the index is past the end.
+        get_chunk_at_char(char_idx) -> Option<ChunkAt<'_>> [root.chunk_at_char], "get_chunk_at_char(4).is_some(), true";
+        /// Returns what [`chunk_at_line_break`](Self::chunk_at_line_break) does, or `None` if the index is past the number of lines.
+        get_chunk_at_line_break(line_break_idx) -> Option<ChunkAt<'_>> [root.chunk_at_line_break], "get_chunk_at_line_break(4).is_none(), true";
+        /// Returns a cursor over the bytes that stands before a byte, or `None` if the index is past the end.
+        get_bytes_at(byte_idx) -> Option<Bytes<'_>> [part().get_bytes_at], "get_bytes_at(9).unwrap().next(), None";
+        /// Returns a cursor over the characters that stands before a character, or `None` if the index is past the end.
+        get_chars_at(char_idx) -> Option<Chars<'_>> [part().get_chars_at], "get_chars_at(9).is_none(), true";
+        /// Returns a cursor over the lines that stands before a line, or `None` if the index is past the number of lines.
+        get_lines_at(line_idx) -> Option<Lines<'_>> [part().get_lines_at], "get_lines_at(3).unwrap().next().is_none(), true";
+        /// Returns what [`chunks_at_byte`](Self::chunks_at_byte) does, or `None` if the index is past the end.
+        get_chunks_at_byte(byte_idx) -> Option<ChunksAt<'_>> [part().get_chunks_at_byte], "get_chunks_at_byte(10).is_none(), true";
+        /// Returns what [`chunks_at_char`](Self::chunks_at_char) does, or `None` if the index is past the end.
+        get_chunks_at_char(char_idx) -> Option<ChunksAt<'_>> [part().get_chunks_at_char], "get_chunks_at_char(0).unwrap().1, 0";
+        /// Returns what [`chunks_at_line_break`](Self::chunks_at_line_break) does, or `None` if the index is past the number of lines.
+        get_chunks_at_line_break(line_break_idx) -> Option<ChunksAt<'_>> [part().get_chunks_at_line_break], "get_chunks_at_line_break(4).is_none(), true";
     }
 
     /// The slice of all of the text, as a range, though it may lie in one chunk.

@@ -1,12 +1,12 @@
 //! Slices: ranges of a rope's text, or of a plain one.
 use std::ops::RangeBounds;
 
-use crate::calls::panicking_calls;
-use crate::ffi::{self, Before, ChunkAt, Counts, Lent, Pieces, Root};
+use crate::calls::{example, panicking_calls};
+use crate::ffi::{Before, ChunkAt, Counts, Lent, Pieces, Plain, Root};
 use crate::iter::{Bytes, Chars, Chunks, InChunk, Lines};
 use crate::range::Bounds;
 use crate::str_utils::first_line;
-use crate::{Error, Result, MAX_BYTES};
+use crate::{Error, LineBreaks, Result, MAX_BYTES};
 
 /// A part of a text: of a rope's, which stays where it is, or of a plain `&str`.
 ///
@@ -34,7 +34,7 @@ pub(crate) enum Part<'a> {
     /// A range of a rope, which begins behind so much of its text.
     Range { root: &'a Root, start: Counts },
     /// A text in one piece.
-    Text(&'a str),
+    Text(Plain<'a>),
 }
 
 /// A cursor over chunks, and the byte, character and line break at which it stands.
@@ -52,7 +52,7 @@ pub(crate) fn cut(text: &str, bytes: usize, start: Counts, counts: Counts) -> (&
 }
 
 impl Root {
-    /// A line, its line break among it; none where the index is past the last one.
+    /// Returns a line, its line break among it, or `None` if the index is past the last one.
     pub(crate) fn line(&self, line_idx: usize) -> Option<RopeSlice<'_>> {
         Some(RopeSlice::of_lent(self, self.line_slice(line_idx)?, || RopeSlice::before_line(self, line_idx)))
     }
@@ -60,28 +60,36 @@ impl Root {
 
 /// How slices are made.
 impl<'a> RopeSlice<'a> {
-    pub(crate) const EMPTY: RopeSlice<'static> = RopeSlice { counts: Counts::NONE, part: Part::Text("") };
+    pub(crate) fn empty(breaks: LineBreaks) -> RopeSlice<'static> {
+        RopeSlice::of_text(Plain { text: "", breaks }, Counts::NONE)
+    }
 
     /// A range of a rope.
     #[inline]
     pub(crate) fn of_range(root: &'a Root, start: Counts, counts: Counts) -> RopeSlice<'a> {
         match counts.bytes {
-            0 => RopeSlice::EMPTY,
+            0 => RopeSlice::empty(root.breaks()),
             _ => RopeSlice { counts, part: Part::Range { root, start } },
         }
     }
 
     /// A text whose counts are known.
     #[inline]
-    pub(crate) fn of_text(text: &'a str, counts: Counts) -> RopeSlice<'a> {
-        RopeSlice { counts, part: Part::Text(text) }
+    pub(crate) fn of_text(plain: Plain<'a>, counts: Counts) -> RopeSlice<'a> {
+        RopeSlice { counts, part: Part::Text(plain) }
+    }
+
+    /// A text, which is counted here.
+    #[inline]
+    pub(crate) fn counted(plain: Plain<'a>) -> RopeSlice<'a> {
+        RopeSlice::of_text(plain, plain.counts())
     }
 
     /// What a rope lends: the text, where it lies in one chunk, and else a range.
     #[inline]
     pub(crate) fn of_lent(root: &'a Root, lent: Lent<'a>, before: impl FnOnce() -> Counts) -> RopeSlice<'a> {
         match lent {
-            (Some(text), counts) => RopeSlice::of_text(text, counts),
+            (Some(text), counts) => RopeSlice::of_text(Plain { text, breaks: root.breaks() }, counts),
             (None, counts) => RopeSlice::of_range(root, before(), counts),
         }
     }
@@ -129,7 +137,7 @@ impl<'a> RopeSlice<'a> {
         self.counts.bytes <= MAX_BYTES && matches!(self.part, Part::Range { .. })
     }
 
-    /// The line of a rope that the slice's line is, where it is no less; else none. In a slice that isn't whole, those at its
+    /// Returns the line of a rope that the slice's line is, where it is no less; else none. In a slice that isn't whole, those at its
     /// ends may be cut; at the end also the one before the last, where the LF of a CR LF is cut off.
     #[inline]
     pub(crate) fn line_of_rope(&self, line_idx: usize, is_whole: bool) -> Option<(&'a Root, usize)> {
@@ -145,10 +153,11 @@ impl<'a> RopeSlice<'a> {
 macro_rules! conversions {
     (
         $($name:ident($index:ident of $len:ident: $from:ident -> $to:ident)
-            else $error:ident by $call:ident for $plain:literal;)*
+            else $error:ident by $call:ident for $plain:literal, $shown:literal;)*
     ) => {
         $(
-            #[doc = concat!("What [`", $plain, "`](Self::", $plain, ") answers, refused where the index is past the end.")]
+            #[doc = concat!("Returns what [`", $plain, "`](Self::", $plain, ") does, or an error if the index is past the end.")]
+            #[doc = example!("RopeSlice::from", $shown)]
             #[inline]
             pub fn $name(&self, $index: usize) -> Result<usize> {
                 let (len, all) = (self.$len(), self.counts.$to);
@@ -158,7 +167,7 @@ macro_rules! conversions {
                     _ if $index == 0 => 0,
                     // The line after a CR whose LF is cut off starts past the range.
                     Part::Range { root, start } => all.min(known(root.$call(start.$from + $index)) - start.$to),
-                    Part::Text(text) => ffi::$call(text, $index),
+                    Part::Text(plain) => plain.$call($index),
                 })
             }
         )*
@@ -167,84 +176,116 @@ macro_rules! conversions {
 
 /// Lengths, in constant time.
 impl<'a> RopeSlice<'a> {
-    /// The length in bytes.
+    /// Returns the length in bytes.
+    #[doc = example!("RopeSlice::from", "len_bytes(), 9")]
     #[inline]
     pub fn len_bytes(&self) -> usize {
         self.counts.bytes
     }
 
-    /// The length in characters.
+    /// Returns the length in characters.
+    #[doc = example!("RopeSlice::from", "len_chars(), 8")]
     #[inline]
     pub fn len_chars(&self) -> usize {
         self.counts.chars
     }
 
-    /// The number of lines: one more than there are line breaks.
+    /// Returns the number of lines: one more than there are line breaks.
+    #[doc = example!("RopeSlice::from", "len_lines(), 3")]
     #[inline]
     pub fn len_lines(&self) -> usize {
         self.counts.line_breaks + 1
     }
 
-    /// The length in UTF-16 code units.
+    /// Returns the length in UTF-16 code units.
+    #[doc = example!("RopeSlice::from", "len_utf16_cu(), 8")]
     #[inline]
     pub fn len_utf16_cu(&self) -> usize {
         self.counts.utf16
     }
 
+    /// Returns the set of line breaks, which is that of the rope.
+    ///
+    /// ```
+    /// use ropey::{LineBreaks, Rope};
+    ///
+    /// let rope = Rope::from_str_with("one\ntwo", LineBreaks::Lf);
+    /// assert_eq!(rope.slice(2..).line_breaks(), LineBreaks::Lf);
+    /// ```
+    #[inline]
+    pub fn line_breaks(&self) -> LineBreaks {
+        match self.part {
+            Part::Range { root, .. } => root.breaks(),
+            Part::Text(plain) => plain.breaks,
+        }
+    }
+
     /// The text, where it lies in one piece, as it always does in a slice of one chunk.
+    #[doc = example!("RopeSlice::from", "as_str(), Some(\"né\\r\\ntwo\\n\")")]
     #[inline]
     pub fn as_str(&self) -> Option<&'a str> {
         match self.part {
             Part::Range { .. } => None,
-            Part::Text(text) => Some(text),
+            Part::Text(plain) => Some(plain.text),
         }
     }
 }
 
 /// Look-ups. They take no memory.
 impl<'a> RopeSlice<'a> {
-    panicking_calls!('a);
+    panicking_calls!('a, "RopeSlice::from");
 
     conversions! {
         try_byte_to_char(byte_idx of len_bytes: bytes -> chars)
-            else ByteIndexOutOfBounds by byte_to_char for "byte_to_char";
+            else ByteIndexOutOfBounds by byte_to_char for "byte_to_char",
+            "try_byte_to_char(2).unwrap(), 1";
         try_byte_to_line(byte_idx of len_bytes: bytes -> line_breaks)
-            else ByteIndexOutOfBounds by byte_to_line for "byte_to_line";
+            else ByteIndexOutOfBounds by byte_to_line for "byte_to_line",
+            "try_byte_to_line(5).unwrap(), 1";
         try_char_to_byte(char_idx of len_chars: chars -> bytes)
-            else CharIndexOutOfBounds by char_to_byte for "char_to_byte";
+            else CharIndexOutOfBounds by char_to_byte for "char_to_byte",
+            "try_char_to_byte(2).unwrap(), 3";
         try_char_to_line(char_idx of len_chars: chars -> line_breaks)
-            else CharIndexOutOfBounds by char_to_line for "char_to_line";
+            else CharIndexOutOfBounds by char_to_line for "char_to_line",
+            "try_char_to_line(9).is_err(), true";
         try_char_to_utf16_cu(char_idx of len_chars: chars -> utf16)
-            else CharIndexOutOfBounds by char_to_utf16 for "char_to_utf16_cu";
+            else CharIndexOutOfBounds by char_to_utf16 for "char_to_utf16_cu",
+            "try_char_to_utf16_cu(8).unwrap(), 8";
         try_utf16_cu_to_char(utf16_cu_idx of len_utf16_cu: utf16 -> chars)
-            else Utf16IndexOutOfBounds by utf16_to_char for "utf16_cu_to_char";
+            else Utf16IndexOutOfBounds by utf16_to_char for "utf16_cu_to_char",
+            "try_utf16_cu_to_char(9).is_err(), true";
         try_line_to_byte(line_idx of len_lines: line_breaks -> bytes)
-            else LineIndexOutOfBounds by line_to_byte for "line_to_byte";
+            else LineIndexOutOfBounds by line_to_byte for "line_to_byte",
+            "try_line_to_byte(4).is_err(), true";
         try_line_to_char(line_idx of len_lines: line_breaks -> chars)
-            else LineIndexOutOfBounds by line_to_char for "line_to_char";
+            else LineIndexOutOfBounds by line_to_char for "line_to_char",
+            "try_line_to_char(3).unwrap(), 8";
     }
 
-    /// A byte; none where the index is past the last one.
+    /// Returns a byte, or `None` if the index is past the last one.
+    #[doc = example!("RopeSlice::from", "get_byte(9), None")]
     #[inline]
     pub fn get_byte(&self, byte_idx: usize) -> Option<u8> {
         match self.part {
             _ if byte_idx >= self.counts.bytes => None,
             Part::Range { root, start } => root.byte(start.bytes + byte_idx),
-            Part::Text(text) => Some(text.as_bytes()[byte_idx]),
+            Part::Text(plain) => Some(plain.text.as_bytes()[byte_idx]),
         }
     }
 
-    /// A character; none where the index is past the last one.
+    /// Returns a character, or `None` if the index is past the last one.
+    #[doc = example!("RopeSlice::from", "get_char(1), Some('é')")]
     #[inline]
     pub fn get_char(&self, char_idx: usize) -> Option<char> {
         match self.part {
             _ if char_idx >= self.counts.chars => None,
             Part::Range { root, start } => root.char(start.chars + char_idx),
-            Part::Text(text) => text[ffi::char_to_byte(text, char_idx)..].chars().next(),
+            Part::Text(plain) => plain.text[plain.char_to_byte(char_idx)..].chars().next(),
         }
     }
 
-    /// A line, its line break among it; none where the index is past the last one.
+    /// Returns a line, its line break among it, or `None` if the index is past the last one.
+    #[doc = example!("RopeSlice::from", "get_line(3).is_none(), true")]
     pub fn get_line(&self, line_idx: usize) -> Option<RopeSlice<'a>> {
         if line_idx > self.counts.line_breaks {
             return None;
@@ -252,34 +293,37 @@ impl<'a> RopeSlice<'a> {
         if let Some((root, line)) = self.line_of_rope(line_idx, self.is_whole()) {
             return root.line(line);
         }
-        if let Part::Text(text) = self.part {
-            let (line, counts) = first_line(&text[ffi::line_to_byte(text, line_idx)..]);
-            return Some(RopeSlice::of_text(line, counts));
+        if let Part::Text(plain) = self.part {
+            let (line, counts) = first_line(plain.with(&plain.text[plain.line_to_byte(line_idx)..]));
+            return Some(RopeSlice::of_text(plain.with(line), counts));
         }
         let (from, to) = (self.try_line_to_char(line_idx).ok()?, self.try_line_to_char(line_idx + 1).ok()?);
         self.get_slice(from..to)
     }
 
-    /// What [`chunk_at_byte`](Self::chunk_at_byte) answers, refused where the index is past the end.
+    /// Returns what [`chunk_at_byte`](Self::chunk_at_byte) does, refused where the index is past the end.
+    #[doc = example!("RopeSlice::from", "try_chunk_at_byte(10).is_err(), true")]
     pub fn try_chunk_at_byte(&self, byte_idx: usize) -> Result<ChunkAt<'a>> {
         let len = self.len_bytes();
         self.get_chunk_at_byte(byte_idx).ok_or(Error::ByteIndexOutOfBounds(byte_idx, len))
     }
 
-    /// The chunk that holds a byte, or the last chunk for the length; none where the index is past that.
+    /// The chunk that holds a byte, or the last chunk for the length, or `None` if the index is past that.
     pub(crate) fn get_chunk_at_byte(&self, byte_idx: usize) -> Option<ChunkAt<'a>> {
         let last = self.counts.bytes.wrapping_sub(1);
         self.chunk_by(byte_idx, self.counts.bytes, |root, start| root.chunk_at_byte(start.bytes + byte_idx.min(last)))
     }
 
-    /// The chunk that holds a character, or the last chunk for the length; none where the index is past that.
+    /// The chunk that holds a character, or the last chunk for the length, or `None` if the index is past that.
+    #[doc = example!("RopeSlice::from", "get_chunk_at_char(4).is_some(), true")]
     pub fn get_chunk_at_char(&self, char_idx: usize) -> Option<ChunkAt<'a>> {
         let last = self.counts.chars.wrapping_sub(1);
         self.chunk_by(char_idx, self.counts.chars, |root, start| root.chunk_at_char(start.chars + char_idx.min(last)))
     }
 
     /// The chunk that holds the line break before a line: the first chunk for the first line, the last chunk for the
-    /// number of lines; none where the index is past that.
+    /// number of lines, or `None` if the index is past that.
+    #[doc = example!("RopeSlice::from", "get_chunk_at_line_break(4).is_none(), true")]
     pub fn get_chunk_at_line_break(&self, line_break_idx: usize) -> Option<ChunkAt<'a>> {
         let lines = self.len_lines();
         self.chunk_by(line_break_idx, lines, |root, start| match line_break_idx {
@@ -289,7 +333,7 @@ impl<'a> RopeSlice<'a> {
         })
     }
 
-    /// A chunk of the range that a look-up finds, cut to the range and counted from its start; none where the index is past
+    /// A chunk of the range that a look-up finds, cut to the range and counted from its start, or `None` if the index is past
     /// the length.
     #[inline]
     fn chunk_by(
@@ -306,7 +350,7 @@ impl<'a> RopeSlice<'a> {
                 let chars = chars.saturating_sub(start.chars);
                 (text, first - start.bytes, chars, line_breaks.saturating_sub(start.line_breaks))
             }
-            Part::Text(text) => (text, 0, 0, 0),
+            Part::Text(plain) => (plain.text, 0, 0, 0),
         })
     }
 
@@ -318,9 +362,9 @@ impl<'a> RopeSlice<'a> {
         }
         Ok(match self.part {
             Part::Range { root, start } => RopeSlice::of_chars(root, start.chars + from, start.chars + to),
-            Part::Text(text) => {
-                let rest = &text[ffi::char_to_byte(text, from)..];
-                RopeSlice::from(&rest[..ffi::char_to_byte(rest, to - from)])
+            Part::Text(plain) => {
+                let rest = plain.with(&plain.text[plain.char_to_byte(from)..]);
+                RopeSlice::counted(plain.with(&rest.text[..rest.char_to_byte(to - from)]))
             }
         })
     }
@@ -333,21 +377,60 @@ impl<'a> RopeSlice<'a> {
         }
         let slice = match self.part {
             Part::Range { root, start } => RopeSlice::of_bytes(root, start.bytes + from, start.bytes + to),
-            Part::Text(text) => text.get(from..to).map(RopeSlice::from),
+            Part::Text(plain) => plain.text.get(from..to).map(|text| RopeSlice::counted(plain.with(text))),
         };
         slice.ok_or(bounds.inside_character())
     }
 }
 
-/// Cursors; none where the index is past the end.
+/// Line breaks.
 impl<'a> RopeSlice<'a> {
-    /// A cursor over the bytes that stands before a byte; none where the index is past the end.
+    /// Returns the slice without the line break that ends it, or all of it if none does.
+    ///
+    /// ```
+    /// use ropey::Rope;
+    ///
+    /// let rope = Rope::from_str("one\r\ntwo");
+    /// assert_eq!(rope.line(0).without_break(), "one");
+    /// assert_eq!(rope.line(1).without_break(), "two");
+    /// ```
+    pub fn without_break(&self) -> RopeSlice<'a> {
+        self.slice(..self.len_chars() - self.last_break_len())
+    }
+
+    /// Returns the line break that ends the slice: an empty slice if none does.
+    ///
+    /// ```
+    /// use ropey::Rope;
+    ///
+    /// let rope = Rope::from_str("one\r\ntwo");
+    /// assert_eq!(rope.line(0).line_break(), "\r\n");
+    /// assert_eq!(rope.line(1).line_break(), "");
+    /// ```
+    pub fn line_break(&self) -> RopeSlice<'a> {
+        self.slice(self.len_chars() - self.last_break_len()..)
+    }
+
+    /// Returns the number of characters of the line break that ends the slice: 2 for CR LF, unless LF alone breaks lines.
+    fn last_break_len(&self) -> usize {
+        let (len, breaks) = (self.len_chars(), self.line_breaks());
+        let is_ended = len > 0 && breaks.is_break(self.char(len - 1));
+        let is_crlf = is_ended && len > 1 && breaks.is_break('\r') && self.slice(len - 2..) == "\r\n";
+        usize::from(is_ended) + usize::from(is_crlf)
+    }
+}
+
+/// Cursors, or `None` if the index is past the end.
+impl<'a> RopeSlice<'a> {
+    /// Returns a cursor over the bytes that stands before a byte, or `None` if the index is past the end.
+    #[doc = example!("RopeSlice::from", "get_bytes_at(9).unwrap().next(), None")]
     #[inline]
     pub fn get_bytes_at(&self, byte_idx: usize) -> Option<Bytes<'a>> {
         (byte_idx <= self.counts.bytes).then(|| Bytes::at(self.behind(byte_idx), byte_idx, self.counts.bytes))
     }
 
-    /// A cursor over the characters that stands before a character; none where the index is past the end.
+    /// Returns a cursor over the characters that stands before a character, or `None` if the index is past the end.
+    #[doc = example!("RopeSlice::from", "get_chars_at(9).is_none(), true")]
     #[inline]
     pub fn get_chars_at(&self, char_idx: usize) -> Option<Chars<'a>> {
         let byte_idx = self.try_char_to_byte(char_idx).ok()?;
@@ -358,31 +441,35 @@ impl<'a> RopeSlice<'a> {
     fn behind(&self, byte_idx: usize) -> InChunk<'a> {
         match self.part {
             Part::Range { root, start } => self.chunks().behind(root, start, self.counts, byte_idx),
-            Part::Text(text) => (self.chunks().at_end(), text, byte_idx),
+            Part::Text(plain) => (self.chunks().at_end(), plain.text, byte_idx),
         }
     }
 
-    /// A cursor over the lines that stands before a line, or at the end for the number of lines; none where the index is
+    /// Returns a cursor over the lines that stands before a line, or at the end for the number of lines, or `None` if the index is
     /// past that.
+    #[doc = example!("RopeSlice::from", "get_lines_at(3).unwrap().next().is_none(), true")]
     #[inline]
     pub fn get_lines_at(&self, line_idx: usize) -> Option<Lines<'a>> {
         let is_inside = line_idx <= self.len_lines();
         is_inside.then(|| Lines::of(*self, line_idx))
     }
 
-    /// What [`chunks_at_byte`](Self::chunks_at_byte) answers; none where the index is past the end.
+    /// Returns what [`chunks_at_byte`](Self::chunks_at_byte) does, or `None` if the index is past the end.
+    #[doc = example!("RopeSlice::from", "get_chunks_at_byte(10).is_none(), true")]
     #[inline]
     pub fn get_chunks_at_byte(&self, byte_idx: usize) -> Option<ChunksAt<'a>> {
         self.chunks_by(byte_idx, self.len_bytes(), |root, start, list| list.fetch_at_byte(root, start.bytes + byte_idx))
     }
 
-    /// What [`chunks_at_char`](Self::chunks_at_char) answers; none where the index is past the end.
+    /// Returns what [`chunks_at_char`](Self::chunks_at_char) does, or `None` if the index is past the end.
+    #[doc = example!("RopeSlice::from", "get_chunks_at_char(0).unwrap().1, 0")]
     #[inline]
     pub fn get_chunks_at_char(&self, char_idx: usize) -> Option<ChunksAt<'a>> {
         self.chunks_by(char_idx, self.len_chars(), |root, start, list| list.fetch_at_char(root, start.chars + char_idx))
     }
 
-    /// What [`chunks_at_line_break`](Self::chunks_at_line_break) answers; none where the index is past the number of lines.
+    /// Returns what [`chunks_at_line_break`](Self::chunks_at_line_break) does, or `None` if the index is past the number of lines.
+    #[doc = example!("RopeSlice::from", "get_chunks_at_line_break(4).is_none(), true")]
     #[inline]
     pub fn get_chunks_at_line_break(&self, line_break_idx: usize) -> Option<ChunksAt<'a>> {
         self.chunks_by(line_break_idx, self.len_lines(), |root, start, list| match line_break_idx {
@@ -391,7 +478,7 @@ impl<'a> RopeSlice<'a> {
         })
     }
 
-    /// A cursor before the chunk that a look-up finds, or at the end for the length; none where the index is past that.
+    /// Returns a cursor before the chunk that a look-up finds, or at the end for the length, or `None` if the index is past that.
     #[inline]
     fn chunks_by(
         &self,
@@ -412,13 +499,28 @@ impl<'a> RopeSlice<'a> {
         })
     }
 
-    /// A cursor over the chunks.
+    /// Returns a cursor over the chunks.
+    #[doc = example!("RopeSlice::from", "chunks().count(), 1")]
     #[inline(always)]
     pub fn chunks(&self) -> Chunks<'a> {
         match self.part {
             Part::Range { root, start } => Chunks::over(Some(root), start, self.counts.bytes, ""),
-            Part::Text(text) => Chunks::over(None, Counts::NONE, text.len(), text),
+            Part::Text(plain) => Chunks::over(None, Counts::NONE, plain.text.len(), plain.text),
         }
+    }
+}
+
+impl<'a> RopeSlice<'a> {
+    /// Returns a slice of a plain text with a set of line breaks. The text is counted once.
+    ///
+    /// ```
+    /// use ropey::{LineBreaks, RopeSlice};
+    ///
+    /// assert_eq!(RopeSlice::from_str_with("one\rtwo", LineBreaks::Lf).len_lines(), 1);
+    /// ```
+    #[inline]
+    pub fn from_str_with(text: &'a str, breaks: LineBreaks) -> RopeSlice<'a> {
+        RopeSlice::counted(Plain { text, breaks })
     }
 }
 
@@ -426,6 +528,6 @@ impl<'a> From<&'a str> for RopeSlice<'a> {
     /// A slice of a plain text, which is counted once.
     #[inline]
     fn from(text: &'a str) -> RopeSlice<'a> {
-        RopeSlice::of_text(text, Counts::of(text))
+        RopeSlice::from_str_with(text, LineBreaks::CHOSEN)
     }
 }

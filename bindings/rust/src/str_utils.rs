@@ -1,6 +1,6 @@
 //! Conversions between the indices of a plain text.
 //!
-//! They count by the same line breaks as ropes do. An index past the end stands for the end, and a byte inside a character for
+//! They count by the set of line breaks that the crate's features choose. An index past the end stands for the end, and a byte inside a character for
 //! that character. Each call reads the text up to the index, or all of it; none takes memory.
 //!
 //! ```
@@ -11,12 +11,39 @@
 //! assert_eq!(char_to_line_idx(text, 5), 1);
 //! assert_eq!(line_to_byte_idx(text, 1), 7);
 //! ```
-use crate::ffi::{self, Counts};
+use crate::ffi::{Counts, Plain};
+use crate::LineBreaks;
 
-pub use crate::ffi::{
-    byte_to_char as byte_to_char_idx, byte_to_line as byte_to_line_idx, char_to_byte as char_to_byte_idx,
-    char_to_line as char_to_line_idx, line_to_byte as line_to_byte_idx, line_to_char as line_to_char_idx,
-};
+macro_rules! conversions {
+    ($($(#[$doc:meta])* $name:ident by $call:ident, $index:literal => $shown:literal;)*) => {
+        $(
+            $(#[$doc])*
+            ///
+            /// ```
+            #[doc = concat!("assert_eq!(ropey::str_utils::", stringify!($name), "(\"é\\nb\", ", $index, "), ", $shown, ");")]
+            /// ```
+            #[inline]
+            pub fn $name(text: &str, index: usize) -> usize {
+                Plain { text, breaks: LineBreaks::CHOSEN }.$call(index)
+            }
+        )*
+    };
+}
+
+conversions! {
+    /// Returns the character that holds a byte.
+    byte_to_char_idx by byte_to_char, 1 => 0;
+    /// Returns the line on which a byte lies.
+    byte_to_line_idx by byte_to_line, 3 => 1;
+    /// Returns the byte at which a character starts.
+    char_to_byte_idx by char_to_byte, 1 => 2;
+    /// Returns the line on which a character lies.
+    char_to_line_idx by char_to_line, 2 => 1;
+    /// Returns the byte at which a line starts.
+    line_to_byte_idx by line_to_byte, 1 => 3;
+    /// Returns the character at which a line starts.
+    line_to_char_idx by line_to_char, 1 => 2;
+}
 
 // A line is sought in a window of the text that grows, since a call of the library reads all that it is given.
 const WINDOW: usize = 128;
@@ -37,30 +64,30 @@ fn back(text: &str, len: usize) -> &str {
 }
 
 /// The first line of a text, its line break among it, and how much it holds.
-pub(crate) fn first_line(text: &str) -> (&str, Counts) {
-    let mut len = WINDOW;
+pub(crate) fn first_line(plain: Plain<'_>) -> (&str, Counts) {
+    let (text, mut len) = (plain.text, WINDOW);
     loop {
         let window = front(text, len);
-        let end = ffi::line_to_byte(window, 1);
+        let end = plain.with(window).line_to_byte(1);
         // A break at the window's end may be the CR of a CR LF.
         if end < window.len() || window.len() == text.len() {
             let line = &text[..end];
-            return (line, Counts::of(line));
+            return (line, plain.with(line).counts());
         }
         len *= 4;
     }
 }
 
 /// The first byte of the last line of a text, and whether a line break ends it: one at the end of the text is this line's own.
-pub(crate) fn last_line(text: &str) -> (usize, bool) {
-    let mut len = WINDOW;
+pub(crate) fn last_line(plain: Plain<'_>) -> (usize, bool) {
+    let (text, mut len) = (plain.text, WINDOW);
     loop {
-        let window = back(text, len);
-        let breaks = Counts::of(window).line_breaks;
-        let is_ended = breaks > 0 && ffi::line_to_byte(window, breaks) == window.len();
+        let window = plain.with(back(text, len));
+        let breaks = window.counts().line_breaks;
+        let is_ended = breaks > 0 && window.line_to_byte(breaks) == window.text.len();
         let before = breaks - usize::from(is_ended);
-        if before > 0 || window.len() == text.len() {
-            let start = text.len() - window.len() + ffi::line_to_byte(window, before);
+        if before > 0 || window.text.len() == text.len() {
+            let start = text.len() - window.text.len() + window.line_to_byte(before);
             return (start, is_ended);
         }
         len *= 4;

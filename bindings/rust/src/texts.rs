@@ -5,7 +5,7 @@ use std::fmt;
 use std::hash::{Hash, Hasher};
 
 use crate::builder::RopeBuilder;
-use crate::ffi::Counts;
+use crate::ffi::{Counts, Plain};
 use crate::rope::Rope;
 use crate::slice::{Part, RopeSlice};
 
@@ -21,7 +21,7 @@ macro_rules! rope_of_texts {
             }
 
             impl<$($life)?> FromIterator<$text> for Rope {
-                /// A rope of the texts, one behind another.
+                /// Returns a rope of the texts, one after another.
                 fn from_iter<T: IntoIterator<Item = $text>>(texts: T) -> Rope {
                     let mut builder = RopeBuilder::new();
                     texts.into_iter().for_each(|text| builder.append(&text));
@@ -48,7 +48,7 @@ impl<'a> From<RopeSlice<'a>> for Rope {
             Part::Range { root, start } if slice.len_bytes() > COPIED => {
                 Rope::of(root.clone_chars(start.chars, start.chars + slice.len_chars()))
             }
-            _ => Rope::from_str(&Cow::from(slice)),
+            _ => Rope::from_str_with(&Cow::from(slice), slice.line_breaks()),
         }
     }
 }
@@ -118,7 +118,8 @@ fn order(left: RopeSlice<'_>, right: RopeSlice<'_>) -> Ordering {
 }
 
 fn is_text(slice: RopeSlice<'_>, text: &str) -> bool {
-    slice.len_bytes() == text.len() && order(slice, RopeSlice::of_text(text, Counts::NONE)).is_eq()
+    let breaks = slice.line_breaks();
+    slice.len_bytes() == text.len() && order(slice, RopeSlice::of_text(Plain { text, breaks }, Counts::NONE)).is_eq()
 }
 
 impl PartialEq for Rope {

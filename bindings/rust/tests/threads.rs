@@ -1,5 +1,5 @@
-//! Ropes in eight threads at once, under the feature `threads`.
-#![cfg(feature = "threads")]
+//! Ropes in eight threads at once.
+#![cfg(not(feature = "single_thread"))]
 mod common;
 
 use std::sync::mpsc::channel;

@@ -206,7 +206,7 @@ fn write_found<'a>(
 /// `NO_ROPE_HELD`, then `BYTE_INDEX_OUT_OF_BOUNDS`, exactly where the index is past the number of
 /// bytes. Then nothing is written.
 #[unsafe(no_mangle)]
-pub extern "C" fn ropey_chunks_at_byte<'a>(
+pub extern "C" fn ropey_chunks_from_byte_with_before<'a>(
     rope: &'a Lent,
     byte_idx: usize,
     pieces: &mut [Piece<'a>],
@@ -243,7 +243,7 @@ pub extern "C" fn ropey_chunks_at_byte<'a>(
 /// `NO_ROPE_HELD`, then `CHAR_INDEX_OUT_OF_BOUNDS`, exactly where the index is past the number of
 /// characters. Then nothing is written.
 #[unsafe(no_mangle)]
-pub extern "C" fn ropey_chunks_at_char<'a>(
+pub extern "C" fn ropey_chunks_from_char_with_before<'a>(
     rope: &'a Lent,
     char_idx: usize,
     pieces: &mut [Piece<'a>],
@@ -281,7 +281,7 @@ pub extern "C" fn ropey_chunks_at_char<'a>(
 /// `NO_ROPE_HELD`, then `LINE_INDEX_OUT_OF_BOUNDS`, exactly where the index is past the number of
 /// lines. Then nothing is written.
 #[unsafe(no_mangle)]
-pub extern "C" fn ropey_chunks_at_line_break<'a>(
+pub extern "C" fn ropey_chunks_from_line_break_with_before<'a>(
     rope: &'a Lent,
     line_idx: usize,
     pieces: &mut [Piece<'a>],

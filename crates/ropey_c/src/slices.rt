@@ -300,7 +300,7 @@ fn find_chars_at<'a>(
 /// `NO_ROPE_HELD`, then `CHAR_RANGE_OUT_OF_BOUNDS`, then `CHAR_RANGE_INVALID`. Then nothing is
 /// written.
 #[unsafe(no_mangle)]
-pub extern "C" fn ropey_char_slice_at<'a>(
+pub extern "C" fn ropey_char_slice_with_before<'a>(
     rope: &'a Lent,
     start: usize,
     end: usize,
@@ -375,7 +375,7 @@ fn find_bytes_at<'a>(
 /// `NO_ROPE_HELD`, then `BYTE_RANGE_INVALID`, then `BYTE_RANGE_OUT_OF_BOUNDS`, then
 /// `BYTE_RANGE_NOT_CHAR_BOUNDARY`. Then nothing is written.
 #[unsafe(no_mangle)]
-pub extern "C" fn ropey_byte_slice_at<'a>(
+pub extern "C" fn ropey_byte_slice_with_before<'a>(
     rope: &'a Lent,
     start: usize,
     end: usize,
@@ -414,14 +414,14 @@ fn count_chars_at(
 }
 
 /// How much text the characters from `start` up to `end` are, as `ropey_counts_in_chars` counts it,
-/// and how much of the text lies before them, as `ropey_char_slice_at` does.
+/// and how much of the text lies before them, as `ropey_char_slice_with_before` does.
 ///
 /// # Errors
 ///
 /// `NO_ROPE_HELD`, then `CHAR_RANGE_OUT_OF_BOUNDS`, then `CHAR_RANGE_INVALID`. Then nothing is
 /// written.
 #[unsafe(no_mangle)]
-pub extern "C" fn ropey_counts_in_chars_at(
+pub extern "C" fn ropey_counts_in_chars_with_before(
     rope: &Lent,
     start: usize,
     end: usize,
@@ -467,7 +467,7 @@ fn find_lines_at<'a>(
 ///
 /// `NO_ROPE_HELD`, then `CHAR_INDEX_OUT_OF_BOUNDS`. Then nothing is written.
 #[unsafe(no_mangle)]
-pub extern "C" fn ropey_lines_at<'a>(
+pub extern "C" fn ropey_lines_from_char_with_before<'a>(
     rope: &'a Lent,
     char_idx: usize,
     lines: &mut [Slice<'a>],
@@ -528,7 +528,7 @@ fn find_lines_from_at<'a>(
 ///
 /// `NO_ROPE_HELD`, then `LINE_INDEX_OUT_OF_BOUNDS`. Then nothing is written.
 #[unsafe(no_mangle)]
-pub extern "C" fn ropey_lines_from_at<'a>(
+pub extern "C" fn ropey_lines_from_with_before<'a>(
     rope: &'a Lent,
     line_idx: usize,
     lines: &mut [Slice<'a>],

@@ -24,7 +24,7 @@ pub struct Bytes<'a> {
     is_reversed: bool,
 }
 
-counted_cursor!(Bytes, u8, |bytes: &Bytes<'_>| bytes.before + bytes.idx);
+counted_cursor!(Bytes, "bytes_at(3)", u8, |bytes: &Bytes<'_>| bytes.before + bytes.idx);
 
 impl<'a> Bytes<'a> {
     /// In a chunk, at the byte `idx` of it and the byte `passed` of all.

@@ -30,7 +30,7 @@ pub struct Chars<'a> {
     is_reversed: bool,
 }
 
-counted_cursor!(Chars, char, Chars::passed);
+counted_cursor!(Chars, "chars_at(3)", char, Chars::passed);
 
 impl<'a> Chars<'a> {
     /// In a chunk, at the byte `idx` of it and the character `passed` of all.

@@ -31,7 +31,7 @@ pub struct Chunks<'a> {
 /// How many chunks are fetched at once at most.
 const MOST: usize = 256;
 
-cursor!(Chunks, &'a str, {});
+cursor!(Chunks, "chunks_at_byte(3).0", &'a str, {});
 
 /// A cursor behind a chunk, the chunk, and how many of its bytes lie before a place in it.
 pub(crate) type InChunk<'a> = (Chunks<'a>, &'a str, usize);

@@ -1,7 +1,7 @@
 //! Lines, chunk by chunk. A line that lies in one chunk is a slice of that chunk; any other is a range of the rope.
-use crate::ffi::{line_to_byte, Counts, Root, Window};
+use crate::ffi::{Counts, Plain, Root, Window};
 use crate::iter::counted_cursor;
-use crate::slice::RopeSlice;
+use crate::slice::{Part, RopeSlice};
 use crate::str_utils::{first_line, last_line};
 
 /// A cursor over the lines of a text, each with the line break that ends it.
@@ -27,7 +27,7 @@ pub struct Lines<'a> {
     is_reversed: bool,
 }
 
-counted_cursor!(Lines, RopeSlice<'a>, |lines: &Lines<'_>| lines.passed);
+counted_cursor!(Lines, "lines_at(2)", RopeSlice<'a>, |lines: &Lines<'_>| lines.passed);
 
 impl Clone for Lines<'_> {
     fn clone(&self) -> Self {
@@ -38,7 +38,10 @@ impl Clone for Lines<'_> {
 
 impl<'a> Lines<'a> {
     pub(crate) fn of(slice: RopeSlice<'a>, line_idx: usize) -> Lines<'a> {
-        let idx = slice.as_str().filter(|_| line_idx > 0).map_or(0, |text| line_to_byte(text, line_idx));
+        let idx = match slice.part {
+            Part::Text(plain) if line_idx > 0 => plain.line_to_byte(line_idx),
+            _ => 0,
+        };
         let (is_whole, total) = (slice.is_whole(), slice.len_lines());
         let window = Window::new((line_idx == 0).then(|| slice.start()));
         Lines { slice, is_whole, window, idx, passed: line_idx, total, is_reversed: false }
@@ -49,9 +52,9 @@ impl<'a> Lines<'a> {
         if self.passed == self.total {
             return None;
         }
-        let line = match self.slice.as_str() {
-            Some(text) => self.first_of(text),
-            None => self.of_range(self.passed, false),
+        let line = match self.slice.part {
+            Part::Text(plain) => self.first_of(plain),
+            Part::Range { .. } => self.of_range(self.passed, false),
         };
         self.passed += 1;
         Some(line)
@@ -63,25 +66,25 @@ impl<'a> Lines<'a> {
             return None;
         }
         self.passed -= 1;
-        Some(match self.slice.as_str() {
-            Some(text) => self.last_of(text),
-            None => self.of_range(self.passed, true),
+        Some(match self.slice.part {
+            Part::Text(plain) => self.last_of(plain),
+            Part::Range { .. } => self.of_range(self.passed, true),
         })
     }
 
-    fn first_of(&mut self, text: &'a str) -> RopeSlice<'a> {
-        let (line, counts) = first_line(&text[self.idx..]);
+    fn first_of(&mut self, plain: Plain<'a>) -> RopeSlice<'a> {
+        let (line, counts) = first_line(plain.with(&plain.text[self.idx..]));
         self.idx += line.len();
-        RopeSlice::of_text(line, counts)
+        RopeSlice::of_text(plain.with(line), counts)
     }
 
-    fn last_of(&mut self, text: &'a str) -> RopeSlice<'a> {
-        let (start, is_ended) = last_line(&text[..self.idx]);
+    fn last_of(&mut self, plain: Plain<'a>) -> RopeSlice<'a> {
+        let (start, is_ended) = last_line(plain.with(&plain.text[..self.idx]));
         if is_ended && self.passed + 1 == self.total {
-            return RopeSlice::EMPTY;
+            return RopeSlice::empty(plain.breaks);
         }
         let end = std::mem::replace(&mut self.idx, start);
-        RopeSlice::from(&text[start..end])
+        RopeSlice::counted(plain.with(&plain.text[start..end]))
     }
 
     /// A line of a rope's range: by the window, where it is the rope's.
@@ -96,7 +99,7 @@ impl<'a> Lines<'a> {
         let Some(text) = self.window.text(at) else { return self.long_line(root, line, at, is_back) };
         self.pass(self.window.counts(at), is_back);
         // Read again, and not kept: it would be stored and loaded in other parts.
-        RopeSlice::of_text(text, self.window.counts(at))
+        RopeSlice::of_text(Plain { text, breaks: root.breaks() }, self.window.counts(at))
     }
 
     #[inline(always)]
@@ -124,7 +127,7 @@ impl<'a> Lines<'a> {
     fn cut_line(&mut self, line_idx: usize, is_back: bool) -> RopeSlice<'a> {
         let line = match self.window.before {
             Some(before) if !is_back => self.clipped(line_idx, before),
-            _ => self.slice.get_line(line_idx).unwrap_or(RopeSlice::EMPTY),
+            _ => self.slice.get_line(line_idx).unwrap_or(RopeSlice::empty(self.slice.line_breaks())),
         };
         self.pass(line.counts, is_back);
         line
@@ -134,7 +137,7 @@ impl<'a> Lines<'a> {
     fn clipped(&mut self, line_idx: usize, before: Counts) -> RopeSlice<'a> {
         let left = self.slice.start().plus(self.slice.counts).minus(before);
         let Some((root, line)) = self.slice.line_of_rope(line_idx, true).filter(|_| left.bytes > 0) else {
-            return RopeSlice::EMPTY;
+            return RopeSlice::empty(self.slice.line_breaks());
         };
         let at = self.window.find(root, line, false, self.total - line_idx);
         let counts = self.window.counts(at);

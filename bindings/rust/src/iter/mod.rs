@@ -1,7 +1,7 @@
 //! Cursors over a text's bytes, characters, lines and chunks.
 //!
-//! A cursor stands between two items, or at an end of the text. `next` passes the item ahead of it, and `prev` the one
-//! behind it, so that either takes back what the other did; at an end both answer none, and may be called again. Turned
+//! A cursor stands between two items, or at an end of the text. `next` passes the item after it, and `prev` the one
+//! before it, so that either takes back what the other did; at an end they return `None`, and may be called again. Turned
 //! round by `reverse`, a cursor goes back on `next`, from where it stands.
 //!
 //! A cursor fetches one line or three chunks at first and after a turn. Each further fetch has four times as many lines, up
@@ -30,17 +30,33 @@ pub use self::chunks::Chunks;
 pub(crate) use self::chunks::InChunk;
 pub use self::lines::Lines;
 
-/// What the four cursors have alike, over `forward` and `backward`.
+/// An example: two values that are equal, after a step of a cursor over a text.
+macro_rules! example {
+    ($at:literal, $first:literal, $shown:literal) => {
+        concat!(
+            "\n```\nlet rope = ropey::Rope::from_str(\"a\\nb\");\nlet mut cursor = rope.",
+            $at,
+            ";\n",
+            $first,
+            $shown,
+            "\n```"
+        )
+    };
+}
+
+/// What the four cursors have alike, over `forward` and `backward`. In examples they stand at the end of a text.
 macro_rules! cursor {
-    ($name:ident, $item:ty, {$($size_hint:item)?}) => {
+    ($name:ident, $at:literal, $item:ty, {$($size_hint:item)?}) => {
         impl<'a> $name<'a> {
             /// Turns the cursor round where it stands.
+            #[doc = crate::iter::example!($at, "cursor.reverse();\n", "assert!(cursor.next().is_some());")]
             #[inline]
             pub fn reverse(&mut self) {
                 self.is_reversed = !self.is_reversed;
             }
 
-            /// The same cursor, turned round where it stands.
+            /// Returns the cursor, turned round where it stands.
+            #[doc = crate::iter::example!($at, "let mut cursor = cursor.reversed();\n", "assert!(cursor.next().is_some());")]
             #[inline]
             #[must_use]
             pub fn reversed(mut self) -> $name<'a> {
@@ -48,7 +64,8 @@ macro_rules! cursor {
                 self
             }
 
-            /// Passes the item behind the cursor, and answers it; none at the end.
+            /// Passes the item before the cursor and returns it, or `None` at the start of the text.
+            #[doc = crate::iter::example!($at, "", "assert!(cursor.next().is_none());\nassert!(cursor.prev().is_some());")]
             #[inline(always)]
             pub fn prev(&mut self) -> Option<$item> {
                 if self.is_reversed {
@@ -84,8 +101,8 @@ macro_rules! cursor {
 
 /// A cursor that can tell how many items it has passed, of how many.
 macro_rules! counted_cursor {
-    ($name:ident, $item:ty, $passed:expr) => {
-        crate::iter::cursor!($name, $item, {
+    ($name:ident, $at:literal, $item:ty, $passed:expr) => {
+        crate::iter::cursor!($name, $at, $item, {
             #[inline]
             fn size_hint(&self) -> (usize, Option<usize>) {
                 let left = if self.is_reversed { ($passed)(self) } else { self.total - ($passed)(self) };
@@ -97,4 +114,4 @@ macro_rules! counted_cursor {
     };
 }
 
-use {counted_cursor, cursor};
+use {counted_cursor, cursor, example};
