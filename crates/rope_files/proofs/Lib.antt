@@ -3,4 +3,5 @@ pub mod Decodings
 pub mod Files
 pub mod Fronts
 pub mod Heads
+pub mod Kept
 pub mod Writings

@@ -36,6 +36,7 @@ mod ahead;
 mod decode;
 mod encoding;
 mod error;
+pub mod laws;
 mod layout;
 mod reading;
 #[cfg(test)]

@@ -1,0 +1,19 @@
+-- What files keep of their texts.
+use Rattle.std.specs.Prelude.{◌≡◌, true, Bool, List, ℕ, Option, Some, Result, IfOk}
+use Rattle.std.specs.Str.{all_scalars}
+use Rattle.rope_files.specs.Encodings.{encode}
+use Rattle.rope_files.specs.Reading.{ReadsAny, text_read}
+use Rattle.rope_files.specs.declared.encoding.Encoding.{Encoding}
+use Rattle.rope_files.specs.declared.error.ReadAnyError.{ReadAnyError}
+use Rattle.ropey.specs.View.{RopeView, IsRope}
+
+-- no other text has these bytes in this encoding
+abbrev pub TextsAreTold : Type 0
+TextsAreTold = (encoding : Encoding) (text other : List ℕ) → all_scalars text ≡ true → all_scalars other ≡ true → encode encoding text ≡ encode encoding other → text ≡ other
+
+-- a rope that is read of a file of this text, with its encoding declared, has this text
+abbrev pub WrittenTextsAreRead : Type 0
+WrittenTextsAreRead =
+    (encoding : Encoding) (text : List ℕ) (left : Option (List ℕ)) (failed : Bool) (result : Result (RopeView × Encoding) ReadAnyError) → all_scalars text ≡ true
+    → ReadsAny text_read (Some encoding) (Some (encode encoding text)) left failed result
+    → IfOk result (λ file. IsRope file.0 → (file.0.text ≡ text) × (file.1 ≡ encoding))
