@@ -45,7 +45,7 @@ decoded_more l bytes utf8 more at c n d b e = record {
 
 -- the held bytes in two
 pub decoded_parts : (l : Layout) (held utf8 : List ℕ) (n : ℕ) (d : IsDecoded l held n utf8) → Parts l held d.text (drop n held)
-decoded_parts l held utf8 n d = record { whole = sym (take-append-drop n held) ∙ ap (λ xs. xs ++ drop n held) d.laid }
+decoded_parts l held utf8 n d = record { whole = sym (take-append-drop n held) ∙ ap (λ xs. xs ++ drop n held) d.laid; scalars = d.scalars }
 
 pub decoded_length : (l : Layout) (held utf8 : List ℕ) (n : ℕ) (d : IsDecoded l held n utf8) → length (laid_out l d.text) ≡ n
 decoded_length l held utf8 n d = ap length (sym d.laid) ∙ length-take-le n held d.within
@@ -83,6 +83,7 @@ pub record IsReading (l : Layout) (mark : ℕ) (start now : Option (List ℕ)) (
   pub clear : marked ≡ false
   pub at : offset ≡ min (mark + length (laid_out l text)) (2 ^ 64 - 1)
   pub fits : byte_len text < 2 ^ 63
+  pub scalars : all_scalars text ≡ true
 
 -- the bytes of a text, and those of one more, and the rest
 pub laid_more : (l : Layout) (text more rest held : List ℕ) → Parts l held more rest → laid_out l text ++ held ≡ laid_out l (text ++ more) ++ rest
@@ -115,10 +116,10 @@ size_fits n h = cond-true _ _ _ (lt-ltb n (2 ^ 63) h)
 -- the text in them is added
 pub read_on : (l : Layout) (mark : ℕ) (start new : Option (List ℕ)) (text text_new held buf_new : List ℕ) (n offset filled_new offset_new : ℕ) (marked : Bool)
     → Consumes start new (laid_out l text ++ held) → offset ≡ min (mark + length (laid_out l text)) (2 ^ 64 - 1) → marked ≡ false
-    → Settles l text text_new held buf_new n → length buf_new ≡ 1968 → byte_len text_new < 2 ^ 63 → filled_new ≡ length held - n → offset_new ≡ min (offset + n) (2 ^ 64 - 1)
+    → Settles l text text_new held buf_new n → length buf_new ≡ 1968 → byte_len text_new < 2 ^ 63 → filled_new ≡ length held - n → offset_new ≡ min (offset + n) (2 ^ 64 - 1) → all_scalars text ≡ true
     → IsReading l mark start new text_new buf_new filled_new offset_new marked
-read_on l mark start new text text_new held buf_new n offset filled_new offset_new marked given at clear s size fits same moved =
-    let parts : Parts l held s.text (drop n held) = record { whole = sym (take-append-drop n held) ∙ ap (λ xs. xs ++ drop n held) s.laid } in
+read_on l mark start new text text_new held buf_new n offset filled_new offset_new marked given at clear s size fits same moved scalars =
+    let parts : Parts l held s.text (drop n held) = record { whole = sym (take-append-drop n held) ∙ ap (λ xs. xs ++ drop n held) s.laid; scalars = s.scalars } in
     let laid : length (laid_out l s.text) ≡ n = ap length (sym s.laid) ∙ length-take-le n held s.within in
     let short : length (drop n held) < 4 = open_short l (drop n held) s.is_open in
     let rest : take filled_new buf_new ≡ drop n held = ap (λ k. take k buf_new) same ∙ s.rest in
@@ -130,6 +131,7 @@ read_on l mark start new text text_new held buf_new n offset filled_new offset_n
       clear = clear;
       at = omega (arith, at, moved, laid, ap (λ xs. length (laid_out l xs)) s.added, length-laid_more l text s.text);
       fits = fits;
+      scalars = subst (λ xs. all_scalars xs ≡ true) (sym s.added) (scalars-append text s.text scalars s.scalars);
     }
 
 pub length_on : (l : Layout) (text text_new held buf_new : List ℕ) (n : ℕ) (s : Settles l text text_new held buf_new n) → length (laid_out l text_new) ≡ length (laid_out l text) + n
@@ -139,24 +141,24 @@ length_on l text text_new held buf_new n s =
 module _ (l : Layout) (mark : ℕ) (start new : Option (List ℕ)) (marked : Bool) where
   -- why the held bytes were not added
   pub settle_answers : (text shown held : List ℕ) (offset : ℕ) (r : Result (Unit {0}) ReadAnyError) (e : ReadAnyError) → IsErrAnd r (λ y. y ≡ e) → IsSettleError l text held offset e
-      → Consumes start new (laid_out l text ++ held) → marked ≡ false → offset ≡ min (mark + length (laid_out l text)) (2 ^ 64 - 1)
+      → Consumes start new (laid_out l text ++ held) → marked ≡ false → offset ≡ min (mark + length (laid_out l text)) (2 ^ 64 - 1) → all_scalars text ≡ true
       → Gives start new (λ bytes. Answers (λ _. shown) (laid_out l) (Some l) mark bytes new marked r)
-  settle_answers text shown held offset (Ok x) e is refused given clear at = absurd is
-  settle_answers text shown held offset (Err y) e is refused given clear at =
-      subst (λ z. Gives start new (λ bytes. Answers {R = Unit {0}} (λ _. shown) (laid_out l) (Some l) mark bytes new marked (Err z))) (sym is) (refused_answers text shown held offset e refused given clear at)
+  settle_answers text shown held offset (Ok x) e is refused given clear at scalars = absurd is
+  settle_answers text shown held offset (Err y) e is refused given clear at scalars =
+      subst (λ z. Gives start new (λ bytes. Answers {R = Unit {0}} (λ _. shown) (laid_out l) (Some l) mark bytes new marked (Err z))) (sym is) (refused_answers text shown held offset e refused given clear at scalars)
     where
       refused_answers : (text shown held : List ℕ) (offset : ℕ) (e : ReadAnyError) → IsSettleError l text held offset e
-          → Consumes start new (laid_out l text ++ held) → marked ≡ false → offset ≡ min (mark + length (laid_out l text)) (2 ^ 64 - 1)
+          → Consumes start new (laid_out l text ++ held) → marked ≡ false → offset ≡ min (mark + length (laid_out l text)) (2 ^ 64 - 1) → all_scalars text ≡ true
           → Gives start new (λ bytes. Answers {R = Unit {0}} (λ _. shown) (laid_out l) (Some l) mark bytes new marked (Err e))
-      refused_answers text shown held offset (Read e) refused given clear at = absurd refused
-      refused_answers text shown held offset NoMark refused given clear at = absurd refused
-      refused_answers text shown held offset InvalidUtf8 refused given clear at = absurd refused
-      refused_answers text shown held offset (UnpairedSurrogate k) (t, rest, parts, unpaired, where_) given clear at =
+      refused_answers text shown held offset (Read e) refused given clear at scalars = absurd refused
+      refused_answers text shown held offset NoMark refused given clear at scalars = absurd refused
+      refused_answers text shown held offset InvalidUtf8 refused given clear at scalars = absurd refused
+      refused_answers text shown held offset (UnpairedSurrogate k) (t, rest, parts, unpaired, where_) given clear at scalars =
           let k_is : k ≡ min (mark + length (laid_out l (text ++ t))) (2 ^ 64 - 1) = omega (arith, where_, at, length-laid_more l text t) in
-          (laid_out l text ++ held, given, (clear, text ++ t, rest, record { whole = laid_more l text t rest held parts }, k_is, l, refl, inl unpaired))
-      refused_answers text shown held offset (HalfCodeUnit k) refused given clear at = absurd refused
-      refused_answers text shown held offset (Rope e) (t, rest, parts, refusal) given clear at =
-          (laid_out l text ++ held, given, (clear, text ++ t, rest, record { whole = laid_more l text t rest held parts }, refusal))
+          (laid_out l text ++ held, given, (clear, text ++ t, rest, record { whole = laid_more l text t rest held parts; scalars = scalars-append text t scalars parts.scalars }, k_is, l, refl, inl unpaired))
+      refused_answers text shown held offset (HalfCodeUnit k) refused given clear at scalars = absurd refused
+      refused_answers text shown held offset (Rope e) (t, rest, parts, refusal) given clear at scalars =
+          (laid_out l text ++ held, given, (clear, text ++ t, rest, record { whole = laid_more l text t rest held parts; scalars = scalars-append text t scalars parts.scalars }, refusal))
 
   -- why the bytes that are left at the end are no text
   pub end_answers : (text shown buffer : List ℕ) (filled offset : ℕ) (e : ReadAnyError) → IsReading l mark start new text buffer filled offset marked → (filled ≡ 0 → ⊥) → IsAtEnd new
@@ -167,8 +169,8 @@ module _ (l : Layout) (mark : ℕ) (start new : Option (List ℕ)) (marked : Boo
   end_answers text shown buffer filled offset (UnpairedSurrogate k) i some end is =
       let size : length (take filled buffer) ≡ filled = length-take-le filled buffer (omega (arith, i.room, i.size)) in
       let unpaired = ends_unpaired l (take filled buffer) i.is_open (λ e. some (sym size ∙ e)) (λ e. is.0 (sym size ∙ e)) in
-      (laid_out l text ++ take filled buffer, i.given, (i.clear, text, take filled buffer, record { whole = refl }, is.1 ∙ i.at, l, refl, inr (unpaired, end)))
+      (laid_out l text ++ take filled buffer, i.given, (i.clear, text, take filled buffer, record { whole = refl; scalars = i.scalars }, is.1 ∙ i.at, l, refl, inr (unpaired, end)))
   end_answers text shown buffer filled offset (HalfCodeUnit k) i some end is =
       let size : length (take filled buffer) ≡ filled = length-take-le filled buffer (omega (arith, i.room, i.size)) in
-      (laid_out l text ++ take filled buffer, i.given, (i.clear, text, take filled buffer, record { whole = refl }, is.1 ∙ i.at, l, refl, ends_half l (take filled buffer) i.is_open (size ∙ is.0), end))
+      (laid_out l text ++ take filled buffer, i.given, (i.clear, text, take filled buffer, record { whole = refl; scalars = i.scalars }, is.1 ∙ i.at, l, refl, ends_half l (take filled buffer) i.is_open (size ∙ is.0), end))
   end_answers text shown buffer filled offset (Rope e) i some end is = absurd is

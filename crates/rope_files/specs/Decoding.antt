@@ -26,10 +26,12 @@ pub record Settles (layout : Layout) (old new held buffer : List ℕ) (n : ℕ) 
   pub added : new ≡ old ++ text
   pub rest : take (length held - n) buffer ≡ drop n held
   pub is_open : IsOpen (Some layout) (drop n held)
+  pub scalars : all_scalars text ≡ true
 
 -- a text at the front of the held bytes, and what follows it
 pub record Parts (layout : Layout) (held text rest : List ℕ) : Type 0 where
   pub whole : held ≡ laid_out layout text ++ rest
+  pub scalars : all_scalars text ≡ true
 
 -- why the held bytes, whose first is that at this offset, weren't added to the text
 abbrev pub IsSettleError : Layout → List ℕ → List ℕ → ℕ → ReadAnyError → Type 0

@@ -2,6 +2,7 @@
 use Rattle.std.specs.Prelude.{◌≡◌, ℕ, ◌+◌, ◌-◌, ◌^◌, ◌<◌, ◌≤◌, ◌⊎◌, min, Bool, true, false, IsTrue, List, ◌++◌, length, nat_eq, Option, None, Some, Result, Ok, Err, ⊤}
 use Rattle.std.specs.Io.KnownBytes.{Consumes, IsAtEnd, prepend_known}
 use Rattle.std.specs.List.{starts_with}
+use Rattle.std.specs.Str.{all_scalars}
 use Rattle.rope_text.specs.declared.TheConstants.{BUFFER_BYTES}
 use Rattle.rope_text.specs.Edit.{size_error, IsRefusal}
 use Rattle.rope_text.specs.Read.{text_rest, IsRefused}
@@ -48,10 +49,11 @@ abbrev pub IsOpen : Option Layout → List ℕ → Type 0
 IsOpen None rest = length (text_rest rest) < BUFFER_BYTES
 IsOpen (Some layout) rest = (length rest ≡ 0) ⊎ IsPart layout rest
 
--- these bytes follow a text, whose bytes `spell` gives, and come at this offset in the file
+-- the bytes are those of a text, which `spell` gives, and some more; and where these come in the file, after so many bytes of the mark
 module _ (spell : List ℕ → List ℕ) (mark : ℕ) (bytes : List ℕ) where
   pub record Follow (text rest : List ℕ) : Type 0 where
     pub whole : bytes ≡ spell text ++ rest
+    pub scalars : all_scalars text ≡ true
 
   abbrev pub IsOffset : List ℕ → ℕ → Type 0
   IsOffset text at = at ≡ min (mark + length (spell text)) (2 ^ 64 - 1)

@@ -1,5 +1,6 @@
 //! Texts of bytes in UTF-16 and Latin-1, read to the end of a source.
-ghost use Rattle.std.specs.Prelude.{◌≡◌, ◌+◌, ◌*◌, ◌^◌, ◌<◌, ◌≤◌, [], false, None, Some, length, take, drop, IfOk, IfErr, OnOk};
+ghost use Rattle.std.specs.Prelude.{◌≡◌, ◌+◌, ◌*◌, ◌^◌, ◌<◌, ◌≤◌, [], false, true, None, Some, length, take, drop, IfOk, IfErr, OnOk};
+ghost use Rattle.std.specs.Str.{all_scalars};
 ghost use Rattle.rope_text.specs.declared.TheConstants.{BUFFER_BYTES};
 ghost use Rattle.rope_text.specs.Text.{byte_len};
 ghost use Rattle.rope_io.specs.Failing.{IsCounted};
@@ -106,6 +107,7 @@ pub(crate) fn read_layout<S: Source>(
     ensures failure { IsCounted (any_failure result) (S.failure source.new)
         (S.failures source.old) (S.failures source.new) }
     ensures fits { OnOk result (byte_len builder.new.text < 2 ^ 63) }
+    ensures scalars { OnOk result (all_scalars builder.new.text ≡ true) }
     ensures fresh { OnOk result (builder.new.failed ≡ None) }
     ensures breaks { builder.new.breaks ≡ builder.old.breaks }
 {

@@ -33,6 +33,7 @@ returns-clause-ok c =
       added = c.in-Ok-append.ensures.ok.1 ∙ ap (λ xs. c.args.builder.now.text ++ xs) (ap chars c.as_str.ensures.value ∙ decoded_chars c.args.layout held c.decode.new.piece.bytes n d);
       rest = moved_rest c.args.buffer.now c.copy_within.new.self n c.args.filled (omega (arith, d.within, size)) c.requires.within c.copy_within.ensures.after;
       is_open = c.in-Ok.ensures.ok.1;
+      scalars = d.scalars;
     }
 
 pub returns-clause-fits : goal.returns-clause-fits

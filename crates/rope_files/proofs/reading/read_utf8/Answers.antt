@@ -1,6 +1,6 @@
 use Rattle.std.proofs.Common.{◌≡◌, ap, subst, sym, ◌∙◌, ◌++◌, List, ℕ, length, Err}
 use Rattle.std.proofs.lemmas.List.{take-append-drop}
-use Rattle.std.proofs.lemmas.Str.{encodes-chars}
+use Rattle.std.proofs.lemmas.Str.{encodes-chars, scalars-chars}
 use Rattle.std.specs.Str.{chars, encode_utf8_all}
 use Rattle.std.specs.Str.Lossy.{utf8_valid_len}
 use Rattle.rope_io.specs.Reading.{Answers}
@@ -19,4 +19,4 @@ returns-in-Err-Rope-clause-answer g c =
     let spelled : encode_utf8_all (chars front) ≡ front = encodes-chars front (IsUtf8-text_front bytes) in
     let whole = sym (take-append-drop (utf8_valid_len bytes) bytes) ∙ ap (λ xs. xs ++ text_rest bytes) (sym spelled) in
     let refusal = subst (λ n. IsRefusal (size_error n) c.in-Err-Rope.error) (ap length (sym spelled)) refused.0 in
-    (bytes, a.1, (refused.2, chars front, text_rest bytes, record { whole = whole }, refusal))
+    (bytes, a.1, (refused.2, chars front, text_rest bytes, record { whole = whole; scalars = scalars-chars front (IsUtf8-text_front bytes) }, refusal))
