@@ -95,7 +95,8 @@ impl<S: Source> Mark for Ahead<S> {
 
     ghost failures = { λ a. S.failures a.source };
 
-    ghost cleared = { λ a. record { source = S.cleared a.source; head = a.head; at = a.at; is_quiet = true } };
+    ghost cleared = { λ a.
+        record { source = S.cleared a.source; head = a.head; at = a.at; is_quiet = true } };
 
     ghost cleared_unmarked = { λ a. S.cleared_unmarked a.source };
 
@@ -118,7 +119,8 @@ impl<S: Source> Source for Ahead<S> {
 
     ghost remaining = { λ a. prepend_known (held_bytes a) (S.remaining a.source) };
 
-    ghost cleared_remaining = { λ a. ap (prepend_known (held_bytes a)) (S.cleared_remaining a.source) };
+    ghost cleared_remaining = { λ a.
+        ap (prepend_known (held_bytes a)) (S.cleared_remaining a.source) };
 
     fn take(&mut self, buf: &mut [u8]) -> io::Result<usize> {
         let head = self.head.as_slice();

@@ -45,9 +45,9 @@ fn decode(layout: Layout, bytes: &[u8], piece: &mut Piece) -> Result<usize, usiz
     Ok(at)
 }
 
-// Decodes the text at the front of the first `filled` bytes into the builder, and moves what follows
-// it to the front. Returns how many bytes the text had. The buffer's first byte is that at `offset`
-// in the file.
+// Decodes the text at the front of the first `filled` bytes into the builder, and moves the bytes
+// after it to the front. Returns how many bytes the text had. The buffer's first byte is that at
+// `offset` in the file.
 fn settle(
     builder: &mut RopeBuilder,
     layout: Layout,

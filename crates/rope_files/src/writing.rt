@@ -205,8 +205,8 @@ pub fn write_as_watched<S: Sink>(
     }
 }
 
-/// Writes a rope as a file in this encoding, after the encoding's mark, and does not flush. Takes no
-/// memory.
+/// Writes a rope as a file in this encoding, after the encoding's mark, and does not flush. Takes
+/// no memory.
 ///
 /// # Errors
 ///
