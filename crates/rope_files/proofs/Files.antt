@@ -20,7 +20,7 @@ use Rattle.rope_files.specs.declared.layout.Layout.TheVariants.{Bytes, CodeUnits
 use Rattle.rope_files.specs.declared.layout.ByteOrder.TheVariants.{Little, Big}
 
 -- the mark is among three bytes
-front_same : (head more : List ℕ) (k : ℕ) → (length head ≡ 3) ⊎ (more ≡ []) → k ≤ 3 → take k (head ++ more) ≡ take k head
+pub front_same : (head more : List ℕ) (k : ℕ) → (length head ≡ 3) ⊎ (more ≡ []) → k ≤ 3 → take k (head ++ more) ≡ take k head
 front_same head more k (inl e) h = take-append-le k head more (omega (arith, e, h))
 front_same head more k (inr e) h = ap (λ xs. take k (head ++ xs)) e ∙ ap (λ xs. take k xs) (append-nil head)
 
