@@ -3,22 +3,26 @@ use Rattle.std.proofs.Common.{◌≡◌, ℕ, ◌+◌, ◌-◌, ◌/◌, ◌%◌
 use Rattle.std.proofs.Math.Utf8.{scalar_cases}
 use Rattle.std.proofs.lemmas.Bool.{cases_lt, and_parts, and_from, false≢true, le-leb, leb-true, lt-ltb, ltb-true}
 use Rattle.std.proofs.lemmas.Bool.Decides.{Decides-eqb}
-use Rattle.std.proofs.lemmas.List.{append-nil, length-append, take-append-drop}
+use Rattle.std.proofs.lemmas.List.{append-nil, length-append, take-append-drop, take-append-le}
 use Rattle.std.proofs.lemmas.Slice.Eq.{starts_is}
 use Rattle.std.proofs.Math.Seq.{take-append_seam}
-use Rattle.std.proofs.lemmas.Str.{encodes_same}
+use Rattle.std.proofs.lemmas.Str.{encodes_same, length-encode, len_utf8_bounds, utf8_valid_len-IsUtf8, IsUtf8-encode}
 use Rattle.std.proofs.str.Utf16.{one_unit, two_units}
-use Rattle.std.specs.Char.{IsScalar}
+use Rattle.std.specs.Char.{IsScalar, encode_utf8}
 use Rattle.std.specs.Char.Utf16.{is_high_surrogate, is_low_surrogate}
 use Rattle.std.specs.List.{flat_map, starts_with}
-use Rattle.std.specs.Str.{all_scalars}
+use Rattle.std.specs.Str.{all_scalars, encode_utf8_all}
+use Rattle.std.specs.Str.Lossy.{utf8_valid_len}
+use Rattle.rope_io.specs.Reading.{has_ended}
+use Rattle.rope_text.specs.Read.{text_rest, IsRefused}
+use Rattle.rope_text.proofs.ReadLaws.{text_rest-append}
 use Rattle.rope_files.specs.Encodings.{encode, mark_of, encode_unmarked, layout_of}
 use Rattle.rope_files.specs.Laws.{IsNoText}
 use Rattle.rope_files.specs.Reading.{ReadsAny, text_read}
 use Rattle.rope_files.specs.declared.error.ReadAnyError.{ReadAnyError}
 use Rattle.rope_files.specs.declared.error.ReadAnyError.TheVariants.{Read, NoMark, InvalidUtf8, UnpairedSurrogate, HalfCodeUnit, Rope}
 use Rattle.ropey.specs.View.{RopeView, IsRope}
-use Rattle.rope_files.proofs.Files.{front_same, reads_encoding, reads_whole, spelled_in}
+use Rattle.rope_files.proofs.Files.{front_same, reads_encoding, reads_whole, spelled_in, spelled_utf8}
 use Rattle.rope_files.specs.Layouts.{unit_bytes, char_bytes, code_unit, laid_out, IsUnpaired, EndsUnpaired, EndsHalf}
 use Rattle.rope_files.specs.declared.encoding.Encoding.{Encoding}
 use Rattle.rope_files.specs.declared.encoding.Encoding.TheVariants.{Utf8, Utf8Bom, Utf16Le, Utf16LeBom, Utf16Be, Utf16BeBom, Latin1}
@@ -274,6 +278,31 @@ rest_of_text e l text t rest bytes held all zs is p q given all_is whole =
     goes_on l t text (rest ++ (held ++ zs)) q p
     (sym (spelled_in e l text is) ∙ body ∙ ap (λ xs. xs ++ (held ++ zs)) (whole ∙ ap (λ xs. xs ++ rest) (spelled_in e l t is)) ∙ append_assoc (laid_out l t) rest (held ++ zs))
 
+-- less than a character is left of a beginning of a text in UTF-8
+short_rest : (text bytes more : List ℕ) → all_scalars text ≡ true → encode_utf8_all text ≡ bytes ++ more → length (text_rest bytes) < 4
+short_rest [] bytes more s e = omega (arith, ap length e, length-append bytes more, length-drop (utf8_valid_len bytes) bytes)
+short_rest (c ∷ cs) bytes more s e = elim (cases_lt (length bytes) (length (encode_utf8 c))) [
+  | inl few ↦ omega (arith, few, length-encode c, len_utf8_bounds c, length-drop (utf8_valid_len bytes) bytes)
+  | inr many ↦
+      let n : ℕ = length (encode_utf8 c) in
+      let front : take n bytes ≡ encode_utf8 c = sym (take-append-le n bytes more many) ∙ ap (λ xs. take n xs) (sym e) ∙ take-append_seam (encode_utf8 c) (encode_utf8_all cs) in
+      let parts : bytes ≡ encode_utf8 c ++ drop n bytes = sym (take-append-drop n bytes) ∙ ap (λ xs. xs ++ drop n bytes) front in
+      let rest : encode_utf8_all cs ≡ drop n bytes ++ more = same_rest (encode_utf8 c) _ _ (e ∙ ap (λ xs. xs ++ more) parts ∙ append_assoc (encode_utf8 c) (drop n bytes) more) in
+      let same : text_rest bytes ≡ text_rest (drop n bytes) = ap text_rest parts ∙ text_rest-append (encode_utf8 c) (drop n bytes) (IsUtf8-encode c (and_parts _ _ s).0) in
+      subst (λ xs. length xs < 4) (sym same) (short_rest cs (drop n bytes) more (and_parts _ _ s).1 rest)
+]
+
+ended_nil : (xs : List ℕ) → IsTrue (has_ended (Some xs)) → xs ≡ []
+ended_nil [] e = refl
+ended_nil (x ∷ xs) e = absurd (false≢true e)
+
+never_invalid : (text bytes more : List ℕ) → all_scalars text ≡ true → encode_utf8_all text ≡ bytes ++ more → IsRefused bytes (has_ended (Some more)) → ⊥
+never_invalid text bytes more s e (inr many) = absurd (omega (arith, many, short_rest text bytes more s e))
+never_invalid text bytes more s e (inl (end, some)) =
+    let whole : encode_utf8_all text ≡ bytes = e ∙ ap (λ xs. bytes ++ xs) (ended_nil more end) ∙ append-nil bytes in
+    let all : utf8_valid_len bytes ≡ length bytes = utf8_valid_len-IsUtf8 bytes (text, (s, whole)) in
+    absurd (omega (arith, some, all, length-drop (utf8_valid_len bytes) bytes))
+
 pub never_refused : (encoding : Encoding) (text : List ℕ) (left : Option (List ℕ)) (failed : Bool) (result : Result (RopeView × Encoding) ReadAnyError) → all_scalars text ≡ true
     → ReadsAny text_read (Some encoding) (Some (encode encoding text)) left failed result → IsNoText result → ⊥
 never_refused encoding text left failed (Ok file) s a n = n
@@ -282,7 +311,12 @@ never_refused encoding text None failed (Err NoMark) s (e, is, u, inl h) n = abs
 never_refused encoding text (Some zs) failed (Err NoMark) s (e, is, u, inl (head, given, (clear, other, long))) n =
     absurd (false≢true (sym other ∙ never_unmarked e text head zs (subst (λ x. encode x text ≡ head ++ zs) (sym is) given) long))
 never_refused encoding text left failed (Err NoMark) s (e, is, u, inr (held, short, (all, given, (bytes, all_is, answers)))) n = absurd answers
-never_refused encoding text left failed (Err InvalidUtf8) s a n = n
+never_refused encoding text left failed (Err InvalidUtf8) s (e, is, u, inl h) n = absurd h.2
+never_refused encoding text None failed (Err InvalidUtf8) s (e, is, u, inr (held, short, (all, given, a))) n = absurd given
+never_refused encoding text (Some zs) failed (Err InvalidUtf8) s (e, is, u, inr (held, short, (all, given, (bytes, all_is, (clear, utf8, refused))))) n =
+    let body : encode_unmarked e text ≡ bytes ++ (held ++ zs) = same_rest (mark_of e) _ _
+    (subst (λ x. encode x text ≡ all ++ zs) (sym is) given ∙ ap (λ xs. xs ++ zs) all_is ∙ append_assoc (mark_of e) (bytes ++ held) zs ∙ ap (λ xs. mark_of e ++ xs) (append_assoc bytes held zs)) in
+    never_invalid text bytes (held ++ zs) s (sym (spelled_utf8 e text utf8) ∙ body) refused
 never_refused encoding text left failed (Err (UnpairedSurrogate k)) s (e, is, u, inl h) n = absurd h.2
 never_refused encoding text None failed (Err (UnpairedSurrogate k)) s (e, is, u, inr (held, short, (all, given, a))) n = absurd given
 never_refused encoding text (Some zs) failed (Err (UnpairedSurrogate k)) s (e, is, u, inr (held, short, (all, given, (bytes, all_is, (clear, t, rest, follow, off, l, l_is, why))))) n =

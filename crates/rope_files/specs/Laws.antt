@@ -19,17 +19,18 @@ WrittenTextsAreRead =
     → ReadsAny text_read (Some encoding) (Some (encode encoding text)) left failed result
     → IfOk result (λ file. IsRope file.0 → (file.0.text ≡ text) × (file.1 ≡ encoding))
 
--- the result is that the file has no mark, or that what follows the mark is no UTF-16
+-- the result is that the file has no mark, or that the bytes after it are no text
 abbrev pub IsNoText : {R : Type 0} → Result R ReadAnyError → Type 0
 IsNoText (Ok r) = ⊥
 IsNoText (Err (Read e)) = ⊥
 IsNoText (Err NoMark) = ⊤
-IsNoText (Err InvalidUtf8) = ⊥
+IsNoText (Err InvalidUtf8) = ⊤
 IsNoText (Err (UnpairedSurrogate at)) = ⊤
 IsNoText (Err (HalfCodeUnit at)) = ⊤
 IsNoText (Err (Rope e)) = ⊥
 
--- a file of a text, read with its encoding declared, is never refused for its mark or as no UTF-16
+-- a file of a text, read with its encoding declared, is never refused for its mark or as no text: a rope is returned unless the device fails,
+-- the text is too long or there is no memory
 abbrev pub WrittenTextsAreTexts : Type 0
 WrittenTextsAreTexts =
     (encoding : Encoding) (text : List ℕ) (left : Option (List ℕ)) (failed : Bool) (result : Result (RopeView × Encoding) ReadAnyError) → all_scalars text ≡ true
