@@ -32,8 +32,7 @@ IsNoText (Err (HalfCodeUnit at)) = ⊤
 IsNoText (Err (Rope e)) = ⊥
 
 -- a file of a text, read with its encoding declared, is never refused for its mark or as no text: a
--- rope is returned unless the device fails,
--- the text is too long or there is no memory
+-- rope is returned unless the device fails, the text is too long or there is no memory
 abbrev pub WrittenTextsAreTexts : Type 0
 WrittenTextsAreTexts =
     (encoding : Encoding) (text : List ℕ) (left : Option (List ℕ)) (failed : Bool)

@@ -84,8 +84,7 @@ module _ {R : Type 0} (text_of : R → List ℕ) (spell : List ℕ → List ℕ)
       × Follow spell mark bytes text rest × IsRefusal (size_error (byte_len text)) e
 
 -- what is returned where the first bytes were given and no more were asked for: the device failed
--- before there were three, or they don't
--- begin with the mark
+-- before there were three, or they don't begin with the mark
 abbrev pub HeadAnswers : {R : Type 0} → Encoding → List ℕ → Option (List ℕ) → Bool
     → Result R ReadAnyError → Type 0
 HeadAnswers encoding bytes left failed (Ok r) = ⊥
