@@ -46,7 +46,7 @@ IsSettleError layout old held offset (HalfCodeUnit at) = ⊥
 IsSettleError layout old held offset (Rope e) = (text rest : List ℕ) × Parts layout held text rest
     × IsRefusal (size_error (byte_len (old ++ text))) e
 
--- why so many bytes at the end are no text
+-- why `left` bytes at the end are no text
 abbrev pub IsEndError : ℕ → ℕ → ReadAnyError → Type 0
 IsEndError left offset (Read e) = ⊥
 IsEndError left offset NoMark = ⊥

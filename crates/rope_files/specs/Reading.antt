@@ -51,7 +51,7 @@ IsOpen None rest = length (text_rest rest) < BUFFER_BYTES
 IsOpen (Some layout) rest = (length rest ≡ 0) ⊎ IsPart layout rest
 
 -- the bytes are those of a text, which `spell` gives, and some more; and where these come in the
--- file, after so many bytes of the mark
+-- file, after `mark` bytes of its mark
 module _ (spell : List ℕ → List ℕ) (mark : ℕ) (bytes : List ℕ) where
   pub record Follow (text rest : List ℕ) : Type 0 where
     pub whole : bytes ≡ spell text ++ rest

@@ -1,3 +1,4 @@
+use Rattle.std.proofs.Common.{length}
 use Rattle.rope_text.specs.Sides.{ahead}
 use Rattle.rope_files.proofs.Writings.{IsGathering, CanHave, NoneFailed}
 use Rattle.rope_files.proofs.writing.write_laid.Given as goal
@@ -10,3 +11,6 @@ invariant-loop-c g l = record {
   none_failed : NoneFailed (g.S.Mark.marked l.sink) (g.S.Mark.failure l.sink)
       (g.S.Mark.failures l.fn.sink) (g.S.Mark.failures l.sink);
 }
+
+abbrev pub decreases-loop-c : goal.decreases-loop-c
+decreases-loop-c g l = length (ahead l.c-iterator)
