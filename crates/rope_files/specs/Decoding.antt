@@ -18,7 +18,8 @@ pub record IsDecoded (layout : Layout) (bytes : List ℕ) (n : ℕ) (utf8 : List
   pub scalars : all_scalars text ≡ true
   pub most : length utf8 ≤ 2 * n
 
--- the text in the first n of the held bytes was added, and what follows it was moved to the buffer's front
+-- the text in the first n of the held bytes was added, and what follows it was moved to the
+-- buffer's front
 pub record Settles (layout : Layout) (old new held buffer : List ℕ) (n : ℕ) : Type 0 where
   pub text : List ℕ
   pub within : n ≤ length held
@@ -38,12 +39,14 @@ abbrev pub IsSettleError : Layout → List ℕ → List ℕ → ℕ → ReadAnyE
 IsSettleError layout old held offset (Read e) = ⊥
 IsSettleError layout old held offset NoMark = ⊥
 IsSettleError layout old held offset InvalidUtf8 = ⊥
-IsSettleError layout old held offset (UnpairedSurrogate at) = (text rest : List ℕ) × Parts layout held text rest × IsUnpaired layout rest
+IsSettleError layout old held offset (UnpairedSurrogate at) = (text rest : List ℕ)
+    × Parts layout held text rest × IsUnpaired layout rest
     × (at ≡ min (offset + length (laid_out layout text)) (2 ^ 64 - 1))
 IsSettleError layout old held offset (HalfCodeUnit at) = ⊥
-IsSettleError layout old held offset (Rope e) = (text rest : List ℕ) × Parts layout held text rest × IsRefusal (size_error (byte_len (old ++ text))) e
+IsSettleError layout old held offset (Rope e) = (text rest : List ℕ) × Parts layout held text rest
+    × IsRefusal (size_error (byte_len (old ++ text))) e
 
--- why so many bytes at the end are no text
+-- why `left` bytes at the end are no text
 abbrev pub IsEndError : ℕ → ℕ → ReadAnyError → Type 0
 IsEndError left offset (Read e) = ⊥
 IsEndError left offset NoMark = ⊥

@@ -18,5 +18,6 @@ read_error_text (Rope e) = error_text e
 
 -- the text that an error of writing prints
 abbrev pub write_error_text : WriteAsError → List ℕ
-write_error_text (Unencodable index) = codes "Character not in the encoding: char index " ++ decimal index
+write_error_text (Unencodable index) = codes "Character not in the encoding: char index "
+    ++ decimal index
 write_error_text (Write e) = codes "Write failed"

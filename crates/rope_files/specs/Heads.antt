@@ -18,5 +18,6 @@ source_of a = a.source
 
 -- what a reading of the first bytes returns: three of them or all, and fewer before a failure
 abbrev pub ReadsHead : Option (List ℕ) → Option (List ℕ) → Result Head Error → Type 0
-ReadsHead before left (Ok h) = Consumes before left (head_bytes h) × ((length (head_bytes h) ≡ 3) ⊎ IsAtEnd left)
+ReadsHead before left (Ok h) = Consumes before left (head_bytes h)
+    × ((length (head_bytes h) ≡ 3) ⊎ IsAtEnd left)
 ReadsHead before left (Err e) = (bytes : List ℕ) × Consumes before left bytes × (length bytes < 3)

@@ -33,13 +33,17 @@ code_unit Big bytes = slice_index bytes 0 * 0x100 + slice_index bytes 1
 -- the bytes end inside a code unit or inside a pair of them
 abbrev pub IsPart : Layout → List ℕ → Type 0
 IsPart Bytes bytes = ⊥
-IsPart (CodeUnits order) bytes = (length bytes < 2) ⊎ (IsTrue (is_high_surrogate (code_unit order bytes)) × (2 ≤ length bytes) × (length bytes < 4))
+IsPart (CodeUnits order) bytes = (length bytes < 2)
+    ⊎ (IsTrue (is_high_surrogate (code_unit order bytes)) × (2 ≤ length bytes) × (length bytes < 4))
 
--- the bytes begin with a second unit of a pair, or with a first one that is followed by no second one
+-- the bytes begin with a second unit of a pair, or with a first one that is followed by no second
+-- one
 abbrev pub IsUnpaired : Layout → List ℕ → Type 0
 IsUnpaired Bytes bytes = ⊥
-IsUnpaired (CodeUnits order) bytes = (2 ≤ length bytes) × (IsTrue (is_low_surrogate (code_unit order bytes))
-    ⊎ (IsTrue (is_high_surrogate (code_unit order bytes)) × (4 ≤ length bytes) × (is_low_surrogate (code_unit order (drop 2 bytes)) ≡ false)))
+IsUnpaired (CodeUnits order) bytes = (2 ≤ length bytes)
+    × (IsTrue (is_low_surrogate (code_unit order bytes))
+    ⊎ (IsTrue (is_high_surrogate (code_unit order bytes)) × (4 ≤ length bytes)
+    × (is_low_surrogate (code_unit order (drop 2 bytes)) ≡ false)))
 
 -- the first n bytes are those of the character c, which takes at most twice as many in UTF-8
 pub record BeginsWith (layout : Layout) (bytes : List ℕ) (c n : ℕ) : Type 0 where
@@ -55,11 +59,13 @@ Fronts layout bytes (Char c n) = BeginsWith layout bytes c n
 Fronts layout bytes Part = IsPart layout bytes
 Fronts layout bytes Unpaired = IsUnpaired layout bytes
 
--- at the end of a file: half a code unit is left, or a first one of a pair and perhaps half of another
+-- at the end of a file: half a code unit is left, or a first one of a pair and perhaps half of
+-- another
 abbrev pub EndsHalf : Layout → List ℕ → Type 0
 EndsHalf Bytes bytes = ⊥
 EndsHalf (CodeUnits order) bytes = length bytes ≡ 1
 
 abbrev pub EndsUnpaired : Layout → List ℕ → Type 0
 EndsUnpaired Bytes bytes = ⊥
-EndsUnpaired (CodeUnits order) bytes = IsTrue (is_high_surrogate (code_unit order bytes)) × (2 ≤ length bytes) × (length bytes < 4)
+EndsUnpaired (CodeUnits order) bytes = IsTrue (is_high_surrogate (code_unit order bytes))
+    × (2 ≤ length bytes) × (length bytes < 4)

@@ -24,7 +24,8 @@ unencodable_in (Some (CodeUnits order)) text = None
 abbrev pub unencodable : Encoding → List ℕ → Option ℕ
 unencodable encoding text = unencodable_in (layout_of encoding) text
 
--- where a character can't be had, its index is returned, and nothing was done that `Untouched` doesn't say; and nowhere else
+-- where a character can't be had, its index is returned, and nothing was done that `Untouched`
+-- doesn't say; and nowhere else
 abbrev pub IsRefusedWrite : Option ℕ → Type 0 → Result Unit WriteAsError → Type 0
 IsRefusedWrite None Untouched (Ok u) = ⊤
 IsRefusedWrite None Untouched (Err (Unencodable i)) = ⊥

@@ -41,7 +41,7 @@ impl Head {
         }
     }
 
-    /// The bytes.
+    /// Returns the bytes.
     pub(crate) fn as_slice(&self) -> &[u8]
         ensures { result.now ≡ head_bytes self.now }
     {
@@ -61,7 +61,7 @@ pub(crate) struct Ahead<S> {
 impl<S: Source> Ahead<S> {
     ghost use Rattle.rope_files.specs.Heads.{head_bytes, held_bytes, source_of};
 
-    /// A source that gives the bytes of `head` from `at` on, and then those of `source`.
+    /// Makes a source that gives the bytes of `head` from `at` on, and then those of `source`.
     pub(crate) fn new(source: S, head: Head, at: usize) -> Ahead<S>
         ensures source { source_of result ≡ source }
         ensures held { held_bytes result ≡ drop at (head_bytes head) }
@@ -74,7 +74,7 @@ impl<S: Source> Ahead<S> {
         }
     }
 
-    /// The source.
+    /// Returns the source.
     pub(crate) fn into_source(self) -> S
         ensures { result ≡ source_of self }
     {

@@ -20,7 +20,7 @@
 //!
 //! *What it costs.* Reading takes time and memory in proportion to the text, and no memory beside
 //! the rope. UTF-8 is handed on to `ropey` once its first three bytes were looked at, and costs
-//! what `Rope::from_reader` does. Writing takes no memory. Only Latin-1 is gone over twice.
+//! what `Rope::from_reader` does. Writing takes no memory. Only Latin-1 is scanned twice.
 //!
 //! Modules, lowest first:
 //! - `encoding`: the encodings and their marks

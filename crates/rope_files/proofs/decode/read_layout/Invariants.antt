@@ -5,7 +5,9 @@ use Rattle.rope_files.proofs.decode.read_layout.Given as goal
 
 abbrev pub invariant-loop-count : goal.invariant-loop-count
 invariant-loop-count g l = record {
-  reading : IsReading l.layout l.mark (g.S.Source.remaining l.fn.source) (g.S.Source.remaining l.source) l.builder.text l.buffer l.filled l.offset (g.S.Mark.marked l.source);
+  reading : IsReading l.layout l.mark (g.S.Source.remaining l.fn.source)
+      (g.S.Source.remaining l.source) l.builder.text l.buffer l.filled l.offset
+      (g.S.Mark.marked l.source);
   none_failed : g.S.Mark.failures l.source ≡ g.S.Mark.failures l.fn.source;
   fresh : l.builder.failed ≡ None;
   breaks : l.builder.breaks ≡ l.fn.builder.breaks;

@@ -8,5 +8,7 @@ returns-clause-answer g c =
     let source = c.read_any_watched-read.result.1 in (
       g.T.Read.remaining source.inner,
       source.failed,
-      subst (λ x. ReadsAny text_read c.args.declared (g.T.Read.remaining x) (g.T.Read.remaining source.inner) source.failed read) c.new.ensures.inner c.read_any_watched-read.ensures.answer,
+      subst (λ x. ReadsAny text_read c.args.declared (g.T.Read.remaining x)
+          (g.T.Read.remaining source.inner) source.failed read) c.new.ensures.inner
+          c.read_any_watched-read.ensures.answer,
     )

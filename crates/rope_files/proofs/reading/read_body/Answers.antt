@@ -13,6 +13,8 @@ returns-in-Some-clause-answer g c =
     let failed = g.S.Mark.marked c.read_laid.new.source in (
       a.0,
       a.1,
-      answers_laid text_of _ a.0 left failed c.read_laid.result c.args.encoding layout (sym c.layout.ensures ∙ c.in-Some.is)
-          (subst (λ m. Answers text_of (laid_out layout) (Some layout) (length m) a.0 left failed c.read_laid.result) c.mark-mark.ensures.mark a.2),
+      answers_laid text_of _ a.0 left failed c.read_laid.result c.args.encoding layout
+          (sym c.layout.ensures ∙ c.in-Some.is)
+          (subst (λ m. Answers text_of (laid_out layout) (Some layout)
+          (length m) a.0 left failed c.read_laid.result) c.mark-mark.ensures.mark a.2),
     )

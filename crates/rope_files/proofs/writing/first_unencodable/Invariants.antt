@@ -9,3 +9,6 @@ invariant-loop-c l = record {
   left : l.left ≡ length (ahead l.c-iterator);
   within : l.left ≤ l.len;
 }
+
+abbrev pub decreases-loop-c : goal.decreases-loop-c
+decreases-loop-c l = length (ahead l.c-iterator)
