@@ -6,6 +6,7 @@
 pub mod changes;
 pub mod copies;
 pub mod edits;
+pub mod encodings;
 pub mod files;
 pub mod first_edit;
 pub mod history;

@@ -1,6 +1,6 @@
 //! Every public item of `ropey`, `rope_position`, `rope_script`, `rope_language`, `rope_changes`,
-//! `rope_history` and `rope_documents`, used under its name, with its arguments in their order and
-//! with its types.
+//! `rope_history`, `rope_documents` and `rope_files`, used under its name, with its arguments in
+//! their order and with its types.
 //!
 //! This crate fails to compile if an item is renamed or dropped, if a call takes an argument more
 //! or less, or if an argument, a field or a result has another type. Where two of them have the
@@ -23,6 +23,7 @@
 //! - `changes`: changes as values, the laws of changes
 //! - `history`: histories of a text, and marks
 //! - `documents`: content changes of a language server
+//! - `files`: files in their encodings
 #![tactic(auto)]
 
 pub mod changes;
@@ -32,6 +33,7 @@ pub mod devices;
 pub mod documents;
 pub mod edits;
 pub mod errors;
+pub mod files;
 pub mod history;
 pub mod positions;
 pub mod rope_lookups;

@@ -1,0 +1,7 @@
+pub mod Buffers
+pub mod Decodings
+pub mod Files
+pub mod Fronts
+pub mod Heads
+pub mod Kept
+pub mod Writings

@@ -1,0 +1,142 @@
+-- A writing under way.
+use Rattle.std.proofs.Common.{◌≡◌, ◌+◌, ◌<◌, ◌≤◌, ℕ, Bool, false, true, List, [], ◌∷◌, ◌++◌, length, arith, refl, Ok, Err, Result, OnOk, OnErr, cond, sym, ap, subst, ◌∙◌, append_assoc, Option, None, Some}
+use Rattle.std.proofs.KnownBytes.{Appends-trans}
+use Rattle.std.proofs.lemmas.Bool.{cond-false, ne_eqb, ltb-false}
+use Rattle.std.proofs.lemmas.List.{append-nil}
+use Rattle.std.specs.Io.KnownBytes.{Appends}
+use Rattle.std.specs.declared.io.Error.{Error}
+use Rattle.rope_io.specs.Failing.{write_failure}
+use Rattle.rope_io.specs.Writing.{AppendsFront}
+use Rattle.rope_io.specs.declared.device.Failure.{Failure}
+use Rattle.rope_files.specs.Layouts.{laid_out, char_bytes}
+use Rattle.rope_files.specs.Writing.{first_above, unencodable_in}
+use Rattle.rope_files.specs.declared.layout.Layout.{Layout}
+use Rattle.rope_files.specs.declared.layout.Layout.TheVariants.{Bytes, CodeUnits}
+use Rattle.rope_files.proofs.Decodings.{laid_out-append}
+
+-- no call has failed since the writing began
+pub record NoneFailed (marked : Bool) (failure : Option Failure) (start now : ℕ) : Type 0 where
+  pub clear : marked ≡ false
+  pub none : failure ≡ None
+  pub same : now ≡ start
+
+-- the bytes but the rest have been appended
+pub record IsWriting (start now : Option (List ℕ)) (bytes rest : List ℕ) : Type 0 where
+  pub done : List ℕ
+  pub whole : bytes ≡ done ++ rest
+  pub appended : Appends start now done
+
+-- a write that took a byte has not failed
+pub took_some : (n : ℕ) (bs : List ℕ) → 0 < n → write_failure (Ok n) bs ≡ None
+took_some n bs some = cond-false _ _ _ (ne_eqb n 0 (λ e. omega (arith, e, some)))
+
+pub front_all : (old new : Option (List ℕ)) (bs : List ℕ) → Appends old new bs
+    → AppendsFront old new bs
+front_all old new bs p = record { front = bs; back = []; whole = sym (append-nil bs); appended = p }
+
+-- a writing of what comes next that stopped on its way
+pub front_more : (start mid end : Option (List ℕ)) (bytes done next rest : List ℕ)
+    → bytes ≡ done ++ (next ++ rest)
+    → Appends start mid done → AppendsFront mid end next → AppendsFront start end bytes
+front_more start mid end bytes done next rest e p q = record {
+  front = done ++ q.front;
+  back = q.back ++ rest;
+  whole = e ∙ ap (λ y. done ++ y) (ap (λ y. y ++ rest) q.whole ∙ append_assoc q.front q.back rest)
+      ∙ sym (append_assoc done q.front (q.back ++ rest));
+  appended = Appends-trans start mid end done q.front p q.appended;
+}
+
+-- the bytes of the mark and the characters before those ahead were sent, or are gathered
+pub record IsGathering (l : Layout) (start now : Option (List ℕ))
+    (mark text ahead gathered : List ℕ) : Type 0 where
+  pub sent : List ℕ
+  pub before : List ℕ
+  pub passed : text ≡ before ++ ahead
+  pub whole : sent ++ gathered ≡ mark ++ laid_out l before
+  pub appended : Appends start now sent
+
+-- each character ahead has its bytes
+pub record CanHave (l : Layout) (ahead : List ℕ) : Type 0 where
+  pub index : ℕ
+  pub can : l ≡ Bytes → first_above index ahead ≡ None
+
+-- a beginning of the mark is one of the file
+pub front_front : (old new : Option (List ℕ)) (xs ys : List ℕ) → AppendsFront old new xs
+    → AppendsFront old new (xs ++ ys)
+front_front old new xs ys p = record {
+  front = p.front;
+  back = p.back ++ ys;
+  whole = ap (λ zs. zs ++ ys) p.whole
+      ∙ append_assoc p.front p.back ys;
+  appended = p.appended;
+}
+
+-- a beginning of what follows what was appended whole
+pub front_after : (old mid new : Option (List ℕ)) (xs ys : List ℕ) → Appends old mid xs
+    → AppendsFront mid new ys → AppendsFront old new (xs ++ ys)
+front_after old mid new xs ys p q = front_more old mid new (xs ++ ys) xs ys []
+    (ap (λ zs. xs ++ zs) (sym (append-nil ys))) p q
+
+first_bytes : (i : ℕ) (b : Bool) (rest : Option ℕ) → cond b (Some i) rest ≡ None → (b ≡ false)
+    × (rest ≡ None)
+first_bytes i false rest e = (refl, e)
+first_bytes i true rest e = cc
+
+pub can_first : (l : Layout) (c : ℕ) (more : List ℕ) → CanHave l (c ∷ more) → l ≡ Bytes → c < 0x100
+can_first l c more h e = omega (arith, ltb-false 0xFF c (first_bytes h.index _ _ (h.can e)).0)
+
+pub can_rest : (l : Layout) (c : ℕ) (more : List ℕ) → CanHave l (c ∷ more) → CanHave l more
+can_rest l c more h = record {
+  index = h.index + 1;
+  can = λ e. (first_bytes h.index _ _ (h.can e)).1;
+}
+
+pub can_all : (l : Layout) (text : List ℕ) → unencodable_in (Some l) text ≡ None → CanHave l text
+can_all Bytes text e = record { index = 0; can = λ _. e }
+can_all (CodeUnits o) text e = record { index = 0; can = λ same. cc }
+
+module _ (l : Layout) (start now new : Option (List ℕ)) (mark text gathered : List ℕ) where
+  -- one more character
+  pub gather_more : (ahead more sent_now kept after : List ℕ) (c : ℕ)
+      → IsGathering l start now mark text ahead gathered → ahead ≡ c ∷ more
+      → gathered ≡ sent_now ++ kept → Appends now new sent_now → after ≡ kept ++ char_bytes l c
+      → IsGathering l start new mark text more after
+  gather_more ahead more sent_now kept after c i e f p q = record {
+    sent = i.sent ++ sent_now;
+    before = i.before ++ c ∷ [];
+    passed = i.passed ∙ ap (λ xs. i.before ++ xs) e ∙ sym (append_assoc i.before (c ∷ []) more);
+    whole = ap (λ xs. (i.sent ++ sent_now) ++ xs) q
+        ∙ sym (append_assoc (i.sent ++ sent_now) kept (char_bytes l c))
+        ∙ ap (λ xs. xs ++ char_bytes l c)
+        (append_assoc i.sent sent_now kept ∙ ap (λ xs. i.sent ++ xs) (sym f) ∙ i.whole)
+        ∙ append_assoc mark (laid_out l i.before) (char_bytes l c)
+        ∙ ap (λ xs. mark ++ xs) (ap (λ xs. laid_out l i.before ++ xs)
+        (sym (append-nil (char_bytes l c))) ∙ sym (laid_out-append l i.before (c ∷ [])));
+    appended = Appends-trans start now new i.sent sent_now i.appended p;
+  }
+
+  -- the whole file, as what was sent, what is gathered and what is ahead
+  pub gathered_whole : (ahead : List ℕ) (i : IsGathering l start now mark text ahead gathered)
+      → mark ++ laid_out l text ≡ i.sent ++ (gathered ++ laid_out l ahead)
+  gathered_whole ahead i =
+      ap (λ xs. mark ++ xs) (ap (λ xs. laid_out l xs) i.passed ∙ laid_out-append l i.before ahead)
+      ∙ sym (append_assoc mark (laid_out l i.before) (laid_out l ahead))
+      ∙ ap (λ xs. xs ++ laid_out l ahead) (sym i.whole)
+      ∙ append_assoc i.sent gathered (laid_out l ahead)
+
+  pub gathered_front : (ahead : List ℕ) (i : IsGathering l start now mark text ahead gathered)
+      → AppendsFront now new gathered → AppendsFront start new (mark ++ laid_out l text)
+  gathered_front ahead i q = front_more start now new (mark ++ laid_out l text) i.sent gathered
+      (laid_out l ahead) (gathered_whole ahead i) i.appended q
+
+  pub gathered_all : (ahead : List ℕ) (i : IsGathering l start now mark text ahead gathered)
+      → ahead ≡ [] → Appends now new gathered → Appends start new (mark ++ laid_out l text)
+  gathered_all ahead i e p =
+      subst (Appends start new) (sym
+      (gathered_whole ahead i ∙ ap (λ xs. i.sent ++ (gathered ++ laid_out l xs)) e
+      ∙ ap (λ xs. i.sent ++ xs) (append-nil gathered)))
+      (Appends-trans start now new i.sent gathered i.appended p)
+
+pub on_ok : {A B : Type 0} (r : Result (Unit {0}) Error) → OnOk r A → (A → B) → OnOk r B
+on_ok (Ok u) p f = f p
+on_ok (Err e) p f = tt

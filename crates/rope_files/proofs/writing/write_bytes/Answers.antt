@@ -1,0 +1,33 @@
+use Rattle.std.proofs.Common.{◌≡◌, ◌++◌, None, Ok, take, drop, arith, sym, ap, ◌∙◌, inl, append_assoc, length-drop}
+use Rattle.std.proofs.lemmas.List.{take-append-drop, take_all}
+use Rattle.rope_io.specs.Failing.{write_failure, count_failure}
+use Rattle.rope_files.proofs.Writings.{took_some}
+use Rattle.std.proofs.KnownBytes.{Appends-trans}
+use Rattle.rope_files.proofs.writing.write_bytes.Goals as goal
+
+pub loop-rest-preserved : goal.loop-rest-preserved
+loop-rest-preserved g c =
+    let i = c.loop-rest.invariant.writing in
+    let f = c.loop-rest.invariant.none_failed in
+    let n = c.in_ok-count.count in
+    let r = c.loop-rest.rest.now in
+    let good : write_failure (Ok n) r ≡ None = took_some n r (omega arith) in
+    record {
+      writing = record {
+        done = i.done ++ take n r;
+        whole = i.whole ∙ ap (λ zs. i.done ++ zs) (sym (take-append-drop n r))
+            ∙ sym (append_assoc i.done (take n r) (drop n r))
+            ∙ ap (λ zs. (i.done ++ take n r) ++ zs)
+            (sym (take_all _ (drop n r) (omega (arith, length-drop n r))));
+        appended = Appends-trans _ _ _ i.done (take n r) i.appended c.in_ok-count.ensures.bytes;
+      };
+      none_failed = record {
+        clear = c.in_ok-count.ensures.ok (inl (omega arith)) ∙ f.clear;
+        none = c.in_ok-count.ensures.failure ∙ good;
+        same = c.in_ok-count.ensures.failures
+            ∙ ap (λ k. count_failure k (g.S.Mark.failures c.loop-rest.sink)) good ∙ f.same;
+      };
+    }
+
+pub returns-then-count-eq0-clause-ok : goal.returns-then-count-eq0-clause-ok
+returns-then-count-eq0-clause-ok g c = tt
