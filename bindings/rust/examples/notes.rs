@@ -1,4 +1,4 @@
-//! Puts a line into a file, behind its first one.
+//! Inserts a line into a file, after its first one.
 use std::fs::File;
 
 fn main() -> std::io::Result<()> {
