@@ -15,10 +15,12 @@ appended_apart (e ∷ f ∷ edits) kept text deleted some = ap (λ es. e ∷ es)
 
 pub appended_first : (edits : List Edit) (kept : ℕ) (text : List ℕ) (deleted : ℕ)
     → (length edits ≡ 0) ⊎ (1 ≤ kept)
-    → appended edits kept text deleted ≡ edits ++ record { kept = kept; text = text; deleted = deleted } ∷ []
+    → appended edits kept text deleted
+    ≡ edits ++ record { kept = kept; text = text; deleted = deleted } ∷ []
 appended_first [] kept text deleted first = refl
 appended_first (e ∷ edits) kept text deleted (inl none) = absurd (omega arith)
-appended_first (e ∷ edits) kept text deleted (inr some) = appended_apart (e ∷ edits) kept text deleted some
+appended_first (e ∷ edits) kept text deleted (inr some) =
+    appended_apart (e ∷ edits) kept text deleted some
 
 -- else it extends the last one
 pub appended_last : (front : List Edit) (e : Edit) (text : List ℕ) (deleted : ℕ) → appended (front ++ e ∷ []) 0 text deleted ≡ front ++ extended e text deleted ∷ []

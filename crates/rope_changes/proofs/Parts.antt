@@ -82,7 +82,8 @@ module _ (l : Lengths) (more : List ℕ) (all : l.bytes ≡ length more) where
 
   alone : edits_of (l ∷ []) more ≡ added ∷ []
   alone =
-      ap (λ t. let e : Edit = record { kept = l.kept; text = chars t; deleted = l.deleted } in e ∷ [])
+      ap (λ t. let e : Edit = record { kept = l.kept; text = chars t; deleted = l.deleted } in
+      e ∷ [])
       (ap (λ k. take k more) all ∙ take-length more)
 
   pub edits_pushed : (ls : List Lengths) (bytes : List ℕ) → AreCounted ls bytes
@@ -92,10 +93,18 @@ module _ (l : Lengths) (more : List ℕ) (all : l.bytes ≡ length more) where
       ap (λ t. let e : Edit = record { kept = m.kept; text = chars t; deleted = m.deleted } in
       e ∷ edits_of (ls ++ l ∷ []) (drop m.bytes (bytes ++ more)))
       (take-append-le m.bytes bytes more counted.0.within)
-      ∙ ap (λ t. let e : Edit = record { kept = m.kept; text = chars (take m.bytes bytes); deleted = m.deleted } in
+      ∙ ap (λ t. let e : Edit = record {
+        kept = m.kept;
+        text = chars (take m.bytes bytes);
+        deleted = m.deleted;
+      } in
       e ∷ edits_of (ls ++ l ∷ []) t)
       (drop-append-le m.bytes bytes more counted.0.within)
-      ∙ ap (λ es. let e : Edit = record { kept = m.kept; text = chars (take m.bytes bytes); deleted = m.deleted } in
+      ∙ ap (λ es. let e : Edit = record {
+        kept = m.kept;
+        text = chars (take m.bytes bytes);
+        deleted = m.deleted;
+      } in
       e ∷ es)
       (edits_pushed ls (drop m.bytes bytes) counted.1)
 
@@ -146,7 +155,8 @@ module _ (more : List ℕ) (inserted deleted : ℕ) (text : IsUtf8 more)
     grown_edit : edits_of (grown l ∷ []) (bytes ++ more)
         ≡ appended (edits_of (l ∷ []) bytes) 0 (chars more) deleted
     grown_edit =
-        ap (λ t. let e : Edit = record { kept = l.kept; text = t; deleted = l.deleted + deleted } in e ∷ [])
+        ap (λ t. let e : Edit = record { kept = l.kept; text = t; deleted = l.deleted + deleted } in
+        e ∷ [])
         both_chars
 
     grown_counted : AreCounted (grown l ∷ []) (bytes ++ more)
@@ -174,10 +184,18 @@ module _ (more : List ℕ) (inserted deleted : ℕ) (text : IsUtf8 more)
       ap (λ t. let e : Edit = record { kept = l.kept; text = chars t; deleted = l.deleted } in
       e ∷ edits_of (set (m ∷ ls) (length ls) new) (drop l.bytes (bytes ++ more)))
       (take-append-le l.bytes bytes more counted.0.within)
-      ∙ ap (λ t. let e : Edit = record { kept = l.kept; text = chars (take l.bytes bytes); deleted = l.deleted } in
+      ∙ ap (λ t. let e : Edit = record {
+        kept = l.kept;
+        text = chars (take l.bytes bytes);
+        deleted = l.deleted;
+      } in
       e ∷ edits_of (set (m ∷ ls) (length ls) new) t)
       (drop-append-le l.bytes bytes more counted.0.within)
-      ∙ ap (λ es. let e : Edit = record { kept = l.kept; text = chars (take l.bytes bytes); deleted = l.deleted } in
+      ∙ ap (λ es. let e : Edit = record {
+        kept = l.kept;
+        text = chars (take l.bytes bytes);
+        deleted = l.deleted;
+      } in
       e ∷ es)
       (edits_set m ls (drop l.bytes bytes) new d counted.1 is)
 

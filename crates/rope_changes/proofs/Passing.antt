@@ -58,7 +58,8 @@ module _ (edits : List Edit) (rest k : ℕ) (e : Edit) (l : Lengths) (below : k 
   pub ops_at : ops_of (drop k edits) rest ≡ step_of l text later
   ops_at =
       ap (λ es. ops_of es rest) (drop_more edits k e below)
-      ∙ ap (λ n. keeping n (inserting text (deleting (get_or edits k e).deleted later))) (sym are.kept)
+      ∙ ap (λ n. keeping n (inserting text (deleting (get_or edits k e).deleted later)))
+      (sym are.kept)
       ∙ ap (λ n. keeping l.kept (inserting text (deleting n later))) (sym are.deleted)
 
   pub next_passed : (end new_end start start' : ℕ)

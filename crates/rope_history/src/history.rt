@@ -1,16 +1,18 @@
 //! The versions that a text went through.
-ghost use Rattle.std.specs.Prelude.{◌≡◌, ◌≢◌, ◌⊎◌, ◌+◌, ◌<◌, ◌≤◌, ◌^◌, ◌∷◌, ◌++◌, ℕ, List, [], length, vec_len, vec_capacity, Some, None, IfOk, IfErr, IsOk, OnOk, OnErr};
+ghost use Rattle.std.specs.Prelude.{◌≡◌, ◌≢◌, ◌⊎◌, ◌+◌, ◌<◌, ◌≤◌, ◌^◌, ◌∷◌, ◌++◌, ℕ, List, [], length, vec_len, vec_capacity, Some, None, IfOk, IfErr, IsOk, IsTrue, OnOk, OnErr, ◌↔◌};
 ghost use Rattle.std.specs.List.{All};
+ghost use Rattle.std.specs.Str.{chars};
 ghost use Rattle.rope_text.specs.Text.{byte_len};
 ghost use Rattle.rope_changes.specs.declared.error.ChangeError.TheVariants.{LengthDiffers, TooLong, OutOfMemory};
 ghost use Rattle.rope_changes.specs.Applied.{inserted_bytes};
 ghost use Rattle.rope_changes.specs.Change.{after, before, ops};
 ghost use Rattle.rope_changes.specs.Ops.{run};
-ghost use Rattle.rope_history.specs.Texts.{StandsAt, text_at, text_before};
+ghost use Rattle.rope_history.specs.Texts.{StandsAt, text_at, text_before, IsTooLong, IsTooLongUp, IsTooLongDown, IsTooLongTo};
 ghost use Rattle.rope_history.specs.Versions.{GoesTo, IsHistory, IsPath, IsAscent, change_ahead, change_back, committed, first_version, left_by_undo, len_of, parent_of, redo_of, redone, undone, version_at, ascended};
 ghost use Rattle.ropey.specs.View.{IsRope};
 
 use rope_changes::{ChangeError, ChangeSet};
+use rope_text::MAX_TEXT_BYTES;
 use ropey::Rope;
 use std::alloc::Global;
 use std::marker::Model;
@@ -45,6 +47,32 @@ fn push_both(versions: &mut Vec<Version>, redo: &mut Vec<Option<usize>>, version
     if versions.push(version).is_err() || redo.push(None).is_err() {
         unreachable!();
     }
+}
+
+// Returns the number of bytes of a text.
+fn len_bytes(text: &str) -> usize
+    ensures { result ≡ byte_len (chars text.now) }
+{
+    text.len()
+}
+
+// Returns whether the text of a rope and the texts that a change inserts have more than
+// `isize::MAX` bytes together.
+fn is_too_long(rope: &Rope, change: &ChangeSet) -> bool
+    ensures value { IsTrue result
+        ↔ (2 ^ 63 ≤ byte_len rope.now.text + inserted_bytes change.now.edits) }
+    ensures kept { IsRope rope.now }
+{
+    let mut room = MAX_TEXT_BYTES - rope.len_bytes();
+    let mut edits = change.edits();
+    while let Some(edit) = edits.next() {
+        let bytes = len_bytes(edit.text);
+        if bytes > room {
+            return true;
+        }
+        room -= bytes;
+    }
+    false
 }
 
 impl Model for History {
@@ -174,8 +202,8 @@ impl History {
     /// First `LengthDiffers`, with `len_chars()` and the rope's length, if they differ; then
     /// `LengthDiffers`, with the change's `len_before()` and `len_chars()`, if these differ; then
     /// `TooLong`, if the rope's text and the texts that the change inserts have more than
-    /// `isize::MAX` bytes together; and `OutOfMemory`. A call that fails leaves the history and the
-    /// rope as they were.
+    /// `isize::MAX` bytes together; then `OutOfMemory`. A call that fails leaves the history and
+    /// the rope as they were.
     pub fn commit(&mut self, rope: &mut Rope, change: ChangeSet) -> Result<(), ChangeError>
         ensures rope_differs { length rope.old.text ≢ len_of self.old
             → result ≡ Err (LengthDiffers (len_of self.old) (length rope.old.text)) }
@@ -184,7 +212,7 @@ impl History {
             → result ≡ Err (LengthDiffers (before change) (len_of self.old)) }
         ensures too_long { length rope.old.text ≡ len_of self.old → before change ≡ len_of self.old
             → 2 ^ 63 ≤ byte_len rope.old.text + inserted_bytes change.edits
-            → (result ≡ Err TooLong) ⊎ (result ≡ Err OutOfMemory) }
+            → result ≡ Err TooLong }
         ensures memory { length rope.old.text ≡ len_of self.old → before change ≡ len_of self.old
             → byte_len rope.old.text + inserted_bytes change.edits < 2 ^ 63
             → IfErr result (λ e. e ≡ OutOfMemory) }
@@ -203,6 +231,9 @@ impl History {
         self.check_len(rope)?;
         if change.len_before() != self.len_chars() {
             return Err(ChangeError::LengthDiffers(change.len_before(), self.len_chars()));
+        }
+        if is_too_long(rope, &change) {
+            return Err(ChangeError::TooLong);
         }
         let inverse = change.invert(rope)?;
         if self.versions.reserve(1).is_err() || self.redo.reserve(1).is_err() {
@@ -315,6 +346,8 @@ impl History {
         ensures text { OnOk result (rope.new.text
             ≡ run (ops (version_at self.now version).inverse) rope.old.text) }
         ensures error { IfErr result (λ e. (e ≡ TooLong) ⊎ (e ≡ OutOfMemory)) }
+        ensures too_long { result ≡ Err TooLong
+            → IsTooLong rope.old.text (version_at self.now version).inverse }
         ensures breaks { rope.new.breaks ≡ rope.old.breaks }
         ensures kept { IsRope rope.new }
     {
@@ -335,6 +368,8 @@ impl History {
         ensures text { OnOk result (rope.new.text
             ≡ run (ops (version_at self.now version).change) rope.old.text) }
         ensures error { IfErr result (λ e. (e ≡ TooLong) ⊎ (e ≡ OutOfMemory)) }
+        ensures too_long { result ≡ Err TooLong
+            → IsTooLong rope.old.text (version_at self.now version).change }
         ensures breaks { rope.new.breaks ≡ rope.old.breaks }
         ensures kept { IsRope rope.new }
     {
@@ -370,6 +405,8 @@ impl History {
             → StandsAt first self.now rope.old.text
             → rope.new.text ≡ text_at first self.now top) }
         ensures error { IfErr result (λ e. (e ≡ TooLong) ⊎ (e ≡ OutOfMemory)) }
+        ensures too_long { result ≡ Err TooLong → (first : List ℕ)
+            → StandsAt first self.now rope.old.text → IsTooLongUp first self.now }
         ensures breaks { rope.new.breaks ≡ rope.old.breaks }
         ensures kept { IsRope rope.new }
     {
@@ -410,6 +447,8 @@ impl History {
         ensures text { OnOk result ((first : List ℕ) → rope.old.text ≡ text_at first self.now top
             → rope.new.text ≡ text_at first self.now version) }
         ensures error { IfErr result (λ e. (e ≡ TooLong) ⊎ (e ≡ OutOfMemory)) }
+        ensures too_long { result ≡ Err TooLong → (first : List ℕ)
+            → rope.old.text ≡ text_at first self.now top → IsTooLongDown first self.now version }
         ensures breaks { rope.new.breaks ≡ rope.old.breaks }
         ensures kept { IsRope rope.new }
     {
@@ -436,16 +475,18 @@ impl History {
     ///
     /// # Errors
     ///
-    /// First `LengthDiffers`, with `len_chars()` and the rope's length, if they differ; then
-    /// `TooLong`, if a text on the path and the texts that are inserted into it have more than
-    /// `isize::MAX` bytes together; and `OutOfMemory`. A call that fails leaves the history and the
-    /// rope as they were.
+    /// First `LengthDiffers`, with `len_chars()` and the rope's length, if they differ. Then
+    /// `TooLong`, where a text on the path and the texts that are inserted into it have more than
+    /// `isize::MAX` bytes together, unless memory ends before that; and `OutOfMemory` otherwise. A
+    /// call that fails leaves the history and the rope as they were.
     pub fn go_to(&mut self, rope: &mut Rope, version: usize) -> Result<(), ChangeError>
         requires { version < length self.old.versions }
         ensures differs { length rope.old.text ≢ len_of self.old
             → result ≡ Err (LengthDiffers (len_of self.old) (length rope.old.text)) }
         ensures error { length rope.old.text ≡ len_of self.old
             → IfErr result (λ e. (e ≡ TooLong) ⊎ (e ≡ OutOfMemory)) }
+        ensures too_long { result ≡ Err TooLong → (first : List ℕ)
+            → StandsAt first self.old rope.old.text → IsTooLongTo first self.old version }
         ensures ok { OnOk result (GoesTo self.old self.new version) }
         ensures err { OnErr result ((self.new ≡ self.old) × (rope.new ≡ rope.old)) }
         ensures stands { (first : List ℕ) → StandsAt first self.old rope.old.text

@@ -89,7 +89,8 @@ loop-edit-preserved c =
       text = c.loop-edit.invariant.text ∙ ap (λ o. take at t ++ run o (drop at t)) (next e)
           ∙ spliced_runs r.kept (text e) r.deleted rest t at fits
           ∙ ap (λ n. take n made ++ run rest (drop n made)) (sym n_is)
-          ∙ ap (λ u. take (at + r.kept + r.inserted) u ++ run rest (drop (at + r.kept + r.inserted) u))
+          ∙ ap
+          (λ u. take (at + r.kept + r.inserted) u ++ run rest (drop (at + r.kept + r.inserted) u))
           (sym is);
       within = omega (
         arith,

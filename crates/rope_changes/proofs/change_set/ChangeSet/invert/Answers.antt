@@ -62,11 +62,13 @@ made c = record { kept = c.in-Some.edit.kept; text = gone c; deleted = length (t
 
 gone_len : (c : In-Some) → length (gone c) ≡ c.in-Some.edit.deleted
 gone_len c =
-    deleted_len c.in-Some.edit.kept c.in-Some.edit.deleted (drop c.loop-edit.at c.args.rope.now.text)
+    deleted_len c.in-Some.edit.kept c.in-Some.edit.deleted
+    (drop c.loop-edit.at c.args.rope.now.text)
     (omega (arith, room c, length-drop c.loop-edit.at c.args.rope.now.text))
 
 -- the text that was copied is those characters
-text_is : (c : After-as_str) → chars c.as_str.result.now ≡ deleted_of c.in-Some.edit c.loop-edit.at c.args.rope.now.text
+text_is : (c : After-as_str) → chars c.as_str.result.now
+    ≡ deleted_of c.in-Some.edit c.loop-edit.at c.args.rope.now.text
 text_is c =
     let old = c.in-Some.edit in
     let at = c.loop-edit.at in

@@ -130,7 +130,11 @@ overflow_add-result c =
     let ls = c.lengths-lengths.result.now in
     let passed : IsPassed whole p = subst (λ (x : Change). IsPassed x p)
     (sym c.self.view_is) c.loop-passed.invariant.passed in
-    omega (arith, after_end whole ls p c.lengths-lengths.ensures c.loop-passed-test.true passed, c.map.ensures.within)
+    omega (
+      arith,
+      after_end whole ls p c.lengths-lengths.ensures c.loop-passed-test.true passed,
+      c.map.ensures.within,
+    )
 
 pub returns-then-left-edit-clause-moved : goal.returns-then-left-edit-clause-moved
 returns-then-left-edit-clause-moved c =
@@ -139,7 +143,8 @@ returns-then-left-edit-clause-moved c =
     let ls = c.lengths-lengths.result.now in
     let passed : IsPassed whole p = subst (λ (x : Change). IsPassed x p)
     (sym c.self.view_is) c.loop-passed.invariant.passed in
-    let h = moves whole ls p c.lengths-lengths.ensures c.loop-passed-test.true passed c.args.side
+    let h = moves whole ls p c.lengths-lengths.ensures c.loop-passed-test.true passed
+    c.args.side
     c.args.char_idx c.map.result c.self.invariant.normal c.loop-passed.invariant.reaches
     c.map.ensures.moved in
     omega (arith, h, ap (λ (x : Change). moved c.args.side (ops x) c.args.char_idx) c.self.view_is)
@@ -159,7 +164,9 @@ returns-then-left-edit-clause-between c =
     } in
     subst (λ (x : Change). IsBetween x q) c.self.view_is
     (between_next whole.edits whole.rest p.count no_edit (get_or ls p.count none)
-    (below whole ls p c.lengths-lengths.ensures c.loop-passed-test.true passed) (same whole ls p c.lengths-lengths.ensures c.loop-passed-test.true passed) p.end p.new_end p.start passed)
+    (below whole ls p c.lengths-lengths.ensures c.loop-passed-test.true passed)
+    (same whole ls p c.lengths-lengths.ensures c.loop-passed-test.true passed)
+    p.end p.new_end p.start passed)
 
 pub overflow_add-passed-in-loop-passed-4 : goal.overflow_add-passed-in-loop-passed-4
 overflow_add-passed-in-loop-passed-4 c =
@@ -197,7 +204,9 @@ loop-passed-preserved c =
       reaches = record { le = omega arith; more = λ _. omega arith };
       passed = subst (λ (x : Change). IsPassed x q) c.self.view_is
           (next_passed whole.edits whole.rest p.count no_edit l
-          (below whole ls p c.lengths-lengths.ensures c.loop-passed-test.true passed) (same whole ls p c.lengths-lengths.ensures c.loop-passed-test.true passed) p.end p.new_end p.start p.start passed);
+          (below whole ls p c.lengths-lengths.ensures c.loop-passed-test.true passed)
+          (same whole ls p c.lengths-lengths.ensures c.loop-passed-test.true passed) p.end p.new_end
+          p.start p.start passed);
     }
 
 pub returns-clause-moved : goal.returns-clause-moved
@@ -232,4 +241,5 @@ returns-clause-between c =
       start = 18446744073709551615;
     } in
     subst (λ (x : Change). IsBetween x q) c.self.view_is
-    (between_last whole.edits whole.rest p.count p.end p.new_end p.start 18446744073709551615 all passed)
+    (between_last whole.edits whole.rest p.count p.end p.new_end p.start 18446744073709551615 all
+    passed)

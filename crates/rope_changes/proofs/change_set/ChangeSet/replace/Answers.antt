@@ -21,7 +21,8 @@ add-requires-clause-fits c =
 ends_at : (c : In_ok-add) → c.args.start - (c.self.inside.len_before - c.self.inside.rest) + (c.args.end - c.args.start) + (c.self.inside.len_before - c.args.end) ≡ c.self.inside.rest
 ends_at c = omega (arith, rest_before c.self.inside.edits c.self.inside.rest)
 
-made_before : (c : In_ok-add) → c.self.inside.len_before ≡ len_before (ops_of c.add.new.self (c.self.inside.len_before - c.args.end))
+made_before : (c : In_ok-add) → c.self.inside.len_before
+    ≡ len_before (ops_of c.add.new.self (c.self.inside.len_before - c.args.end))
 made_before c =
     let edits = c.self.inside.edits in
     let rest = c.self.inside.len_before - c.args.end in
@@ -60,7 +61,8 @@ invariant_of-self-2 c =
       after_is = made_after m;
       before_fits = omega arith;
       after_fits = omega arith;
-      normal = rw c.in_ok-add.ensures.ok (appended_normal c.self.inside.edits _ text deleted c.self.invariant.normal some);
+      normal = rw c.in_ok-add.ensures.ok
+          (appended_normal c.self.inside.edits _ text deleted c.self.invariant.normal some);
     }
 
 pub returns-clause-len_before : goal.returns-clause-len_before

@@ -18,7 +18,8 @@ returns-clause-ok c =
       deleted = c.args.deleted;
     } in
     let joins : c.push.new.self ≡ c.args.self.now ++ e ∷ []
-    → c.push.new.self ≡ appended c.args.self.now c.args.kept (chars c.args.text.now) c.args.deleted =
+    → c.push.new.self
+    ≡ appended c.args.self.now c.args.kept (chars c.args.text.now) c.args.deleted =
     λ is. is ∙ sym (appended_first c.args.self.now c.args.kept (chars c.args.text.now)
     c.args.deleted first) in
     on_ok_weaker c.push.result joins c.push.ensures.ok

@@ -43,8 +43,9 @@ module _ (c : After-index-last) where
 
   room : (length (get_or c.args.self.now index edit).text + c.args.inserted < 2 ^ 64)
       × ((get_or c.args.self.now index edit).deleted + c.args.deleted < 2 ^ 64)
-  room = last_room c.args.self.now index c.args.inserted c.args.deleted edit c.requires.some edits_at
-      c.requires.fits
+  room =
+      last_room c.args.self.now index c.args.inserted c.args.deleted edit c.requires.some
+      edits_at c.requires.fits
 
   same : get_or (edits_of old bytes) index edit ≡ get_or c.args.self.now index edit
   same = ap (λ (es : List Edit). get_or es index edit) c.self.view_is
@@ -85,7 +86,13 @@ pub overflow_add-last-3 : goal.overflow_add-last-3
 overflow_add-last-3 c =
     let w = (goal.at.overflow_add-last-3 c).After-index-last in
     let h = c.push_str.type_inv in
-    omega (arith, last_bytes (old w) (bytes w) (index w) (last w) c.self.invariant (omega (arith, some w, at w)), ap (λ (l : Lengths). l.bytes) (last_is w), ap length (text_is w))
+    omega (
+      arith,
+      last_bytes (old w) (bytes w) (index w) (last w) c.self.invariant
+          (omega (arith, some w, at w)),
+      ap (λ (l : Lengths). l.bytes) (last_is w),
+      ap length (text_is w),
+    )
 
 pub invariant_of-self-2 : goal.invariant_of-self-2
 invariant_of-self-2 c =
@@ -93,7 +100,8 @@ invariant_of-self-2 c =
     subst (AreCounted (set (old w) (index w) (new w))) (sym (text_is w))
     (counted_grown c.args.text.now c.args.inserted c.args.deleted c.utf8.text c.requires.counted
     (old w) (bytes w) (index w) (new w) (last w) (some w) (at w) c.self.invariant
-    (ap (grown c.args.text.now c.args.inserted c.args.deleted c.utf8.text c.requires.counted) (last_is w)))
+    (ap (grown c.args.text.now c.args.inserted c.args.deleted c.utf8.text c.requires.counted)
+    (last_is w)))
 
 pub returns-clause-ok : goal.returns-clause-ok
 returns-clause-ok c =
@@ -101,5 +109,6 @@ returns-clause-ok c =
     ap (edits_of (set (old w) (index w) (new w))) (text_is w)
     ∙ edits_grown c.args.text.now c.args.inserted c.args.deleted c.utf8.text c.requires.counted
     (old w) (bytes w) (index w) (new w) (last w) (some w) (at w) c.self.invariant
-    (ap (grown c.args.text.now c.args.inserted c.args.deleted c.utf8.text c.requires.counted) (last_is w))
+    (ap (grown c.args.text.now c.args.inserted c.args.deleted c.utf8.text c.requires.counted)
+    (last_is w))
     ∙ ap (λ es. appended es 0 (chars c.args.text.now) c.args.deleted) c.self.view_is

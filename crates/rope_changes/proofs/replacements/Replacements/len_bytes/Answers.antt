@@ -7,5 +7,6 @@ use Rattle.rope_changes.proofs.replacements.Replacements.len_bytes.Goals as goal
 pub returns : goal.returns
 returns c =
     (let n : c.len.result ≡ length (string_bytes c.self.inside.text) = search rules in n)
-    ∙ sym (bytes_of_all c.self.inside.lengths.items (string_bytes c.self.inside.text) c.self.invariant)
+    ∙ sym
+    (bytes_of_all c.self.inside.lengths.items (string_bytes c.self.inside.text) c.self.invariant)
     ∙ ap inserted_bytes c.self.view_is

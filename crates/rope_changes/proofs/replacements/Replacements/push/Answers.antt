@@ -16,10 +16,12 @@ added c = record {
   bytes = length c.args.text.now;
 }
 
-lengths_are : (c : Else-is_err-3) → c.push.new.self.items ≡ c.self.inside.lengths.items ++ added c ∷ []
+lengths_are : (c : Else-is_err-3) → c.push.new.self.items
+    ≡ c.self.inside.lengths.items ++ added c ∷ []
 lengths_are c = search rules
 
-text_is : (c : Else-is_err-3) → string_bytes c.push_str.new.self ≡ string_bytes c.self.inside.text ++ c.args.text.now
+text_is : (c : Else-is_err-3) → string_bytes c.push_str.new.self
+    ≡ string_bytes c.self.inside.text ++ c.args.text.now
 text_is c = search rules
 
 pub invariant_of-self-2 : goal.invariant_of-self-2
@@ -27,7 +29,8 @@ invariant_of-self-2 c =
     let old = c.self.inside.lengths.items in
     let bytes = string_bytes c.self.inside.text in
     let more = c.args.text.now in
-    subst (λ (ls : List Lengths). AreCounted ls (string_bytes c.push_str.new.self)) (sym (lengths_are c))
+    subst (λ (ls : List Lengths). AreCounted ls (string_bytes c.push_str.new.self))
+    (sym (lengths_are c))
     (subst (λ (t : List ℕ). AreCounted (old ++ added c ∷ []) t) (sym (text_is c))
     (counted_pushed (added c) more refl old bytes c.self.invariant
     (begins_whole more (length more) c.args.inserted c.utf8.text refl c.requires.counted)))

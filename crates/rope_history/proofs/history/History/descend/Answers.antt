@@ -73,6 +73,7 @@ returns c =
     record {
       text = λ first is. inv.3 first is ∙ ap (text_at first h) (sym end);
       error = tt;
+      too_long = λ is. absurd (cc);
       breaks = inv.4;
       kept = inv.5;
     }
