@@ -26,6 +26,10 @@ mod random_edits;
 #[cfg(test)]
 mod random_inserts;
 #[cfg(test)]
+mod random_marks;
+#[cfg(test)]
+mod random_versions;
+#[cfg(test)]
 mod refusals;
 #[cfg(test)]
 mod removals;
