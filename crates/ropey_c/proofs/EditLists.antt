@@ -1,9 +1,11 @@
 -- The next edit of a list that C gives, and the next replacement that is read back.
-use Rattle.std.proofs.Common.{◌≡◌, ℕ, suc, ◌+◌, ◌-◌, ◌<◌, ◌≤◌, List, [], ◌∷◌, ◌++◌, length, get_or, take, drop, map, slice_set, refl, ap, sym, subst, ◌∙◌, arith, append_assoc, inl, inr}
+use Rattle.std.proofs.Common.{◌≡◌, ℕ, suc, ◌+◌, ◌-◌, ◌*◌, ◌<◌, ◌≤◌, List, [], ◌∷◌, ◌++◌, length, get_or, take, drop, map, slice_set, refl, ap, sym, subst, ◌∙◌, arith, append_assoc, inl, inr}
 use Rattle.std.specs.Str.{chars, encode_utf8_all}
 use Rattle.std.proofs.lemmas.List.{drop_more, drop_all, length-set, drop-set-lt, drop-drop, take_more_set, map-append, take_all}
 use Rattle.rope_changes.specs.Change as change
-use Rattle.rope_changes.specs.Change.{Change, before, after, ops_of, AreApart, IsNormal, replaced}
+use Rattle.rope_changes.specs.Ops.{len_before, len_after}
+use Rattle.rope_changes.specs.Change.{Change, before, after, ops_of, AreApart, AreNormal, IsNormal, replaced}
+use Rattle.rope_changes.proofs.Steps.{step_before, step_after}
 use Rattle.rope_changes.specs.Built.{built}
 use Rattle.rope_changes.specs.Listed.{Remaining, IsNext}
 use Rattle.rope_changes.specs.declared.EditRange.{EditRange}
@@ -56,6 +58,34 @@ module _ (c : Change) (edits : List GivenEdit) (k : ℕ) (d : GivenEdit) (below 
     status_here status refused is =
         let whole : IsEditsStatus c (next ∷ drop (k + 1) edits) status = inl (refused, is) in
         subst (λ es. IsEditsStatus c es status) (sym (drop_more edits k d below)) whole
+
+-- each replacement changes a character, and each but the first keeps one
+apart_few : (edits : List change.Edit) (rest : ℕ) → AreApart edits
+    → 3 * length edits ≤ len_before (ops_of edits rest) + len_after (ops_of edits rest)
+apart_few [] rest apart = omega arith
+apart_few (e ∷ edits) rest apart =
+    let tail = ops_of edits rest in
+    omega (
+      arith,
+      step_before e.kept e.text e.deleted tail,
+      step_after e.kept e.text e.deleted tail,
+      apart_few edits rest apart.2,
+      apart.0,
+      apart.1,
+    )
+
+pub normal_few : (edits : List change.Edit) (rest : ℕ) → AreNormal edits
+    → 3 * length edits ≤ len_before (ops_of edits rest) + len_after (ops_of edits rest) + 2
+normal_few [] rest normal = omega arith
+normal_few (e ∷ edits) rest normal =
+    let tail = ops_of edits rest in
+    omega (
+      arith,
+      step_before e.kept e.text e.deleted tail,
+      step_after e.kept e.text e.deleted tail,
+      apart_few edits rest normal.1,
+      normal.0,
+    )
 
 -- a replacement that a cursor gave
 abbrev pub shown_edit : EditRange → Listed

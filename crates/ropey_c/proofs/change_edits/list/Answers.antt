@@ -1,9 +1,22 @@
 -- Each turn passes one replacement.
-use Rattle.std.proofs.Common.{◌≡◌, suc, length, ap}
+use Rattle.std.proofs.Common.{◌≡◌, suc, length, ap, arith}
 use Rattle.ropey_c.specs.ChangeEdits.{shown_of}
-use Rattle.ropey_c.proofs.EditLists.{next_listed, next_written, next_passed, shown_edit}
+use Rattle.ropey_c.proofs.EditLists.{normal_few, next_listed, next_written, next_passed, shown_edit}
 use Rattle.ropey_c.proofs.change_edits.list.Goals.{then-count-edits, else-count-edits}
 use Rattle.ropey_c.proofs.change_edits.list.Goals as goal
+
+pub overflow_add-count : goal.overflow_add-count
+overflow_add-count c =
+    let now = c.args.changes.now in
+    let few = normal_few now.edits now.rest c.is_empty.ensures.normal in
+    omega (
+      arith,
+      few,
+      c.len_before.ensures,
+      c.len_after.ensures,
+      c.loop-edit.invariant.counted,
+      ap length c.in-Some.ensures.edits,
+    )
 
 pub loop-edit-preserved : goal.loop-edit-preserved
 loop-edit-preserved c =
