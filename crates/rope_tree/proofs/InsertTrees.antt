@@ -131,7 +131,7 @@ module _ (breaks : LineBreaks) (h : ℕ) (ts : List Tree) (k : ℕ) (child : Tre
           let right = leaves_right child.leaves (leaves_of (drop (k + 1) ts)) (leaves_right (leaves_of (take k ts)) (child.leaves ++ leaves_of (drop (k + 1) ts)) parted) in
           let after : IsSeam (joined ps) (joined (drop (k + 1) ts)) = rw middle_text (after_new to_right inside may) in
           let before : IsSeam (joined (take k ts)) (joined ps) = rw middle_text (before_new to_right inside outside may) in
-          let dense = subst (λ xs. AreDense xs) new_parts (new_stand.behind 492 (omega arith) a.leaves.dense) in
+          let dense = subst (λ xs. AreDense xs) new_parts (new_stand.after 492 (omega arith) a.leaves.dense) in
           let behind = dense_alone (last_bytes 492 (leaves_of (take k ts))) (leaves_of ps ++ leaves_of (drop (k + 1) ts)) (dense_right 492 (leaves_of (take k ts)) (leaves_of ps ++ leaves_of (drop (k + 1) ts)) dense) in
           let both = leaves-append (leaves_of ps) (leaves_of (drop (k + 1) ts)) new.leaves right after behind in
           let nonempty : 1 ≤ length (joined ps) = rw middle_text (omega (arith, length-append (take i (text child)) (s ++ drop i (text child)), length-append s (drop i (text child)))) in
