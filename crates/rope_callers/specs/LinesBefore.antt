@@ -1,4 +1,4 @@
--- The lines before one.
+-- The lines that precede a line.
 use Rattle.std.specs.Prelude.{ℕ, List, take, reverse}
 use Rattle.rope_text.specs.Content.{Content}
 use Rattle.rope_text.specs.LineParts.{lines_of}

@@ -1,4 +1,4 @@
-//! Edits as values: many carets, versions that lead back, bookmarks, and a language server's
+//! Edits as values: edits at many carets, undoable versions, bookmarks, and a language server's
 //! document.
 ghost use Rattle.std.specs.Prelude.{◌≡◌, ℕ, List, length, map, OnOk, OnErr, IfOk};
 ghost use Rattle.std.specs.List.Sorted.{IsPermutation};
@@ -16,8 +16,7 @@ use rope_position::Encoding;
 use ropey::Rope;
 use std::alloc::Global;
 
-/// Makes an edit at each of many carets, in order, by the indices of the text before: all of them,
-/// or none.
+/// Makes all of the edits, or none of them. Their ranges index the text before the first edit.
 pub fn edit_at_carets(
     alloc: Global,
     rope: &mut Rope,
@@ -33,7 +32,7 @@ pub fn edit_at_carets(
     Ok(change)
 }
 
-/// Makes a change and moves the bookmarks with the text.
+/// Applies a change and moves the bookmarks with the text.
 pub fn edit_with_bookmarks(
     rope: &mut Rope,
     bookmarks: &mut Marks,
@@ -59,7 +58,7 @@ pub fn undo(history: &mut History, rope: &mut Rope) -> Result<bool, ChangeError>
     Ok(history.undo(rope)?.is_some())
 }
 
-/// Makes the changes that an editor sends, in order: all of them, or none.
+/// Makes all changes that an editor sends, in order, or none of them.
 pub fn did_change(
     alloc: Global,
     document: &mut Rope,

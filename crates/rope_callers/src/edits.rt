@@ -1,4 +1,4 @@
-//! A rope that is made, and edited at a place that lies inside.
+//! A new rope, edited at an index that is always in bounds.
 ghost use Rattle.std.specs.Prelude.{◌≡◌, IfOk};
 ghost use Rattle.std.specs.Str.{chars};
 ghost use Rattle.rope_text.specs.Edit.{inserted};
@@ -6,7 +6,7 @@ ghost use Rattle.rope_text.specs.Edit.{inserted};
 use ropey::{Result, Rope};
 use std::alloc::Global;
 
-/// The text with a title before its first character.
+/// Makes a rope of a title followed by a text.
 pub fn titled(alloc: Global, text: &str, title: &str) -> Result<Rope>
     ensures { IfOk result (λ rope. rope.text ≡ inserted (chars text.now) 0 (chars title.now)) }
 {

@@ -1,4 +1,4 @@
-//! A file that is read in whatever encoding it has, and written as it was.
+//! A file that is read in any encoding and written back in the same one.
 ghost use Rattle.std.specs.Prelude.{IfSome, OnOk};
 ghost use Rattle.std.specs.Io.KnownBytes.{Appends};
 
@@ -8,12 +8,12 @@ use ropey::io::Sink;
 use std::alloc::Global;
 use std::io::Read;
 
-/// Why a file was not copied.
+/// The reason why a file was not copied.
 #[derive(Debug, Drop)]
 pub enum CopyFileError {
-    /// It was not read.
+    /// Reading failed.
     Read(ReadAnyError),
-    /// It was read, and not written, or a beginning of it alone.
+    /// Writing failed: a prefix of the file may have been written.
     Write(WriteAsError),
 }
 

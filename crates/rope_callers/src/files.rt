@@ -1,4 +1,4 @@
-//! A text read from any reader, and written to any writer.
+//! A text that is read from any reader and written to any writer.
 ghost use Rattle.std.specs.Prelude.{IfOk, IfSome};
 ghost use Rattle.std.specs.Io.KnownBytes.{Appends};
 
@@ -7,12 +7,12 @@ use ropey::io::{ReadError, Watched};
 use std::alloc::Global;
 use std::io::{self, Read, Write};
 
-/// Why a text was not copied.
+/// The reason why a text was not copied.
 #[derive(Debug, Drop)]
 pub enum CopyError {
-    /// It was not read.
+    /// Reading failed.
     Read(ReadError),
-    /// It was read, and not written, or a beginning of it alone.
+    /// Writing failed: a prefix of the text may have been written.
     Write(io::Error),
 }
 
@@ -28,7 +28,7 @@ impl From<io::Error> for CopyError {
     }
 }
 
-/// Reads a text to its end, writes it, and gives the writer back.
+/// Reads a text to its end, writes it, and returns the writer.
 pub fn copy_text<R: Read + Drop, W: Write + Drop>(
     alloc: Global,
     reader: R,

@@ -1,8 +1,8 @@
-//! A first edit, by calls that refuse an index that isn't inside.
+//! A first edit, by calls that return an error for an index out of bounds.
 use ropey::{Result, Rope};
 use std::alloc::Global;
 
-/// Three lines, of which the second one is put in another's place.
+/// Makes a text of three lines and replaces the second one.
 pub fn with_flowers(alloc: Global) -> Result<Rope> {
     let mut rope = Rope::from_str(alloc, "one\ntwo\nthree\n")?;
     let start = rope.try_line_to_char(1)?;

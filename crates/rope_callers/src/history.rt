@@ -6,7 +6,7 @@ ghost use Rattle.rope_text.specs.Edit.{inserted};
 
 use ropey::{Result, Rope};
 
-/// A text, and the texts that it was before, the newest last.
+/// A text and its earlier versions, the newest last.
 #[derive(Drop)]
 pub struct History {
     pub text: Rope,
@@ -14,7 +14,7 @@ pub struct History {
 }
 
 impl History {
-    /// Puts a text in, and keeps the old text.
+    /// Inserts a text and keeps the old version.
     pub fn insert(&mut self, char_idx: usize, text: &str) -> Result<()>
         requires { char_idx ≤ length self.old.text.text }
         ensures text { OnOk result
@@ -31,7 +31,7 @@ impl History {
         Ok(())
     }
 
-    /// Takes the newest of the old texts back; answers false where there is none.
+    /// Restores the newest old version; returns false if there is none.
     pub fn undo(&mut self) -> bool
         ensures undone { OnTrue result
             (self.old.past.items ≡ self.new.past.items ++ self.new.text ∷ []) }

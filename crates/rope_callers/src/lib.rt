@@ -1,6 +1,6 @@
-//! Examples: small callers of ropes, each but the first with a contract that says what it did. They
-//! are proved from public contracts alone. docs/CALLING.md shows them. `rope_tests` runs them, and
-//! the tests here run those of `changes`.
+//! Examples: small callers of ropes. Each but the first has a contract, and all are proved from
+//! public contracts alone. docs/CALLING.md shows them. `rope_tests` runs them, and the tests here
+//! run those of `changes`.
 #![tactic(auto)]
 
 pub mod changes;

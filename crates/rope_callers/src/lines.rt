@@ -1,4 +1,4 @@
-//! The lines of a rope, forward and back.
+//! The lines of a rope, forward and backward.
 ghost use Rattle.std.specs.Prelude.{◌≡◌, ◌≤◌, ◌<◌, ◌↔◌, length, All, Contains, IsTrue, IfNone, IfSome};
 ghost use Rattle.rope_text.specs.LineParts.{lines_of};
 ghost use Rattle.rope_text.specs.Lines.{line_count};
@@ -8,14 +8,14 @@ ghost use Rattle.rope_callers.specs.LinesBefore.{lines_before};
 
 use ropey::{Rope, RopeSlice};
 
-/// Whether no line has more than `most` characters.
+/// Returns whether every line has at most `most` characters.
 pub fn all_fit(rope: &Rope, most: usize) -> bool
     ensures { IsTrue result ↔ All (λ line. length line.text ≤ most) (lines_of (content rope.now)) }
 {
     rope.lines().all(|line| line.len_chars() <= most)
 }
 
-/// A line before the line `line_idx` with at least `least` characters, sought from there back.
+/// Searches backward from the line `line_idx` for a line with at least `least` characters.
 pub fn long_line_before(rope: &Rope, line_idx: usize, least: usize) -> Option<RopeSlice<'_>>
     requires { line_idx ≤ line_count rope.now.breaks rope.now.text }
     ensures none { IfNone result

@@ -1,4 +1,4 @@
-//! Places that are inside because of what the rope answered.
+//! Indices that are in bounds by the contract of the call that returned them.
 ghost use Rattle.std.specs.Prelude.{◌≡◌, ◌+◌, ◌≤◌, ◌<◌, ◌↔◌, length, IsTrue, IfOk, OnOk, OnErr};
 ghost use Rattle.std.specs.Bool.{OnTrue, OnFalse};
 ghost use Rattle.std.specs.Str.{chars};
@@ -9,7 +9,7 @@ ghost use Rattle.rope_text.specs.Text.{byte_len};
 
 use ropey::{Result, Rope};
 
-/// Puts a text behind the last character.
+/// Inserts a text after the last character.
 pub fn put_at_end(rope: &mut Rope, text: &str) -> Result<()>
     ensures ok { OnOk result
         (rope.new.text ≡ inserted rope.old.text (length rope.old.text) (chars text.now)) }
@@ -19,7 +19,7 @@ pub fn put_at_end(rope: &mut Rope, text: &str) -> Result<()>
     rope.insert(end, text)
 }
 
-/// Puts a text before the character that holds the byte `byte_idx`.
+/// Inserts a text before the character that contains the byte `byte_idx`.
 pub fn insert_at_byte(rope: &mut Rope, byte_idx: usize, text: &str) -> Result<()>
     requires { byte_idx ≤ byte_len rope.old.text }
     ensures ok { OnOk result (rope.new.text
@@ -30,7 +30,7 @@ pub fn insert_at_byte(rope: &mut Rope, byte_idx: usize, text: &str) -> Result<()
     rope.insert(char_idx, text)
 }
 
-/// The character at which the line starts on which the character `char_idx` lies.
+/// Returns the index of the first character of the line that contains the character `char_idx`.
 pub fn line_start_of(rope: &Rope, char_idx: usize) -> usize
     requires { char_idx ≤ length rope.now.text }
     ensures { result
@@ -40,7 +40,7 @@ pub fn line_start_of(rope: &Rope, char_idx: usize) -> usize
     rope.line_to_char(rope.char_to_line(char_idx))
 }
 
-/// Takes the line `line_idx` out, its break with it, and answers whether there is such a line.
+/// Removes the line `line_idx` with its line break. Returns whether there is such a line.
 pub fn remove_line(rope: &mut Rope, line_idx: usize) -> Result<bool>
     ensures found { IfOk result
         (λ found. IsTrue found ↔ (line_idx < line_count rope.old.breaks rope.old.text)) }

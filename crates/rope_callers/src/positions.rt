@@ -9,7 +9,7 @@ ghost use Rattle.rope_position.specs.Positions.{position_at};
 use rope_position::{Position, Positions};
 use ropey::{Result, Rope};
 
-/// The line and the column of the byte at which a compiler found something.
+/// Returns the line and column of a byte, as a compiler's message names it.
 pub fn position_of_byte(rope: &Rope, byte_idx: usize) -> Result<Position>
     ensures { IfOk result (λ place. place
         ≡ position_at rope.now.breaks rope.now.text (byte_to_char rope.now.text byte_idx)) }
@@ -18,7 +18,7 @@ pub fn position_of_byte(rope: &Rope, byte_idx: usize) -> Result<Position>
     rope.try_char_to_position(char_idx)
 }
 
-/// Puts a text in at the line and the column that an editor names, or answers why not.
+/// Inserts a text at an editor's line and column, or returns why it can't.
 pub fn insert_at_position(rope: &mut Rope, place: Position, text: &str) -> Result<()>
     ensures ok { OnOk result (rope.new.text ≡ inserted rope.old.text
         (position_to_char rope.old.breaks rope.old.text place.line place.column) (chars text.now)) }

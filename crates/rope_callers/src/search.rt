@@ -1,4 +1,4 @@
-//! A search through a cursor, and an edit at the place that it answers.
+//! A search through a cursor, and an edit at the index found.
 ghost use Rattle.std.specs.Prelude.{◌≡◌, IfOk, MatchOption, OnErr};
 ghost use Rattle.std.specs.Str.{chars};
 ghost use Rattle.rope_text.specs.Edit.{inserted};
@@ -6,16 +6,16 @@ ghost use Rattle.rope_callers.specs.Search.{IsFirstPlace};
 
 use ropey::{Result, Rope};
 
-/// The first place of a character, counted in characters from 0; none where the text has none.
+/// Returns the index of the first character equal to `c`, or `None` if the text has none.
 pub fn find_char(rope: &Rope, c: char) -> Option<usize>
     ensures { IsFirstPlace c rope.now.text result }
 {
-    // the characters are as many as a `usize` counts, so `position` can count them
+    // the number of characters fits a `usize`, so `position` can't overflow
     let _ = rope.len_chars();
     rope.chars().position(|x| x == c)
 }
 
-/// Puts a text before the first such character, if there is one, and answers where.
+/// Inserts a text before the first character equal to `c`, if any, and returns its index.
 pub fn insert_before_char(rope: &mut Rope, c: char, text: &str) -> Result<Option<usize>>
     ensures place { IfOk result (IsFirstPlace c rope.old.text) }
     ensures edited { IfOk result (λ found. MatchOption found (rope.new ≡ rope.old)

@@ -1,4 +1,4 @@
-//! The callers of changes, against texts by hand.
+//! The callers in `changes`, on small texts.
 use crate::changes::{did_change, edit_at_carets, edit_with_bookmarks, undo};
 use rope_changes::{ChangeSet, Edit, Side};
 use rope_documents::{ContentChange, Range};
