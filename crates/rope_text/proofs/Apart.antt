@@ -1,4 +1,4 @@
--- A cut of the bytes lies between no CR and LF of the characters.
+-- A cut of the bytes is never between a CR and LF of the characters.
 use Rattle.std.proofs.Common.{◌≡◌, ℕ, ◌+◌, ◌-◌, ◌<◌, Bool, true, false, ◌&&◌, eqb, List, [], ◌∷◌, ◌++◌, length, take, drop, get_or, refl, sym, ap, ap₂, subst, ◌∙◌, arith}
 use Rattle.std.proofs.lemmas.Bool.Decides.{nat_tests}
 use Rattle.std.proofs.lemmas.List.{length-append, append-nil, get_or-take, get_or-drop, get_or-append_right, length-take-le, take_at, drop_at}
@@ -55,7 +55,7 @@ apart_at_cut bs r u v pos inside cut =
     ap (λ j. get_or bs j 0) (let z : r ≡ r + 0 = omega arith in z) ∙ sym (get_or-drop r bs 0 0) ∙ starts_with (drop r bs) v f in
     no_cut_in_pair bs r pos inside cr lf cut)
 
--- the same of two texts between which their bytes may be cut
+-- two texts between which their bytes may be cut split no CR LF
 pub apart_at_seam : (xs ys : List ℕ) → IsUtf8 xs → IsUtf8 ys → 0 < length xs → 0 < length ys → is_cut (xs ++ ys) (length xs) ≡ true → parts_crlf (chars xs) (chars ys) ≡ false
 apart_at_seam xs ys u v some_x some_y cut =
     let front = take_at xs ys (length xs) refl in

@@ -45,7 +45,7 @@ by_byte breaks bytes from to is_found next inside chars pairs passed found =
       found = λ e. record { before = omega (arith, next); begins = (found e).0; all = (found e).1 };
     }
 
--- what a block counts from a place of it on
+-- the marks of a block from one of its bytes on
 pub in_block : (mark : Mark) (bytes : List ℕ) (at len place mask n here end : ℕ) → IsBlockMask mark bytes at mask → here ≡ at + place → end ≡ at + len → place ≤ len → len ≤ 32
     → ones_below mask len ≡ ones_below mask place + n → marks mark (drop here bytes) ≡ n + marks mark (drop end bytes)
 in_block mark bytes at len place mask n here end block here_is end_is within few between =

@@ -1,4 +1,4 @@
--- Set bits of a number, those below a place and those from there on.
+-- Set bits of a number, below a bit and from it on.
 use Rattle.std.proofs.Common.{◌≡◌, ℕ, zero, suc, inl, inr, ◌+◌, ◌-◌, ◌*◌, ◌/◌, ◌%◌, ◌^◌, ◌≤◌, ◌<◌, Bool, true, false, cond, List, [], ◌∷◌, take, count_ones, refl, sym, ap, ap₂, ◌∙◌, arith, add-one}
 use Rattle.std.proofs.Math.Nat.{zero-mul, mod-one, mod-lt, mod-eq_of_lt, div-one, zero-mod, div-div-eq-div-mul, pow-succ'}
 use Rattle.std.proofs.Math.Pow.{pow_mono, mod-mod-pow}
@@ -63,8 +63,9 @@ mask_front (m ∷ ms) (suc n) =
     let odd : mask_l (m ∷ ms) % 2 ≡ cond m 1 0 = omega (arith, bit) in
     omega (arith, low_bits (mask_l (m ∷ ms)) n, ap (λ h. h % 2 ^ n) half, odd, mask_front ms n)
 
--- The mark n of a mask whose marks say where a test holds: what is counted from its place on, and that the test holds there.
--- The counts are those from the block on, from the place on, and from the next place on.
+-- The mark n of a mask whose marks say where a test holds: the count from its byte on, and that the
+-- test holds there. The counts are those from the block on, from the byte on, and from the next
+-- byte on.
 pub found_mark : (mask n r here there next : ℕ) (t : Bool) → here ≡ ones_below mask r + there → here ≡ ones_below mask (r + 1) + next → there ≡ cond t 1 0 + next
     → marks_below mask 0 r ≤ n → n < marks_below mask 0 (r + 1) → (here ≡ n + there) × (t ≡ true)
 found_mark mask n r here there next true front more one before after = (omega (arith, front, more, one, before, after, no_marks r, no_marks (r + 1)), refl)
@@ -111,7 +112,7 @@ no_first (suc w) m none =
     let rest = no_first w (m / 2) (omega (arith, none, ones_low m w)) in
     ap (λ d. under d (count_trailing_zeros w (m / 2))) low ∙ ap suc rest
 
--- it lies among the first n, where one of these is set
+-- the lowest set digit is among the first n, if one of these is set
 pub first_within : (m k t n : ℕ) → IsFirst m k t → 0 < ones_below m n → t < n
 first_within m k t n first some =
     let past : n ≤ t → ⊥ = λ above. omega (arith, ones_more m n (t - n) t (omega (arith, above)), first.before, some) in
@@ -149,7 +150,7 @@ last_one m n j from to =
       with_it = sym all;
     }
 
--- the mark that has so many behind it among the lowest n
+-- the mark with `left` marks after it among the lowest n
 pub mark_back : (m n left r : ℕ) → left < ones_below m n → marks_below m 0 r ≤ ones_below m n - 1 - left → ones_below m n - 1 - left < marks_below m 0 (r + 1)
     → (r < n) × (ones_below m n ≡ ones_below m r + (left + 1)) × (ones_below m n ≡ ones_below m (r + 1) + left)
 mark_back m n left r some before after =

@@ -1,4 +1,4 @@
--- The breaks that begin in a part of the bytes, place by place.
+-- The breaks that begin in a range of the bytes, byte by byte.
 use Rattle.std.proofs.Common.{◌≡◌, ℕ, zero, suc, ◌+◌, ◌-◌, ◌<◌, ◌≤◌, Bool, true, false, cond, List, [], ◌∷◌, length, take, drop, get_or, count_by, refl, sym, ap, ◌∙◌, arith, take-append-drop, not, eqb, leb, bit_and, ◌&&◌, ◌||◌}
 use Rattle.std.specs.List.{range_with_len}
 use Rattle.std.proofs.lemmas.Bool.{both_ways}
@@ -60,7 +60,7 @@ count_by-later p xs i j l =
 pub count_by-front : (p : ℕ → Bool) (xs : List ℕ) (n : ℕ) → count_by p xs ≡ count_by p (take n xs) + count_by p (drop n xs)
 count_by-front p xs n = ap (count_by p) (sym (take-append-drop n xs)) ∙ sum_by-append (λ x. cond (p x) 1 0) (take n xs) (drop n xs)
 
--- what is counted from the place p on and before the end n
+-- the count from the byte p on and before the end n
 pub count_by-behind : (f : ℕ → Bool) (bs text : List ℕ) (p counted n : ℕ) → bs ≡ text → n ≡ length bs → count_by f (drop p bs) ≡ counted + count_by f (drop n bs) → counted ≡ count_by f (drop p text)
 count_by-behind f bs text p counted n same size more =
     let none : count_by f (drop n bs) ≡ 0 = ap (count_by f) (drop_of_length-le bs (omega (arith, size))) in
@@ -80,7 +80,7 @@ count_by-places p xs i (suc n) h =
       ap (λ j. count_by p (drop j xs)) (let e : i + suc n ≡ (i + 1) + n = omega arith in e),
     )
 
--- the marks from a place on, by those of the places of a block, and by the one that may begin there
+-- the marks from a byte on: those in a block, and those from its end on
 pub marks-block : (m : Mark) (xs : List ℕ) (i n : ℕ) → i + n ≤ length xs → marks m (drop i xs) ≡ count_by (mark_at m xs) (range_with_len i n) + marks m (drop (i + n) xs)
 marks-block Char xs i n h = count_by-places begins_char xs i n h
 marks-block Pair xs i n h = count_by-places begins_pair xs i n h
@@ -120,7 +120,8 @@ multibyte_off false false false false e f h = refl
 multibyte_off false false true d e f h = absurd (both_ways true h refl)
 multibyte_off false false false true e f h = absurd (both_ways true h refl)
 
--- where no byte behind a block is needed, none is read, and where no NEL, LS or PS begins, the ASCII marks are all
+-- if no byte after a block is needed, none is read, and if no NEL, LS or PS begins, the ASCII marks
+-- are all marks
 pub ascii_alone : (m : Mark) (x y z : ℕ) → ahead m ≡ 0 → ascii_mark m x y ≡ ascii_mark m x z
 ascii_alone Char x y z h = refl
 ascii_alone Pair x y z h = refl
@@ -143,7 +144,7 @@ ascii_all (Break Unicode) xs ks none =
     multibyte_off (is_low k) (is_lone_cr k) (at k 194) (at k 226) (at (k + 1) 133) (at (k + 1) 128 && (at (k + 2) 168 || at (k + 2) 169))
     (no_multibyte_begin (get_or xs k 0) off)) (none refl)
 
--- what the empty text counts
+-- the counts of the empty text
 pub record IsNone (info : TextInfo) : Type 0 where
   pub bytes : info.bytes ≡ 0
   pub chars : info.chars ≡ 0

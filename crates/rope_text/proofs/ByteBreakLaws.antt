@@ -81,7 +81,7 @@ break_count-chars breaks bs u = sym (byte_break_count-encodes breaks (chars bs) 
 pub byte_break_count-past : (breaks : LineBreaks) (bs : List ℕ) (n : ℕ) → length bs ≤ n → byte_break_count breaks (drop n bs) ≡ 0
 byte_break_count-past breaks bs n h = ap (byte_break_count breaks) (drop_all n bs h)
 
--- the first bytes tell whether the first character ends a break, and how many bytes it has
+-- the first bytes decide whether the first character ends a break, and its width
 pub break_first : (breaks : LineBreaks) (c : ℕ) (bs rest : List ℕ) (lf : Bool) → Encoded c bs → eqb (get_or rest 0 0) 10 ≡ lf →
     break_at breaks (get_or (bs ++ rest) 0 0) (get_or (bs ++ rest) 1 0) (get_or (bs ++ rest) 2 0) ≡ (is_break_char breaks c && not (eqb c 13 && lf))
 break_first breaks c bs rest lf (one h) e = lead_one breaks c rest (get_or rest 1 0) lf h e

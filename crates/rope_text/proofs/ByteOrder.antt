@@ -47,7 +47,7 @@ pub decided : (o : Ordering) (x y r s : List ℕ) (n : ℕ) → n ≤ length x �
 decided o x y r s n h k e d =
     sym (split x y r s n h k ∙ ap (λ q. ordering_then q (slice_cmp nat_cmp (drop n x ++ r) (drop n y ++ s))) (sym e) ∙ unequal o _ d)
 
--- fronts of one length that are equal leave it to what follows
+-- if prefixes of one length are equal, the rest decides
 pub left_open : (o : Ordering) (x y r s : List ℕ) (n : ℕ) → n ≤ length x → n ≤ length y → o ≡ slice_cmp nat_cmp (take n x) (take n y) → not (ordering_index o == 1) ≡ false → slice_cmp nat_cmp (drop n x ++ r) (drop n y ++ s) ≡ slice_cmp nat_cmp (x ++ r) (y ++ s)
 left_open o x y r s n h k e d =
     sym (split x y r s n h k ∙ ap (λ q. ordering_then q (slice_cmp nat_cmp (drop n x ++ r) (drop n y ++ s))) (sym e) ∙ equal o _ d)

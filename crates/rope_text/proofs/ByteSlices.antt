@@ -70,7 +70,7 @@ pub end_is_boundary : (text : List ℕ) → is_char_boundary text (byte_len text
 end_is_boundary text =
     is_boundary text (byte_len text) (ap (λ i. byte_len (take i text)) (byte_to_char-byte_len text) ∙ ap byte_len (take_all (length text) text (omega arith)))
 
--- a range whose bounds are in order and within the text, of which one lies inside a character
+-- a range whose bounds are ordered and within the text, one of them inside a character
 pub split_char : (text : List ℕ) (start end : Option ℕ) → invalid_range start end ≡ None → range_start start ≤ byte_len text → range_end end (byte_len text) ≤ byte_len text
     → (not (is_char_boundary text (range_start start)) || not (is_char_boundary text (range_end end (byte_len text)))) ≡ true
     → byte_range_error text start end ≡ Some (ByteRangeNotCharBoundary start end)
@@ -97,7 +97,7 @@ byte_to_char-mono text m n l =
     let fits = front_fits byte_len IsMeasure-byte_len text m in
     front_greatest byte_len IsMeasure-byte_len text n (byte_to_char text m) (front-le-length byte_len IsMeasure-byte_len text m) (omega arith)
 
--- a text with its first byte at a place: what it holds, and where its characters lie
+-- a slice of a text from the byte a on, and the bytes of its characters
 module _ (text : List ℕ) (p q a : ℕ) (l : p ≤ q) (within : q ≤ length text) (starts : byte_len (take p text) ≡ a) where
   back_of : drop p text ≡ slice_range text p q ++ drop (q - p) (drop p text)
   back_of = sym (take-append-drop (q - p) (drop p text))

@@ -1,4 +1,5 @@
--- The conversions in a text of many parts: each place lies in one part. A part is a chunk, or the text of a subtree.
+-- The conversions in a text of many parts: each index is in one part. A part is a chunk, or the
+-- text of a subtree.
 use Rattle.std.proofs.Common.{◌≡◌, ℕ, zero, suc, ◌+◌, ◌-◌, ◌<◌, ◌≤◌, Bool, true, false, ◌&&◌, List, [], ◌∷◌, ◌++◌, length, take, drop, get_or, map, refl, ap, sym, ◌∙◌, arith, append_assoc, All, inl, inr}
 use Rattle.std.specs.List.{concat, flat_map, slice_range}
 use Rattle.std.proofs.lemmas.List.{append-nil, take_at, drop_at, take_all, length-drop}
@@ -124,7 +125,7 @@ KeepsCrlf-groups (g ∷ groups) full kept =
     All-right [] q full = full
     All-right (x ∷ p) q full = All-right p q (All-tail (λ part. 0 < length part) x (p ++ q) full)
 
--- a slice keeps the pairs that lie in it
+-- a slice keeps the CR LF pairs inside it
 ends_in_cr-drop : (a : ℕ) (xs : List ℕ) → a < length xs → ends_in_cr (drop a xs) ≡ ends_in_cr xs
 ends_in_cr-drop zero xs l = refl
 ends_in_cr-drop (suc a) [] l = absurd (omega arith)

@@ -1,4 +1,4 @@
--- Where a text has cuts: a cut is a boundary of characters, and each four places in a row have one.
+-- The cuts of a text: a cut is a character boundary, and each four consecutive positions have one.
 use Rattle.std.proofs.Common.{◌≡◌, ℕ, ◌+◌, ◌-◌, ◌<◌, ◌≤◌, true, List, [], ◌∷◌, ◌++◌, length, get_or, refl, ap, ◌∙◌, arith, ⊎_elim, IsTrue, subst}
 use Rattle.std.proofs.lemmas.Bool.{cases_lt, cases_eq}
 use Rattle.std.proofs.lemmas.Bool.Decides.{nat_tests}

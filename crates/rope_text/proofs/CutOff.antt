@@ -1,4 +1,4 @@
--- A text cut in two at a place where its bytes may be cut.
+-- A text cut in two at a position where its bytes may be cut.
 use Rattle.std.proofs.Common.{◌≡◌, ℕ, ◌+◌, ◌<◌, true, false, List, [], ◌∷◌, ◌++◌, length, take, drop, refl, ap, sym, ◌∙◌, arith, take-append-drop, inl, inr}
 use Rattle.std.proofs.lemmas.Bool.{cases_lt}
 use Rattle.std.specs.Str.{chars, IsUtf8, IsCharBoundary}
@@ -14,7 +14,7 @@ use Rattle.rope_text.specs.Cutting.{parts_crlf}
 use Rattle.rope_text.proofs.Apart.{apart_at_cut}
 use Rattle.rope_text.proofs.CutFacts.{boundary_of_cut}
 
--- its parts, by characters
+-- the two halves, by characters
 pub record IsCutOff (bs : List ℕ) (r : ℕ) : Type 0 where
   pub front : IsUtf8 (take r bs)
   pub back : IsUtf8 (drop r bs)

@@ -15,7 +15,7 @@ pub concat-append : (p q : List (List ℕ)) → concat (p ++ q) ≡ concat p ++ 
 concat-append [] q = refl
 concat-append (x ∷ p) q = ap (λ t. x ++ t) (concat-append p q) ∙ sym (append_assoc x (concat p) (concat q))
 
--- what joined texts end in and begin with
+-- the last and the first character of joined texts
 pub ends_in_cr-append : (s : List ℕ) (c : ℕ) (t : List ℕ) → ends_in_cr (s ++ c ∷ t) ≡ ends_in_cr (c ∷ t)
 ends_in_cr-append [] c t = refl
 ends_in_cr-append (a ∷ []) c t = refl

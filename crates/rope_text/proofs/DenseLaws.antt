@@ -1,4 +1,4 @@
--- Chunks that stand side by side, of which none and the next are both short.
+-- Adjacent chunks of which no two are both short.
 use Rattle.std.proofs.Common.{◌≡◌, ℕ, ◌+◌, ◌*◌, ◌/◌, ◌≤◌, List, [], ◌∷◌, ◌++◌, length, min, refl, arith, All}
 use Rattle.std.specs.List.{concat}
 use Rattle.std.proofs.lemmas.List.Elements.{All-head, All-tail}
@@ -39,17 +39,17 @@ pub dense_more : (m n : ℕ) (xs : List (List ℕ)) → m ≤ n → IsDenseBehin
 dense_more m n [] more a = tt
 dense_more m n (x ∷ xs) more a = (omega (arith, a.0), a.1)
 
--- behind 492 bytes anything may stand
+-- after 492 bytes any chunk is allowed
 pub dense_alone : (n : ℕ) (xs : List (List ℕ)) → IsDenseBehind n xs → AreDense xs
 dense_alone n [] a = tt
 dense_alone n (x ∷ xs) a = (omega arith, a.1)
 
--- behind 491 bytes any chunk may stand that is not empty
+-- after 491 bytes any chunk that is not empty is allowed
 pub dense_behind_half : (n : ℕ) (xs : List (List ℕ)) → 491 ≤ n → All (λ x. 1 ≤ byte_len x) xs → AreDense xs → IsDenseBehind n xs
 dense_behind_half n [] half each a = tt
 dense_behind_half n (x ∷ xs) half each a = (omega (arith, All-head (λ x. 1 ≤ byte_len x) x xs each), a.1)
 
--- and behind so many bytes, what may stand behind the fewer of two numbers
+-- after k bytes any chunk that is allowed after the smaller of two numbers, if that is at most k
 pub dense_behind_fewer : (m n k : ℕ) (xs : List (List ℕ)) → min m n ≤ k → IsDenseBehind m xs → IsDenseBehind n xs → IsDenseBehind k xs
 dense_behind_fewer m n k [] least a b = tt
 dense_behind_fewer m n k (x ∷ xs) least a b = (omega (arith, a.0, b.0), a.1)

@@ -1,4 +1,4 @@
--- The first byte of a text, and the scalar values of its parts.
+-- The first byte of a text, and the scalar values of its slices.
 use Rattle.std.proofs.Common.{◌≡◌, ℕ, true, eqb, List, [], ◌∷◌, ◌++◌, get_or, refl, arith}
 use Rattle.std.proofs.lemmas.Bool.Decides.{nat_tests}
 use Rattle.std.proofs.lemmas.Bool.{and_parts}

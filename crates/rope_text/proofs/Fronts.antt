@@ -1,4 +1,4 @@
--- A place in the bytes of a text where a character begins, as the characters before it.
+-- A character boundary in the bytes of a text, as the characters before it.
 use Rattle.std.proofs.Common.{◌≡◌, ℕ, suc, ◌+◌, ◌<◌, ◌≤◌, Bool, true, cond, List, ◌∷◌, ◌++◌, length, take, drop, get_or, count_by, refl, sym, ap, ◌∙◌, arith, take-append-drop, add-one, inl, inr, subst}
 use Rattle.std.proofs.lemmas.Bool.{cases_lt}
 use Rattle.std.proofs.lemmas.Bool.Decides.{nat_tests}
@@ -42,7 +42,7 @@ front_at bs p u b =
 pub boundary_of_begin : (bs : List ℕ) (p : ℕ) → p ≤ length bs → (p < length bs → begins_char (get_or bs p 0) ≡ true) → IsCharBoundary bs p
 boundary_of_begin bs p within begins = (within, λ l big. let b = begins l in grind (arith, nat_tests))
 
--- what the bytes before the k-th character count, and those after it
+-- the counts of the bytes before the k-th character, and of the rest
 pub begins_before : (bs : List ℕ) (k : ℕ) → IsUtf8 bs → k ≤ length (chars bs) → count_by begins_char (take (byte_len (take k (chars bs))) bs) ≡ k
 begins_before bs k u few = ap (count_by begins_char) (take-bytes bs k u) ∙ length-from_bytes (take k (chars bs)) ∙ length-take-le k (chars bs) few
 
@@ -102,7 +102,7 @@ byte_place bs b p u at fits last =
     elim (cases_lt b next) [ inl over ↦ over | inr under ↦ absurd (last next (omega (arith, f.2)) under (byte_len_boundary bs (suc f.0) u)) ]) in
     ap (λ j. byte_len (take j (chars bs))) same ∙ f.2
 
--- a place between characters begins one, if it isn't the end
+-- a boundary begins a character, if it isn't the end
 begins_at : (bs : List ℕ) (p : ℕ) → IsCharBoundary bs p → p < length bs → begins_char (get_or bs p 0) ≡ true
 begins_at bs p at l = let big = at.1 l in grind (arith, nat_tests)
 
@@ -142,7 +142,7 @@ pub held_begins : (bs text : List ℕ) (b : ℕ) → IsUtf8 text → bs ≡ text
 held_begins bs text b u same =
     subst (λ xs. b < length xs → count_by begins_char xs ≡ (byte_to_char (chars text) b + 1) + count_by begins_char (drop (b + 1) xs)) (sym same) (held_inside text b u)
 
--- the end is behind all characters
+-- the end is after all characters
 pub held_past : (bs text : List ℕ) (b : ℕ) → IsUtf8 text → bs ≡ text → length bs ≤ b → byte_to_char (chars text) b ≡ length (chars text)
 held_past bs text b u same past = byte_to_char-past (chars text) b (omega (arith, byte_len-chars text u, ap length same))
 
@@ -150,7 +150,7 @@ units_later : (bs : List ℕ) (i j : ℕ) → i ≤ j → unit_count (drop j bs)
 units_later bs i j l =
     omega (arith, count_by-later begins_char bs i j l, count_by-later begins_pair bs i j l)
 
--- a mark that was searched for behind blocks that were passed on the way to it
+-- a mark that was found after blocks before it were skipped
 pub passed_mark : (mark : Mark) (bs : List ℕ) (n at left p : ℕ) → IsPassed mark bs n at left → IsPlaceOf mark bs at left p → IsPlaceOf mark bs 0 n p
 passed_mark mark bs n at left p passed place = record {
   not_before = omega arith;
@@ -159,7 +159,7 @@ passed_mark mark bs n at left p passed place = record {
   end = λ e. omega (arith, passed.counted, place.end e);
 }
 
--- the same of a character, at which the text can be cut
+-- a character that was found after blocks before it were skipped; its byte is a boundary
 pub passed_place : (bs text : List ℕ) (n at left p : ℕ) → IsUtf8 bs → bs ≡ text → IsPassed Char bs n at left → IsPlaceOf Char bs at left p
     → (p ≡ byte_len (take n (chars text))) × IsCharBoundary text p
 passed_place bs text n at left p u same passed behind =
@@ -168,7 +168,7 @@ passed_place bs text n at left p u same passed behind =
       subst (λ xs. IsCharBoundary xs p) same (boundary_of_begin bs p place.bound (λ l. (place.inside l).1)),
     )
 
--- the characters before the one that holds code unit n
+-- the characters before the one that contains the code unit n
 pub unit_place : (bs : List ℕ) (n p : ℕ) → IsUtf8 bs → p ≤ length bs → (p < length bs → begins_char (get_or bs p 0) ≡ true)
     → unit_count bs ≤ n + unit_count (drop p bs) → (p < length bs → n + unit_count (drop (p + 1) bs) < unit_count bs)
     → count_by begins_char (take p bs) ≡ utf16_to_char (chars bs) n
@@ -204,7 +204,7 @@ break_begins Lf x y z e = grind (arith, nat_tests)
 break_begins CrLf x y z e = grind (arith, nat_tests)
 break_begins Unicode x y z e = grind (arith, nat_tests)
 
--- the first character of what follows the place p
+-- the first character after the byte p
 pub first_after : (breaks : LineBreaks) (bs : List ℕ) (p k : ℕ) → IsUtf8 bs → byte_len (take k (chars bs)) ≡ p → k < length (chars bs)
     → (break_at breaks (get_or bs p 0) (get_or bs (p + 1) 0) (get_or bs (p + 2) 0) ≡ ends_break breaks (get_or (chars bs) k 0) (drop (suc k) (chars bs)))
     × (char_width (get_or bs p 0) ≡ length (encode_utf8 (get_or (chars bs) k 0)))

@@ -40,7 +40,7 @@ part_of_sum total front rest sum = record {
   breaks = omega (arith, ap (λ i. i.break_count) sum);
 }
 
--- and so is what follows it
+-- the rest is a part of the total
 pub rest_of_sum : (total front rest : TextInfo) → total ≡ info_sum front rest → HasPart total rest
 rest_of_sum total front rest sum = record {
   bytes = omega (arith, ap (λ i. i.bytes) sum);
@@ -55,7 +55,7 @@ unfolding break_ends
 break_count-le-length breaks text =
     omega (arith, length-filter (is_break_end breaks text) (range_with_len 1 (length text)), count_by-le-length (is_break_end breaks text) (range_with_len 1 (length text)), length-range_with_len 1 (length text))
 
--- four counts that are the same
+-- counts that are equal one by one
 pub same_info : (x y : TextInfo) → x.bytes ≡ y.bytes → x.chars ≡ y.chars → x.utf16_surrogates ≡ y.utf16_surrogates → x.break_count ≡ y.break_count → x ≡ y
 same_info x y bytes chars pairs count =
     let first : x ≡ record { bytes = y.bytes; chars = x.chars; utf16_surrogates = x.utf16_surrogates; break_count = x.break_count } =

@@ -1,4 +1,4 @@
--- Sums in lanes, and the counts of a part of the bytes by those of its parts.
+-- Sums in lanes, and the counts of a range of the bytes by those of its halves.
 use Rattle.std.proofs.Common.{◌≡◌, ℕ, zero, suc, ◌+◌, ◌-◌, ◌^◌, ◌/◌, ◌%◌, ◌<◌, ◌≤◌, Bool, true, false, cond, ◌&&◌, ◌||◌, eqb, leb, List, [], ◌∷◌, map, length, take, drop, get_or, replicate, count_by, bit_and, count_ones, refl, sym, ap, ◌∙◌, arith, inl, inr}
 use Rattle.std.specs.List.{range_with_len}
 use Rattle.std.proofs.lemmas.Bool.{both_ways, cases_lt}
@@ -23,7 +23,7 @@ use Rattle.rope_text.proofs.Blocks.{byte_break_count-block, count_by-places}
 use Rattle.rope_text.proofs.UnicodeLanes.{no_multibyte_begin}
 use Rattle.std.proofs.lemmas.Nat.{zero_from_ones}
 
--- ---- places
+-- ---- indices
 
 pub places_are : (i n : ℕ) → range_with_len i n ≡ places i n
 unfolding places
@@ -44,13 +44,13 @@ range_split q i (suc m) n =
       ap (λ j. count_by q (range_with_len j n)) (let e : (i + 1) + m ≡ i + suc m = omega arith in e),
     )
 
--- where the test holds at none of the places, it holds at none of the first
+-- if the test holds at none of the indices, it holds at none of the first
 pub none_in_front : (q : ℕ → Bool) (i n m : ℕ) → n ≤ m → count_by q (range_with_len i m) ≡ 0 → count_by q (range_with_len i n) ≡ 0
 none_in_front q i n m within none =
     let rest : ℕ = m - n in
     omega (arith, ap (λ k. count_by q (range_with_len i k)) (let all : m ≡ n + rest = omega (arith, within) in all), range_split q i n rest, none)
 
--- the places from i on as those of two parts
+-- the indices from i on as those of two ranges
 pub places_split : (q : ℕ → Bool) (i m n j k : ℕ) → j ≡ i + m → k ≡ m + n → count_by q (places i k) ≡ count_by q (places i m) + count_by q (places j n)
 unfolding places
 places_split q i m n j k next all = ap (λ l. count_by q (range_with_len i l)) all ∙ range_split q i m n ∙ ap (λ l. count_by q (range_with_len i m) + count_by q (range_with_len l n)) (sym next)
@@ -206,7 +206,7 @@ four_more q i most total {xs} h = same_sum _ (most + 4) _ (total + count_by q (p
 
 -- ---- marks one by one
 
--- the lowest mark, and those behind it
+-- the lowest mark, and those after it
 pub record IsLowest (mask k : ℕ) (b : ℕ → Bool) (i n : ℕ) : Type 0 where
   pub inside : k < n
   pub none : count_by b (places i k) ≡ 0
@@ -232,7 +232,7 @@ split_take q i (suc a) (suc n) m h =
       ap (λ j. count_by q (take m (range_with_len (i + suc a) j))) (let e : suc n - suc a ≡ n - a = omega arith in e),
     )
 
--- so many of the first places, where there are more
+-- a number of the first indices, out of more
 take_split : (q : ℕ → Bool) (i n k m : ℕ) → k ≤ n → count_by q (take (k + m) (places i n)) ≡ count_by q (places i k) + count_by q (take m (places (i + k) (n - k)))
 unfolding places
 take_split q i n k m h = split_take q i k n m h
@@ -275,7 +275,7 @@ one_place : (q : ℕ → Bool) (i : ℕ) → count_by q (places i 1) ≡ cond (q
 unfolding places
 one_place q i = omega arith
 
--- the breaks behind the lowest mark, and the one that it may be
+-- the breaks after the lowest mark, and the one that it may be
 pub multibyte_step : (xs : List ℕ) (mask k i n : ℕ) → IsLowest mask k (multibyte_begin xs) i n
     → multibyte_of Unicode xs i n ≡ cond (multibyte_here Unicode xs (i + k)) 1 0 + multibyte_of Unicode xs (i + (k + 1)) (n - (k + 1))
 multibyte_step xs mask k i n h =

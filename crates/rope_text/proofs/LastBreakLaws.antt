@@ -21,7 +21,7 @@ use Rattle.rope_text.proofs.Measures.{size_lt, IsMeasure-byte_len}
 use Rattle.rope_text.proofs.TextParts.{take-bytes, drop-bytes, all_scalars-take, all_scalars-drop, byte_len_boundary, some_cr}
 use Rattle.rope_text.proofs.Walks.{byte_len-chars}
 
--- the last place before the end where a character begins has all characters but one before it
+-- the last boundary before the end has all characters but one before it
 pub last_place : (bs : List ℕ) (p : ℕ) → IsUtf8 bs → 0 < length bs → IsCharBoundary bs p → p ≤ length bs - 1
     → ((k : ℕ) → p < k → k ≤ length bs - 1 → IsCharBoundary bs k → ⊥) → (k : ℕ) × (length (chars bs) ≡ suc k) × (byte_len (take k (chars bs)) ≡ p)
 last_place bs p u some at before last =
@@ -78,7 +78,7 @@ last_cr bs p k u place some within =
 never_both : (x : ℕ) → (eqb x 13 && eqb x 10) ≡ false
 never_both x = grind (arith, nat_tests)
 
--- whether CR LF ends the text, by its bytes about the place of its last character
+-- whether the text ends with CR LF, by the bytes at its last character
 pub last_crlf : (bs : List ℕ) (p k : ℕ) → IsUtf8 bs → p ≤ length bs → length (chars bs) ≡ suc k → byte_len (take k (chars bs)) ≡ p
     → (eqb (get_or bs (p - 1) 0) 13 && eqb (get_or bs p 0) 10) ≡ ends_in_crlf (chars bs)
 last_crlf bs p k u within long place =

@@ -1,4 +1,4 @@
--- The last line of a text's front, found by a way back over the bytes.
+-- The last line of a prefix of a text, found by a backward scan over the bytes.
 use Rattle.std.proofs.Common.{◌≡◌, ℕ, zero, suc, ◌+◌, ◌-◌, ◌≤◌, ◌<◌, true, false, List, [], ◌∷◌, length, take, drop, get_or, count_by, refl, sym, ap, ◌∙◌, arith}
 use Rattle.std.proofs.lemmas.List.{take_all, take-take, take-append-drop, length-take-le}
 use Rattle.std.specs.Str.{chars, IsUtf8}
@@ -60,7 +60,7 @@ module _ (breaks : LineBreaks) (bs : List ℕ) (end skip : ℕ) (u : IsUtf8 bs) 
   pub end_in : end ≤ length bs
   end_in = omega (arith, between, byte_len-chars bs u, size_le byte_len IsMeasure-byte_len text place (length text) within, ap byte_len (take_all (length text) text (omega arith)))
 
-  -- what a front's last lines count, by what is before them
+  -- the counts of the last lines of a prefix, by those of the text before them
   rest_info : (l : ℕ) (first info : TextInfo) → l ≤ place → first ≡ info_of breaks (take l text) → parts_crlf (take l front) (drop l front) ≡ false
       → end ≡ first.bytes + info.bytes → place ≡ first.chars + info.chars → surrogate_count front ≡ first.utf16_surrogates + info.utf16_surrogates → break_count breaks front ≡ first.break_count + info.break_count
       → info ≡ info_of breaks (drop l front)

@@ -1,4 +1,4 @@
--- Lines where a text is parted at a line's start, or is joined of two.
+-- Lines where a text is split at a line's start, or is joined of two.
 use Rattle.std.proofs.Common.{◌≡◌, ℕ, zero, suc, ◌+◌, ◌-◌, ◌<◌, ◌≤◌, min, Bool, true, false, not, ◌&&◌, cond, eqb, List, [], ◌∷◌, ◌++◌, length, take, drop, get_or, refl, sym, ap, ◌∙◌, arith, add-one, inl, inr}
 use Rattle.std.specs.List.{slice_range}
 use Rattle.std.proofs.lemmas.Bool.{cases_lt, cases_Bool}
@@ -43,7 +43,7 @@ break_end_apart breaks text k within ends =
     let cr : ends_in_cr (take (suc k) text) ≡ eqb (get_or text k 0) 13 = ap ends_in_cr last ∙ ends_in_cr-append (take k text) (get_or text k 0) [] in
     ap (λ b. b && begins_with_lf (drop (suc k) text)) cr ∙ not_crlf (is_break_char breaks (get_or text k 0)) (eqb (get_or text k 0) 13) (begins_with_lf (drop (suc k) text)) ends
 
--- no CR LF is parted where a line starts
+-- no CR LF is split where a line starts
 pub line_start_apart : (breaks : LineBreaks) (text : List ℕ) (l : ℕ) → parts_crlf (take (line_start breaks text l) text) (drop (line_start breaks text l) text) ≡ false
 line_start_apart breaks text l = go (line_start breaks text l) refl
   where
@@ -75,7 +75,7 @@ break_count-front breaks text l within =
           omega (arith, ap (char_to_line breaks text) end, char_to_line_end breaks text)
     ]
 
--- a line is the first of what follows its start
+-- a line is the first line of the text from its start on
 pub first_line-drop : (breaks : LineBreaks) (text : List ℕ) (l : ℕ) → l < line_count breaks text
     → first_line breaks (drop (line_start breaks text l) text) ≡ slice_range text (line_start breaks text l) (line_start breaks text (l + 1))
 first_line-drop breaks text l within =

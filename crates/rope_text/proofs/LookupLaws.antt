@@ -1,4 +1,4 @@
--- Which chunk a look-up answers, from the sizes before the chunks.
+-- The chunk that a lookup returns, by the sizes before the chunks.
 use Rattle.std.proofs.Common.{◌≡◌, ℕ, zero, suc, ◌+◌, ◌-◌, ◌<◌, ◌≤◌, Bool, true, false, cond, nat_le, List, length, take, drop, ap, sym, ◌∙◌, arith, All}
 use Rattle.std.specs.List.{concat}
 use Rattle.std.proofs.lemmas.Bool.{cond-true, cond-false, le-leb, lt-leb}
@@ -60,7 +60,7 @@ module _ (size : List ℕ → ℕ) (m : IsMeasure size) where
       greatest_is (λ j. nat_le (size (front_chunks chunks j)) n) (length chunks - 1) k (omega arith) (le-leb _ _ starts)
       (λ j above inside. lt-leb _ _ (let next = ends (omega arith) in let more = size-front_chunks size m chunks (suc k) j above in omega arith))
 
--- the chunk that starts at or before the place and ends after it, or the last
+-- the chunk that starts at or before the index and ends after it, or the last
 pub chunk_index_at_byte_is : (chunks : List (List ℕ)) (b k : ℕ) → k < length chunks → byte_len (front_chunks chunks k) ≤ b → (suc k < length chunks → b < byte_len (front_chunks chunks (suc k))) → chunk_index_at_byte chunks b ≡ k
 unfolding chunk_index_at_byte
 chunk_index_at_byte_is chunks b k within starts ends = chunk_is byte_len IsMeasure-byte_len chunks b k within starts ends

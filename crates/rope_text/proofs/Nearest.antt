@@ -1,4 +1,4 @@
--- Which of the two cuts about a place is the nearer.
+-- The nearer of the two cuts around a position.
 use Rattle.std.proofs.Common.{ℕ, ◌-◌, ◌<◌, ◌≤◌, ⊎_elim, arith}
 use Rattle.std.proofs.lemmas.Bool.{cases_lt}
 use Rattle.rope_text.specs.Cuts.{distance}
@@ -13,7 +13,7 @@ pub right_is_nearer : (at left right k : ℕ) → left ≤ at → at ≤ right �
 right_is_nearer at left right k below above near up on =
     ⊎_elim (λ (h : at < k). omega (arith, on h)) (λ (h : k ≤ at). omega (arith, up h)) (cases_lt at k)
 
--- where the right one is the end, k lies before it
+-- if the right one is the end, k is before it
 pub left_is_only : (at left right k : ℕ) → left ≤ at → k < right → (k ≤ at → k ≤ left) → (at < k → right ≤ k) →
     distance at left ≤ distance at k
 left_is_only at left right k below inside up on =

@@ -1,4 +1,4 @@
--- Bytes with zeros behind them: no break begins at a zero, and none is seen otherwise before one.
+-- Bytes with zeros after them: no break begins at a zero, and the breaks before it are unchanged.
 use Rattle.std.proofs.Common.{◌≡◌, ℕ, zero, suc, false, cond, List, [], ◌∷◌, ◌++◌, drop, get_or, refl, ap, ◌∙◌, arith}
 use Rattle.rope_text.specs.declared.line_breaks.LineBreaks.{LineBreaks}
 use Rattle.rope_text.specs.declared.line_breaks.LineBreaks.TheVariants.{Lf, CrLf, Unicode}

@@ -1,4 +1,4 @@
--- What a scan passes over, and the line that it leaves behind it.
+-- The text that a scan passes, and the line that it leaves.
 use Rattle.std.proofs.Common.{◌≡◌, ℕ, suc, ◌+◌, ◌≤◌, ◌<◌, Bool, true, false, cond, List, [], take, inl, inr, length, drop, get_or, count_by, refl, sym, ap, ◌∙◌, arith}
 use Rattle.std.proofs.lemmas.Bool.Decides.{nat_tests}
 use Rattle.rope_text.specs.declared.line_breaks.LineBreaks.{LineBreaks}
@@ -69,7 +69,7 @@ no_pairs xs p w width h = elim (cases_lt 1 w) [
   ]
 ]
 
--- the counts of a text up to the end of one of its breaks, by what is in front of that break
+-- the counts of a text up to the end of one of its breaks, by those before that break
 pub line_front : (breaks : LineBreaks) (bs : List ℕ) (n p k q : ℕ) (info : TextInfo) → IsUtf8 bs → p < length bs → byte_break_count breaks bs ≡ n + byte_break_count breaks (drop p bs)
     → breaks_at breaks bs p ≡ true → count_by begins_char bs ≡ k + count_by begins_char (drop p bs) → count_by begins_pair bs ≡ q + count_by begins_pair (drop p bs)
     → info.bytes ≡ p + char_width (get_or bs p 0) → info.chars ≡ k + 1 → info.utf16_surrogates ≡ q → info.break_count ≡ suc n
@@ -88,7 +88,7 @@ line_front breaks bs n p k q info u inside fore begin in_chars in_pairs bytes co
     same_info info (info_of breaks (take l cs)) (bytes ∙ place) (counted ∙ start ∙ sym (length-take-le l cs within))
     (omega (arith, pairs, in_pairs, same, before, count_by-front begins_pair bs (p + w))) (omega (arith, count, break_count-front breaks cs (suc n) (omega (arith, some)), some))
 
--- the counts of a text's first line, by what is in front of the break at its end
+-- the counts of a text's first line, by those before the break at its end
 pub scanned_line : (breaks : LineBreaks) (bs : List ℕ) (k p q : ℕ) (info : TextInfo) → IsUtf8 bs → IsFront breaks bs k p q → p < length bs → breaks_at breaks bs p ≡ true
     → info.bytes ≡ p + char_width (get_or bs p 0) → info.chars ≡ k + 1 → info.utf16_surrogates ≡ q → info.break_count ≡ 1 → info ≡ info_of breaks (first_line breaks (chars bs))
 scanned_line breaks bs k p q info u front inside begin bytes counted pairs count =

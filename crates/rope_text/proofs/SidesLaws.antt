@@ -66,7 +66,7 @@ module _ {A X : Type 0} (view : A → X) where
       let less : length s.left < length (s.left ++ s.right) = omega (arith, length-append s.left s.right, ap length g.0) in
       (all_items-right s t x g, rw (lt-ltb (length s.left) (length (s.left ++ s.right)) less) (ap length g.1 ∙ length-append s.left (view x ∷ [])), g.2)
 
-  -- and a step to the left is that of one that faces backward
+  -- a step to the left is a step of a cursor that faces backward
   left_item : (s t : Sides X) (r : Option A) → GoesLeft view s r t → option_map view r ≡ item_before (all_items s) (place s)
   left_item s t None g = rw g.0 refl
   left_item s t (Some x) g =
@@ -78,7 +78,7 @@ module _ {A X : Type 0} (view : A → X) where
   left_place s t None g = (ap all_items g.1, ap place g.1 ∙ omega (arith, ap length g.0), ap (λ c. c.is_backward) g.1)
   left_place s t (Some x) g = (all_items-left s t x g, omega (arith, ap length g.0, length-append t.left (view x ∷ [])), g.2)
 
-  -- `next` gives what the cursor gives next, and leaves what it leaves
+  -- `next` returns the cursor's next item, and leaves the cursor after it
   pub item_ahead : (s t : Sides X) (r : Option A) → StepsAhead view s r t → option_map view r ≡ next_item (cursor_of s)
   item_ahead s t r h = go s.left s.right s.is_backward h
     where
@@ -117,7 +117,7 @@ module _ {A X : Type 0} (view : A → X) where
       let e = cursor_ahead (turned s) (turned t) r (back_is_ahead s t r h) in
       cursor_ext (cursor_of t) (reversed (cursor_of (turned t))) refl refl (sym (not_not (not t.is_backward))) ∙ ap reversed e
 
-  -- a step that gave an item, and then the step back: the same item, and the cursor as it was
+  -- a step that gave an item, and then the step back: an equal item, and the cursor unchanged
   nil_from_push : (xs : List X) (y : X) → xs ++ y ∷ [] ≡ [] → ⊥
   nil_from_push [] y e = cc
   nil_from_push (x ∷ xs) y e = cc
@@ -143,7 +143,7 @@ module _ {A X : Type 0} (view : A → X) where
       go left right true k = back_from_left (record { left = left; right = right; is_backward = true }) t u x r k (subst (λ d. MatchBool d (GoesRight view t r u) (GoesLeft view t r u)) k.2 h)
       go left right false k = back_from_right (record { left = left; right = right; is_backward = false }) t u x r k (subst (λ d. MatchBool d (GoesRight view t r u) (GoesLeft view t r u)) k.2 h)
 
--- how many items are ahead
+-- the number of items ahead
 pub length_ahead : {X : Type 0} (s : Sides X) → length (ahead s) ≡ size_left (cursor_of s)
 length_ahead {X} s = go s.left s.right s.is_backward
   where

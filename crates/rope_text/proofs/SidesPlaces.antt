@@ -1,4 +1,4 @@
--- A cursor is given by its list, its place and its direction.
+-- A cursor is given by its list, its index and its direction.
 use Rattle.std.proofs.Common.{◌≡◌, ℕ, Bool, false, List, ◌++◌, length, take, drop, ap, sym, ◌∙◌}
 use Rattle.std.proofs.lemmas.List.{take_at, drop_at}
 use Rattle.rope_text.specs.Sides.{Sides, all_items, place, at_place}

@@ -20,7 +20,7 @@ all_scalars-drop zero cs s = s
 all_scalars-drop (suc i) [] s = refl
 all_scalars-drop (suc i) (c ∷ cs) s = all_scalars-drop i cs (rest_scalars c cs s)
 
--- the bytes of the first i characters, and those of the others
+-- the bytes of the first i characters, and those of the rest
 cut_bytes : (i : ℕ) (cs : List ℕ) → encode_utf8_all cs ≡ encode_utf8_all (take i cs) ++ encode_utf8_all (drop i cs)
 cut_bytes i cs = ap encode_utf8_all (sym (take-append-drop i cs)) ∙ encodes-append (take i cs) (drop i cs)
 
@@ -46,7 +46,7 @@ byte_len_boundary bs i u =
     IsCharBoundary-at_seam bs (encode_utf8_all (take i cs)) (encode_utf8_all (drop i cs)) (sym (encodes-chars bs u) ∙ cut_bytes i cs)
     (drop i cs, (all_scalars-drop i cs (scalars-chars bs u), refl))
 
--- the characters of a part that was cut off at a place between characters
+-- the characters of a prefix or suffix cut at a boundary
 pub chars_front : (bs r cs : List ℕ) (i b : ℕ) → IsUtf8 bs → chars bs ≡ cs → b ≡ byte_len (take i (chars bs)) → r ≡ take (b - 0) bs → chars r ≡ take i cs
 chars_front bs r cs i b u same place cut = ap chars (cut ∙ ap (λ k. take k bs) (omega (arith, place))) ∙ chars-take bs i u ∙ ap (take i) same
 

@@ -1,4 +1,5 @@
--- Bytes that may follow each other are a text, up to the last place where no character is unfinished.
+-- Bytes that may follow each other are a text, up to the last position where no character is
+-- unfinished.
 use Rattle.std.proofs.Common.{◌≡◌, ℕ, zero, suc, ◌+◌, ◌-◌, ◌*◌, ◌/◌, ◌%◌, ◌<◌, ◌≤◌, ◌⊎◌, inl, inr, Bool, true, false, cond, not, eqb, leb, List, [], ◌∷◌, length, take, drop, get_or, count_by, refl, sym, ap, subst, ◌∙◌, arith, ⊎_elim, take-append-drop}
 use Rattle.std.specs.Str.{IsUtf8}
 use Rattle.std.specs.List.{range_with_len}
@@ -20,7 +21,7 @@ use Rattle.rope_text.proofs.Encoded.{encode_one, encode_two, encode_three, encod
 pub is_zero : (n : ℕ) → not (eqb n 0) ≡ false → n ≡ 0
 is_zero n e = eqb-true n 0 (not-false _ e)
 
--- where the test holds at none of the places, it fails at each
+-- if the test holds at none of the indices, it fails at each
 pub at_none : (p : ℕ → Bool) (i n : ℕ) → count_by p (range_with_len i n) ≡ 0 → (k : ℕ) → i ≤ k → k < i + n → p k ≡ false
 at_none p i zero none k low high = absurd (omega arith)
 at_none p i (suc n) none k low high =
@@ -38,7 +39,7 @@ at_none p i (suc n) none k low high =
 pub after_ascii : (x y z b : ℕ) → x < 128 → y < 128 → z < 128 → b < 128 → is_fault x y z b ≡ false
 after_ascii x y z b hx hy hz hb = grind (arith, nat_tests)
 
--- what it means that the byte b may follow x, y and z
+-- the byte b may follow x, y and z
 pub record MayFollow (x y z b : ℕ) : Type 0 where
   pub in_char : (192 ≤ z) ⊎ ((224 ≤ y) ⊎ (240 ≤ x)) → (128 ≤ b) × (b < 192)
   pub begins : z < 192 → y < 224 → x < 240 → (b < 128) ⊎ (192 ≤ b)
@@ -104,14 +105,14 @@ four_bytes a b c d low high second third fourth no_overlong not_beyond =
     let t : 128 + n % 64 ≡ d = omega arith in
     char_text n (a ∷ b ∷ c ∷ d ∷ []) (high_scalar n (omega arith) (omega arith)) (encode_four n (omega arith) ∙ (λ i. p i ∷ q i ∷ r i ∷ t i ∷ []))
 
--- ---- bytes of which each may follow those before it
+-- ---- bytes each of which may follow those before it
 
 -- with no unfinished character at the end
 abbrev Follow : ℕ → ℕ → ℕ → List ℕ → Type 0
 Follow x y z [] = (x < 240) × (y < 224) × (z < 192)
 Follow x y z (b ∷ bs) = MayFollow x y z b × Follow y z b bs
 
--- so few of them are a text, where no character is unfinished before them
+-- n of them are a text, if no character is unfinished before them
 abbrev AreText : ℕ → Type 0
 AreText n = (x y z : ℕ) (bs : List ℕ) → length bs ≤ n → x < 240 → y < 224 → z < 192 → Follow x y z bs → IsUtf8 bs
 
@@ -151,7 +152,7 @@ are_text (suc n) x y z (a ∷ bs) few hx hy hz f =
     (λ (h : 192 ≤ a). after_one n (are_text n) y z a bs (omega arith) hz h f.1)
     (f.0.begins hz hy hx)
 
--- ---- the same by places
+-- ---- the same facts, by indices
 
 fault_next : (a : ℕ) (bs : List ℕ) (k : ℕ) → fault_at (a ∷ bs) (suc k) ≡ fault_at bs k
 fault_next a bs k =
@@ -189,7 +190,7 @@ text_before bs n m fine inside within high =
     let z : 192 ≤ get_or (0 ∷ 0 ∷ 0 ∷ bs) (m + 2) 0 → ⊥ = λ h. omega (arith, here.in_char (inl h), b) in
     text_to bs m (omega arith) (record { none = λ k h. fine.none k (omega arith) }) (omega (arith, x)) (omega (arith, y)) (omega (arith, z))
 
--- nor where the three bytes before ask for no more
+-- no character is unfinished if the three bytes before need no more
 pub text_up_to : (bs : List ℕ) (n x y z : ℕ) → HasNoFault bs n → n ≤ length bs → x + 3 ≡ n → y + 2 ≡ n → z + 1 ≡ n
     → get_or bs x 0 < 240 → get_or bs y 0 < 224 → get_or bs z 0 < 192 → IsUtf8 (take n bs)
 text_up_to bs n x y z fine within ex ey ez p q r =
@@ -224,7 +225,7 @@ ascii_block bs i none k from to =
     let low : (j : ℕ) → i ≤ j → j < i + 64 → get_or bs j 0 < 128 = λ j p q. leb-false 128 (get_or bs j 0) (at_none (λ m. leb 128 (get_or bs m 0)) i 64 none j p q) in
     after_ascii _ _ _ _ (low k from (omega arith)) (low (k + 1) (omega arith) (omega arith)) (low (k + 2) (omega arith) (omega arith)) (low (k + 3) (omega arith) (omega arith))
 
--- the bytes from j on, each read from d places before
+-- the bytes from j on, each read at a distance d
 pub loaded_at : (bs : List ℕ) (i d j n : ℕ) → i + d ≡ j → j + n ≤ length bs → IsLanes (range_with_len i n) (λ k. get_or bs (k + d) 0) (take n (drop j bs))
 loaded_at bs i d j n e h = let P : ℕ → Type 0 = λ m. IsLanes (range_with_len i n) (λ k. get_or bs (k + d) 0) (take n (drop m bs)) in subst P e (loaded_from bs i d n (omega arith))
 

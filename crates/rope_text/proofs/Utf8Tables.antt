@@ -9,7 +9,7 @@ use Rattle.rope_text.specs.declared.utf8.TheConstants.{BY_FIRST_HIGH, BY_FIRST_L
 use Rattle.rope_text.specs.Marks.{IsLanes}
 use Rattle.rope_text.specs.Utf8.{pair_fault, IsTwice}
 
--- ---- look-ups lane by lane
+-- ---- lookups lane by lane
 
 swizzled : (t : List ℕ) (g : ℕ → ℕ) (ks : List ℕ) (i : ℕ) → i + length ks ≤ 32 → ((k : ℕ) → g k < 16) → IsTwice t → swz_l w8 16 t i (map g ks) ≡ map (λ k. get_or t (g k) 0) ks
 swizzled t g [] i few small twice = refl
@@ -41,7 +41,7 @@ none_either p q (k ∷ ks) more none =
     go true one = absurd (omega (arith, one))
     go false one = refl
 
--- ---- what the tables say
+-- ---- the entries of the tables
 
 below : (ℕ → Bool) → ℕ → Bool
 below p zero = true

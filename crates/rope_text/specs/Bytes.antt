@@ -1,4 +1,4 @@
--- The bytes of UTF-8 with which a character begins.
+-- The bytes of UTF-8 that begin a character.
 use Rattle.std.specs.Prelude.{ℕ, Bool, ◌||◌, nat_lt, nat_le}
 
 -- whether a character begins with the byte

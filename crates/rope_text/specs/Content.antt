@@ -1,4 +1,4 @@
--- What a rope or a slice shows.
+-- The content of a rope or a slice.
 use Rattle.std.specs.Prelude.{◌≡◌, ℕ, ◌+◌, ◌-◌, ◌/◌, ◌^◌, ◌<◌, ◌≤◌, true, List, length}
 use Rattle.std.specs.Str.{all_scalars}
 use Rattle.rope_text.specs.declared.TheConstants.{MIN_CUT_BYTES}
@@ -6,13 +6,15 @@ use Rattle.rope_text.specs.declared.line_breaks.LineBreaks.{LineBreaks}
 use Rattle.rope_text.specs.Text.{byte_len}
 use Rattle.rope_text.specs.Cutting.{IsRopeCutting}
 
--- a text, the chunks it is cut into, and its set of line breaks
+-- a text, its chunks, and its set of line breaks
 pub record Content : Type 0 where
   pub text : List ℕ
   pub chunks : List (List ℕ)
   pub breaks : LineBreaks
 
--- what every rope keeps: its chunks are a rope cutting of its text, at most one for each 246 bytes and one for the rest; the text is one of Unicode scalar values and has at most isize::MAX bytes
+-- the invariant of every rope: its chunks are a rope cutting of its text, at most one for each 246
+-- bytes and one for the rest; the text consists of Unicode scalar values and has at most isize::MAX
+-- bytes
 pub record IsRope (c : Content) : Type 0 where
   pub cut : IsRopeCutting c.text c.chunks
   pub few : length c.chunks ≤ (byte_len c.text + 245) / 246

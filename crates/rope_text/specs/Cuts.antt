@@ -1,4 +1,4 @@
--- Places where the bytes of a text may be cut.
+-- Positions where the bytes of a text may be cut.
 use Rattle.std.specs.Prelude.{ℕ, ◌+◌, ◌-◌, Bool, not, ◌&&◌, ◌||◌, ◌==◌, List, length, slice_index}
 use Rattle.rope_text.specs.Bytes.{begins_char}
 
@@ -6,7 +6,7 @@ use Rattle.rope_text.specs.Bytes.{begins_char}
 abbrev pub is_cut_between : ℕ → ℕ → Bool
 is_cut_between x y = begins_char y && not (x == 13 && y == 10)
 
--- whether the bytes may be cut before the byte i, which they may at either end
+-- whether the bytes may be cut before the byte i; at either end they may
 abbrev pub is_cut : List ℕ → ℕ → Bool
 is_cut bs i = (i == 0 || i == length bs) || is_cut_between (slice_index bs (i - 1)) (slice_index bs i)
 

@@ -4,12 +4,12 @@ use Rattle.std.specs.Fmt.{decimal}
 use Rattle.rope_text.specs.declared.error.Error.{Error}
 use Rattle.rope_text.specs.declared.error.Error.TheVariants.{ByteIndexOutOfBounds, CharIndexOutOfBounds, LineIndexOutOfBounds, Utf16IndexOutOfBounds, ByteIndexNotCharBoundary, ByteRangeNotCharBoundary, ByteRangeInvalid, CharRangeInvalid, ByteRangeOutOfBounds, CharRangeOutOfBounds, TooLong, OutOfMemory, LineBreaksDiffer}
 
--- a bound as it is printed: nothing where it is open
+-- a bound as printed: empty if it is open
 abbrev pub bound_text : Option ℕ → List ℕ
 bound_text None = []
 bound_text (Some n) = decimal n
 
--- a range as it is printed
+-- a range as printed
 abbrev pub range_text : Option ℕ → Option ℕ → List ℕ
 range_text start end = bound_text start ++ (codes ".." ++ bound_text end)
 

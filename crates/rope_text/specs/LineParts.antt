@@ -1,4 +1,4 @@
--- The lines of a content, as parts of it.
+-- The lines of a content, as slices of it.
 use Rattle.std.specs.Prelude.{◌≡◌, ℕ, ◌+◌, ◌-◌, List, map, take, drop}
 use Rattle.std.specs.List.{range_with_len, slice_range}
 use Rattle.rope_text.specs.declared.line_breaks.LineBreaks.{LineBreaks}
@@ -11,11 +11,11 @@ use Rattle.rope_text.specs.Content.{Content}
 use Rattle.rope_text.specs.Text.{byte_len}
 use Rattle.rope_text.specs.TextInfo.{info_of}
 
--- the part from character a up to b: its text, and its chunks, clipped
+-- the slice from character a up to b: its text, and its chunks, clipped
 abbrev pub part_between : Content → ℕ → ℕ → Content
 part_between c a b = record { text = slice_range c.text a b; chunks = clip c.chunks a b; breaks = c.breaks }
 
--- line l, its break among its characters
+-- line l with its break
 abbrev pub line_of : Content → ℕ → Content
 line_of c l = part_between c (line_start c.breaks c.text l) (line_start c.breaks c.text (l + 1))
 
@@ -27,7 +27,7 @@ lines_of c = map (line_of c) (range_with_len 0 (line_count c.breaks c.text))
 abbrev pub first_line : LineBreaks → List ℕ → List ℕ
 first_line breaks text = take (line_start breaks text 1) text
 
--- where the last line starts, or the k-th before it: there, k line breaks end after it
+-- the start of the last line, or of the k-th before it: k line breaks end after it
 abbrev pub last_start : LineBreaks → List ℕ → ℕ → ℕ
 last_start breaks text k = line_start breaks text (break_count breaks text - k)
 
@@ -42,7 +42,8 @@ after_byte text b = drop (byte_to_char text b) text
 abbrev pub IsBetween : List ℕ → ℕ → Type 0
 IsBetween text b = byte_len (before_byte text b) ≡ b
 
--- of the text before the byte `end`, where its last line starts, or the one so many breaks before it: the byte, and the counts from there on
+-- the start of the last line of the text before the byte `end`, or of the line `skip` breaks
+-- earlier: its byte, and the counts from there on
 abbrev pub last_line_byte : LineBreaks → List ℕ → ℕ → ℕ → ℕ
 last_line_byte breaks text end skip = byte_len (take (last_start breaks (before_byte text end) skip) (before_byte text end))
 

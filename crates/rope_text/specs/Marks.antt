@@ -1,4 +1,5 @@
--- What begins with a byte and is counted: characters, characters of two code units, and line breaks. Private working definitions: only clauses of private functions cite them.
+-- Marks: the bytes that begin a character, a character of two code units, or a line break, and that
+-- searches count. Private working definitions: only clauses of private functions cite them.
 use Rattle.std.specs.Prelude.{◌≡◌, ℕ, ◌+◌, ◌<◌, ◌≤◌, Bool, cond, if◌then◌else◌, List, length, map, drop, get_or, count_by, bit_and, IsTrue, ◌==◌, ◌||◌}
 use Rattle.rope_text.specs.declared.line_breaks.LineBreaks.{LineBreaks}
 use Rattle.rope_text.specs.declared.line_breaks.LineBreaks.TheVariants.{Lf, CrLf, Unicode}
@@ -16,7 +17,7 @@ mark_at Char bytes k = begins_char (get_or bytes k 0)
 mark_at Pair bytes k = begins_pair (get_or bytes k 0)
 mark_at (Break breaks) bytes k = breaks_at breaks bytes k
 
--- how many begin in the bytes
+-- the number of marks that begin in the bytes
 abbrev pub marks : Mark → List ℕ → ℕ
 marks Char bytes = count_by begins_char bytes
 marks Pair bytes = count_by begins_pair bytes
@@ -26,19 +27,20 @@ marks (Break breaks) bytes = byte_break_count breaks bytes
 abbrev pub IsMark : Mark → List ℕ → ℕ → ℕ → ℕ → Type 0
 IsMark mark bytes from n at = (marks mark (drop from bytes) ≡ n + marks mark (drop at bytes)) × IsTrue (mark_at mark bytes at)
 
--- where the mark n begins, counted from the byte `from` on: there, or at the end where there are no more than n
+-- the byte with which the mark n begins, counted from the byte `from` on; the end if there are at
+-- most n marks
 pub record IsPlaceOf (mark : Mark) (bytes : List ℕ) (from n place : ℕ) : Type 0 where
   pub not_before : from ≤ place
   pub bound : place ≤ length bytes
   pub inside : place < length bytes → IsMark mark bytes from n place
   pub end : place ≡ length bytes → marks mark (drop from bytes) ≤ n
 
--- the bytes before the byte `at` are passed on the way to the mark n, which is the mark `left` from there on
+-- the bytes before the byte `at` precede the mark n, which is the mark `left` counted from there
 pub record IsPassed (mark : Mark) (bytes : List ℕ) (n at left : ℕ) : Type 0 where
   pub bound : at ≤ length bytes
   pub counted : marks mark bytes + left ≡ n + marks mark (drop at bytes)
 
--- the bits of the mask say with which of the 32 bytes from the byte `at` on a mark begins
+-- the bits of the mask are the marks that begin in the 32 bytes from the byte `at` on
 abbrev pub IsBlockMask : Mark → List ℕ → ℕ → ℕ → Type 0
 IsBlockMask mark bytes at mask = (n : ℕ) → n ≤ 32 → marks mark (drop at bytes) ≡ ones_below mask n + marks mark (drop (at + n) bytes)
 
@@ -46,7 +48,7 @@ IsBlockMask mark bytes at mask = (n : ℕ) → n ≤ 32 → marks mark (drop at 
 abbrev pub lf_or_cr_lf : Bool → LineBreaks
 lf_or_cr_lf has_cr = if has_cr then CrLf else Lf
 
--- how many bytes behind a block say with it which marks begin there
+-- the number of bytes after a block that decide which marks begin in it
 abbrev pub ahead : Mark → ℕ
 ahead Char = 0
 ahead Pair = 0
@@ -66,13 +68,14 @@ ascii_mark Char x y = begins_char x
 ascii_mark Pair x y = begins_pair x
 ascii_mark (Break breaks) x y = ascii_at breaks x y
 
--- lanes that are g of each place, and lanes that are set where p holds of the place
+-- lanes that are g of each index, and lanes that are set where p holds of the index
 pub record IsLanes (ks : List ℕ) (g : ℕ → ℕ) (v : List ℕ) : Type 0 where
   pub same : v ≡ map g ks
 
 pub record IsMask (ks : List ℕ) (p : ℕ → Bool) (a : List ℕ) : Type 0 where
   pub same : a ≡ map (λ k. cond (p k) 255 0) ks
 
--- none of the n bytes from the byte `at` on is C2 or E2, with which breaks above 127 begin, where a mark may be such a break
+-- none of the n bytes from the byte `at` on is C2 or E2, which begin breaks above 127, if a mark
+-- may be such a break
 abbrev pub HasNoMultibyte : Mark → List ℕ → ℕ → ℕ → Type 0
 HasNoMultibyte mark bytes at n = ahead mark ≡ 2 → count_by (λ k. bit_and (get_or bytes k 0) 223 == 194) (range_with_len at n) ≡ 0

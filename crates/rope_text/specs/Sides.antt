@@ -1,4 +1,4 @@
--- A cursor, seen as what stands on its two sides: the form in which steps of code are stated.
+-- A cursor, seen as the items on its two sides: the form in which steps of code are stated.
 use Rattle.std.specs.Prelude.{◌≡◌, ◌<◌, ℕ, ⊤, OnSome, IfSome, IfNone, Bool, false, not, List, [], ◌∷◌, ◌++◌, length, take, drop, reverse, Option, MatchOption, if◌then◌else◌}
 use Rattle.std.specs.Bool.{MatchBool}
 use Rattle.std.specs.Iterator.{IsFinite, size, item_count}
@@ -13,33 +13,34 @@ pub record Sides (X : Type 0) : Type 0 where
 abbrev pub at_start : {X : Type 0} → List X → Sides X
 at_start items = record { left = []; right = items; is_backward = false }
 
--- before the item at a place, or past the last one at the end, facing forward
+-- before the item at an index, or past the last one at the end, facing forward
 abbrev pub at_place : {X : Type 0} → List X → ℕ → Sides X
 at_place items p = record { left = take p items; right = drop p items; is_backward = false }
 
--- the list, and the place in it
+-- the list, and the index in it
 abbrev pub all_items : {X : Type 0} → Sides X → List X
 all_items c = c.left ++ c.right
 
 abbrev pub place : {X : Type 0} → Sides X → ℕ
 place c = length c.left
 
--- what `next` still gives, and what `prev` still gives
+-- the items that `next` still gives, and those that `prev` still gives
 abbrev pub ahead : {X : Type 0} → Sides X → List X
 ahead c = if c.is_backward then reverse c.left else c.right
 
 abbrev pub behind : {X : Type 0} → Sides X → List X
 behind c = if c.is_backward then c.right else reverse c.left
 
--- the same cursor, turned at its place
+-- the cursor with its direction reversed
 abbrev pub turned : {X : Type 0} → Sides X → Sides X
 turned c = record { left = c.left; right = c.right; is_backward = not c.is_backward }
 
--- the cursor in the list of all items that it shows
+-- the cursor in the list of all items
 abbrev pub cursor_of : {X : Type 0} → Sides X → Cursor X
 cursor_of c = record { items = all_items c; place = place c; forward = not c.is_backward }
 
--- a step to the right or to the left, with the item that it passes, or none at the end, where it stays
+-- a step to the right or to the left, with the item that it passes; or none at the end, without a
+-- move
 module _ {A X : Type 0} (view : A → X) where
   abbrev pub GoesRight : Sides X → Option A → Sides X → Type 0
   GoesRight s r t = MatchOption r ((s.right ≡ []) × (t ≡ s)) (λ x. (s.right ≡ view x ∷ t.right) × (t.left ≡ s.left ++ view x ∷ []) × (t.is_backward ≡ s.is_backward))
@@ -54,8 +55,9 @@ module _ {A X : Type 0} (view : A → X) where
   abbrev pub StepsBack : Sides X → Option A → Sides X → Type 0
   StepsBack s r t = MatchBool s.is_backward (GoesRight s r t) (GoesLeft s r t)
 
-  -- what a call of `next` did: it stepped ahead, and where it gave an item, less is left. The first three fields are those of
-  -- `MakesProgress`, and are stated like that so that a `for` over the cursor is proved to end wherever it stands
+  -- the effect of a call of `next`: it stepped ahead, and if it gave an item, fewer are left. The
+  -- first three fields are those of `MakesProgress`, stated so that a `for` over the cursor is
+  -- proved to end from any start
   pub record GoesAhead (s : Sides X) (r : Option A) (t : Sides X) : Type 0 where
     pub on : IsFinite (item_count ahead s) → OnSome r (⊤ × IsFinite (item_count ahead t) × (size (item_count ahead t) < size (item_count ahead s)))
     pub keeps : IfSome r (λ _. ⊤)

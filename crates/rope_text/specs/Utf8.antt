@@ -1,7 +1,8 @@
--- Which bytes may follow each other in UTF-8. Private working definitions: only clauses of private functions cite them.
+-- The bytes that may follow each other in UTF-8. Private working definitions: only clauses of
+-- private functions cite them.
 use Rattle.std.specs.Prelude.{◌≡◌, ℕ, ◌+◌, ◌*◌, ◌/◌, ◌<◌, Bool, false, cond, List, ◌∷◌, get_or, not, nat_lt, nat_le, ◌==◌, ◌&&◌, ◌||◌}
 
--- one of the two holds, and not both
+-- exactly one of the two holds
 abbrev pub differ : Bool → Bool → Bool
 differ s t = cond s (not t) t
 
@@ -19,11 +20,11 @@ pair_fault in_long z b =
 abbrev pub is_fault : ℕ → ℕ → ℕ → ℕ → Bool
 is_fault x y z b = pair_fault (nat_le 0xE0 y || nat_le 0xF0 x) z b
 
--- so does the byte at k + 3
+-- the byte at k + 3 can't follow the three bytes before it
 abbrev pub fault_at : List ℕ → ℕ → Bool
 fault_at bytes k = is_fault (get_or bytes k 0) (get_or bytes (k + 1) 0) (get_or bytes (k + 2) 0) (get_or bytes (k + 3) 0)
 
--- each of the first n bytes may follow those before it, where three zeros stand before the first
+-- each of the first n bytes may follow those before it, with three zeros before the first
 pub record HasNoFault (bytes : List ℕ) (n : ℕ) : Type 0 where
   pub none : (k : ℕ) → k < n → fault_at (0 ∷ 0 ∷ 0 ∷ bytes) k ≡ false
 

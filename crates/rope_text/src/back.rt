@@ -1,4 +1,4 @@
-//! Searches backward for a line break: with it what the text from there on counts, in one pass over
+//! Backward searches for a line break, with the counts of the text from there on, in one pass over
 //! its bytes, in blocks of 32.
 ghost use Rattle.std.specs.Prelude.{◌≡◌, ◌+◌, ◌<◌, ◌≤◌, false, length};
 ghost use Rattle.rope_text.specs.Scan.{GoesBack, HasRoom, back_from};
@@ -7,18 +7,17 @@ use crate::LineBreaks;
 use crate::bits::{mark_from_end, ones_before, ones_between};
 use crate::lanes::{Mark, is_mark, masks_of};
 
-/// A place that was come to on the way back from the end of a text's front, and what the text
-/// between counts.
+/// A position reached while scanning backward, with the counts of the text passed.
 #[derive(Clone, Copy)]
 pub(crate) struct Back {
     pub at: usize,
     pub chars: usize,
     pub pairs: usize,
-    /// How many breaks are still to be passed before the one that is looked for.
+    /// The number of breaks to pass before the one searched for.
     pub left: usize,
 }
 
-/// Goes back over one byte. Answers whether the break that is looked for begins there.
+/// Scans back one byte. Returns whether the break searched for begins there.
 #[inline(always)]
 fn back_by_byte(bytes: &[u8], from: Back, breaks: LineBreaks) -> (Back, bool)
     requires room { HasRoom from }
@@ -44,10 +43,9 @@ fn back_by_byte(bytes: &[u8], from: Back, breaks: LineBreaks) -> (Back, bool)
     (back, false)
 }
 
-/// Goes back over single bytes to the byte `to`, or to the break that is looked for. Answers
-/// whether it came to that break. Cold: it is needed at the end of a text, and in short ones. It
-/// moves a place that it is given: for one that it answered, a caller would clear stack at each
-/// line.
+/// Scans back byte by byte to the byte `to`, or to the break searched for. Returns whether it found
+/// that break. Never inlined: only short texts and the ends of texts need it. The position is
+/// passed by reference: to receive one as a result, a caller would clear stack at each line.
 #[inline(never)]
 fn back_by_bytes(bytes: &[u8], back: &mut Back, to: usize, breaks: LineBreaks) -> bool
     requires room { HasRoom back.old }
@@ -63,7 +61,7 @@ fn back_by_bytes(bytes: &[u8], back: &mut Back, to: usize, breaks: LineBreaks) -
     is_found
 }
 
-/// The same by one block, of which a short text has none.
+/// Scans back one block, or byte by byte to the start in a text shorter than a block.
 #[inline(always)]
 fn back_by_block(bytes: &[u8], back: Back, breaks: LineBreaks) -> (Back, bool)
     requires room { HasRoom back }
@@ -100,9 +98,9 @@ fn back_by_block(bytes: &[u8], back: Back, breaks: LineBreaks) -> (Back, bool)
     (before, true)
 }
 
-/// Goes back from the byte `end` over `skip` breaks, and on to the one before them, at whose last
-/// character it ends; or to the start. Answers whether it came to that break. Inlined: a set that
-/// is known leaves no test for it in the loop.
+/// Scans back from the byte `end` over `skip` breaks to the last character of the break before
+/// them, or to the start. Returns whether it found that break. Inlined: a set that is constant at
+/// the call leaves no test of it in the loop.
 #[inline(always)]
 pub(crate) fn back_to_break(
     bytes: &[u8],
@@ -120,7 +118,7 @@ pub(crate) fn back_to_break(
         pairs: 0,
         left: skip,
     };
-    // The break at the line's end is one byte nearly always; and a block is read two bytes past its
+    // The break at the line's end is nearly always one byte; and a block is read two bytes past its
     // end.
     let (mut back, mut is_found) = if end > 0 && end < bytes.len() {
         back_by_byte(bytes, start, breaks)

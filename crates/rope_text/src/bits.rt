@@ -2,7 +2,7 @@
 ghost use Rattle.std.specs.Prelude.{◌≡◌, ◌+◌, ◌<◌, ◌≤◌};
 ghost use Rattle.rope_text.specs.Bits.{ones_below, marks_below};
 
-/// How many of the first `n` bytes have a mark.
+/// Returns the number of marks among the first `n` bytes.
 pub(crate) fn ones_before(mask: u64, n: usize) -> usize
     requires { n ≤ 32 }
     ensures { result ≡ ones_below mask n }
@@ -10,7 +10,7 @@ pub(crate) fn ones_before(mask: u64, n: usize) -> usize
     (mask & ((1 << n) - 1)).count_ones() as usize
 }
 
-/// How many of the bytes from `from` on and before `to` have a mark.
+/// Returns the number of marks from the byte `from` on and before `to`.
 pub(crate) fn ones_between(mask: u64, from: usize, to: usize) -> usize
     requires from { from ≤ to }
     requires to { to ≤ 32 }
@@ -19,7 +19,7 @@ pub(crate) fn ones_between(mask: u64, from: usize, to: usize) -> usize
     ones_before(mask >> from, to - from)
 }
 
-/// The first place that has a mark, or 64.
+/// Returns the first byte with a mark, or 64.
 pub(crate) fn first_mark(mask: u64) -> usize
     ensures bound { result ≤ 64 }
     ensures before { ones_below mask result ≡ 0 }
@@ -30,7 +30,8 @@ pub(crate) fn first_mark(mask: u64) -> usize
     mask.trailing_zeros() as usize
 }
 
-/// The byte with the mark `n` of two masks, counted from 0: it has at most `n` marks before it.
+/// Returns the byte with the mark `n` of two masks, counted from 0: it has at most `n` marks before
+/// it.
 pub(crate) fn place_of_mark(first: u64, second: u64, n: usize) -> usize
     requires { n < marks_below first second 32 }
     ensures bound { result < 32 }
@@ -53,7 +54,7 @@ pub(crate) fn place_of_mark(first: u64, second: u64, n: usize) -> usize
     place
 }
 
-// The last of the first `len` bytes that has a mark.
+// Returns the last of the first `len` bytes with a mark.
 fn last_mark(mask: u64, len: usize) -> usize
     requires len { len ≤ 32 }
     requires some { 0 < ones_below mask len }
@@ -65,7 +66,7 @@ fn last_mark(mask: u64, len: usize) -> usize
     63 - front.leading_zeros() as usize
 }
 
-/// The one among the first `len` bytes that has a mark and `left` bytes with a mark behind it.
+/// Returns the one of the first `len` bytes that has a mark and `left` marks after it.
 pub(crate) fn mark_from_end(mask: u64, len: usize, left: usize) -> usize
     requires len { len ≤ 32 }
     requires some { left < ones_below mask len }

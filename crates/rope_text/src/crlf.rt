@@ -1,15 +1,15 @@
-//! Places where the bytes of a text may be cut: inside no character, and not between CR and LF. No
-//! call takes memory.
+//! Positions where the bytes of a text may be cut: inside no character, and not between CR and LF.
+//! Each call reads the bytes around the position and takes no memory. Indices are at most the
+//! length.
 //!
-//! Of the bytes of `"a\r\nb"`, the places 0, 1, 3 and 4 may be cut, and 2 may not.
+//! The bytes of `"a\r\nb"` may be cut at 0, 1, 3 and 4, and not at 2.
 #![tactic(auto, using(crate::proofs::CutFacts::boundary_of_cut))]
 
 ghost use Rattle.std.specs.Prelude.{◌≡◌, ℕ, ◌-◌, ◌<◌, ◌≤◌, false, length, ◌++◌, IsTrue};
 ghost use Rattle.std.specs.Str.{IsUtf8, IsCharBoundary};
 ghost use Rattle.rope_text.specs.Cuts.{is_cut, distance};
 
-/// Whether a text may be cut into `left` and `right`, neither of which is empty. Reads two bytes;
-/// takes no memory.
+/// Returns whether a text may be cut into `left` and `right`, neither of which is empty.
 pub fn seam_is_break(left: &[u8], right: &[u8]) -> bool
     requires left { 0 < length left.now }
     requires right { 0 < length right.now }
@@ -19,8 +19,7 @@ pub fn seam_is_break(left: &[u8], right: &[u8]) -> bool
     (y < 0x80 || y >= 0xC0) && (x != b'\r' || y != b'\n')
 }
 
-/// Whether the text may be cut before the byte `at`, which is at most its length. Either end may be
-/// cut. Reads the bytes around the place; takes no memory.
+/// Returns whether the text may be cut before the byte `at`. It may always be cut at its ends.
 pub fn is_break(at: usize, text: &[u8]) -> bool
     requires { at ≤ length text.now }
     ensures value { result ≡ is_cut text.now at }
@@ -28,8 +27,7 @@ pub fn is_break(at: usize, text: &[u8]) -> bool
     at == 0 || at == text.len() || seam_is_break(&text[..at], &text[at..])
 }
 
-/// The last place before the byte `at` where the text may be cut, or 0 where `at` is 0. `at` is at
-/// most the length. Reads the bytes around the place; takes no memory.
+/// Returns the last position before the byte `at` where the text may be cut, or 0 if `at` is 0.
 pub fn prev_break(at: usize, text: &[u8]) -> usize
     requires { at ≤ length text.now }
     ensures boundary { IsUtf8 text.now → IsCharBoundary text.now result }
@@ -48,8 +46,8 @@ pub fn prev_break(at: usize, text: &[u8]) -> usize
     i
 }
 
-/// The first place after the byte `at` where the text may be cut, or the end where `at` is the end.
-/// `at` is at most the length. Reads the bytes around the place; takes no memory.
+/// Returns the first position after the byte `at` where the text may be cut, or the end if `at` is
+/// the end.
 pub fn next_break(at: usize, text: &[u8]) -> usize
     requires { at ≤ length text.now }
     ensures boundary { IsUtf8 text.now → IsCharBoundary text.now result }
@@ -70,9 +68,8 @@ pub fn next_break(at: usize, text: &[u8]) -> usize
     i
 }
 
-/// The place inside the text, nearest to the byte `at`, where it may be cut, the later one of two
-/// that are as near; the end, where there is no such place inside. `at` is at most the length.
-/// Reads the bytes around the place; takes no memory.
+/// Returns the position inside the text, nearest to the byte `at`, where it may be cut: the later
+/// one of two equally near. Returns the end if there is no such position inside.
 pub fn nearest_internal_break(at: usize, text: &[u8]) -> usize
     requires { at ≤ length text.now }
     ensures boundary { IsUtf8 text.now → IsCharBoundary text.now result }
@@ -100,10 +97,9 @@ pub fn nearest_internal_break(at: usize, text: &[u8]) -> usize
     right
 }
 
-/// The place `at` itself, where it may be cut; else the nearest such place before it, if
-/// `bias_left`, or after it. Where none inside the text lies on that side, it is the nearest on the
-/// other side, which may be an end of the text. `at` is at most the length. Reads the bytes around
-/// the place; takes no memory.
+/// Returns `at` if the text may be cut there; else the nearest such position before it, if
+/// `bias_left`, or after it. If there is none inside the text on that side, returns the nearest on
+/// the other side, which may be an end of the text.
 pub fn find_good_split(at: usize, text: &[u8], bias_left: bool) -> usize
     requires { at ≤ length text.now }
     ensures boundary { IsUtf8 text.now → IsCharBoundary text.now result }

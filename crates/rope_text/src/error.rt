@@ -1,4 +1,4 @@
-//! Why calls are refused: what an `Error` says, and how it is printed.
+//! The errors of all calls, and their texts.
 //!
 //! `Error::CharIndexOutOfBounds(8, 5)` prints `Char index out of bounds: char index 8,
 //! Rope/RopeSlice char length 5`.
@@ -9,7 +9,7 @@ ghost use Rattle.rope_text.specs.ErrorText.{error_text, range_text};
 use std::alloc::{AllocError, AllocFailed};
 use std::fmt;
 
-/// Why a call was refused.
+/// The reason why a call failed.
 ///
 /// `Display` and `Debug` print the same text, which is ropey's for the errors that ropey has.
 #[derive(Clone, Copy, PartialEq, Eq)]
@@ -25,28 +25,28 @@ pub enum Error {
     Utf16IndexOutOfBounds(usize, usize),
     /// A byte index inside a character. No call of `ropey` returns it; the library for C does.
     ByteIndexNotCharBoundary(usize),
-    /// A byte range that starts or ends inside a character: its bounds as they were given.
+    /// A byte range that starts or ends inside a character: its bounds as given.
     ByteRangeNotCharBoundary(Option<usize>, Option<usize>),
     /// A byte range whose start is past its end.
     ByteRangeInvalid(usize, usize),
     /// A character range whose start is past its end.
     CharRangeInvalid(usize, usize),
-    /// A byte range past the end: its bounds as they were given, and the length in bytes.
+    /// A byte range past the end: its bounds as given, and the length in bytes.
     ByteRangeOutOfBounds(Option<usize>, Option<usize>, usize),
-    /// A character range past the end: its bounds as they were given, and the length in characters.
+    /// A character range past the end: its bounds as given, and the length in characters.
     CharRangeOutOfBounds(Option<usize>, Option<usize>, usize),
     /// The text would have more than `isize::MAX` bytes.
     TooLong,
-    /// Memory was refused.
+    /// An allocation failed.
     OutOfMemory,
-    /// Two ropes that were to be joined have different sets of line breaks.
+    /// Two ropes to be joined have different sets of line breaks.
     LineBreaksDiffer,
 }
 
-/// What a call that may be refused returns.
+/// The result of a call that may fail.
 pub type Result<T> = std::result::Result<T, Error>;
 
-/// The bounds of a range as they were given, which print as Rust writes a range.
+/// The bounds of a range as given, printed as Rust writes a range.
 #[derive(Clone, Copy)]
 struct Bounds(Option<usize>, Option<usize>);
 

@@ -1,8 +1,8 @@
-//! Counts over the bytes of a text, 32 bytes at once; over runs of blocks of 64 bytes, what each
-//! block counts is added up in 16 lanes, and the lanes are summed once a run.
+//! Counts over the bytes of a text, 32 bytes at a time; over runs of blocks of 64 bytes, the counts
+//! of each block are added up in 16 lanes, and the lanes are summed once a run.
 //!
-//! Most functions take what they count as an argument, which is a constant at nearly all calls:
-//! where the compiler expands such a call, it keeps the code for that mark alone.
+//! Most functions take the kind of mark to count as an argument, which is a constant at nearly all
+//! calls: where the compiler inlines such a call, it keeps the code for that mark alone.
 #![tactic(auto, using(crate::proofs::Blocks::begins_le, crate::proofs::Blocks::pairs_le, crate::proofs::Blocks::byte_break_count_le, crate::proofs::Blocks::marks_le))]
 
 ghost use Rattle.std.specs.Prelude.{◌≡◌, ◌+◌, ◌-◌, ◌*◌, ◌<◌, ◌≤◌, length, cond, count_by, drop, List, ℕ, take};
@@ -17,7 +17,7 @@ use crate::bits::{first_mark, ones_before, ones_between};
 use crate::{LineBreaks, TextInfo, known_set};
 use std::simd::prelude::*;
 
-/// What is counted: each begins with one byte.
+/// A mark that is counted. Each begins with one byte.
 #[derive(Clone, Copy)]
 pub(crate) enum Mark {
     /// A character.
@@ -28,7 +28,7 @@ pub(crate) enum Mark {
     Break(LineBreaks),
 }
 
-/// How many bytes behind a block say with it which marks begin there.
+/// Returns the number of bytes after a block that decide which marks begin in it.
 pub(crate) fn ahead(mark: Mark) -> usize
     ensures { result ≡ ahead mark }
 {
@@ -39,8 +39,8 @@ pub(crate) fn ahead(mark: Mark) -> usize
     }
 }
 
-// 1 in each lane of `x` where a mark begins, else 0; of the breaks the ASCII ones alone. The lanes
-// of `y` are the bytes behind those of `x`.
+// Returns 1 in each lane of `x` where a mark begins, else 0; of the breaks only the ASCII ones. The
+// lanes of `y` are the bytes after those of `x`.
 fn ones<const N: usize>(x: Simd<u8, N>, y: Simd<u8, N>, mark: Mark) -> Simd<u8, N>
     requires { N ≤ 64 }
     ensures { (ks : List ℕ) (g h : ℕ → ℕ) → length ks ≡ N → ((k : ℕ) → g k < 256)
@@ -64,7 +64,7 @@ fn ones<const N: usize>(x: Simd<u8, N>, y: Simd<u8, N>, mark: Mark) -> Simd<u8, 
     marks.select(Simd::splat(1), Simd::splat(0))
 }
 
-// Never inlined, so that the loops over blocks that have none of its bytes stay short.
+// Never inlined, so that loops over blocks without such bytes stay short.
 #[inline(never)]
 fn unicode_mask(bytes: &[u8], at: usize) -> u64
     requires { at + 34 ≤ length bytes.now }
@@ -80,7 +80,8 @@ fn unicode_mask(bytes: &[u8], at: usize) -> u64
     (low | (nel | ls_or_ps)).to_bitmask()
 }
 
-// Which of the 32 bytes from `at` on begin a mark, of the breaks the ASCII ones alone.
+// Returns the mask of the 32 bytes from `at` on that begin a mark, of the breaks only the ASCII
+// ones.
 fn ascii_mask(bytes: &[u8], at: usize, mark: Mark) -> u64
     requires { (at + 32) + ahead mark ≤ length bytes.now }
     ensures { (n : ℕ) → n ≤ 32 → HasNoMultibyte mark bytes.now at n
@@ -95,8 +96,8 @@ fn ascii_mask(bytes: &[u8], at: usize, mark: Mark) -> u64
     ones(x, y, mark).simd_eq(u8x32::splat(1)).to_bitmask()
 }
 
-/// Which of the 32 bytes from `at` on begin a mark. For breaks that may take several bytes, those
-/// behind the block are read too, since one may go on there.
+/// Returns the mask of the 32 bytes from `at` on that begin a mark. For breaks of several bytes,
+/// the bytes after the block are read too.
 pub(crate) fn known_mask(bytes: &[u8], at: usize, mark: Mark) -> u64
     requires { (at + 32) + ahead mark ≤ length bytes.now }
     ensures { IsBlockMask mark bytes.now at result }
@@ -120,8 +121,8 @@ pub(crate) struct Masks {
     pub pairs: u64,
 }
 
-/// Which of the 32 bytes from `at` on begin a break of the set, a character, and one of two code
-/// units: of ASCII by one test more.
+/// Returns the masks of the 32 bytes from `at` on that begin a break of the set, a character, and a
+/// surrogate pair. ASCII takes one test more.
 #[inline(always)]
 pub(crate) fn masks_of(bytes: &[u8], at: usize, breaks: LineBreaks) -> Masks
     requires { at + 34 ≤ length bytes.now }
@@ -145,8 +146,8 @@ pub(crate) fn masks_of(bytes: &[u8], at: usize, breaks: LineBreaks) -> Masks
     }
 }
 
-// Never inlined: with the masks of all three sets side by side, the compiler would put the chosen
-// one together bit by bit.
+// Never inlined: with the masks of all three sets side by side, the compiler would assemble the
+// chosen one bit by bit.
 #[inline(never)]
 fn mask_apart<const HAS_CR: bool>(bytes: &[u8], at: usize) -> u64
     requires { (at + 32) + ahead (Mark.Break (lf_or_cr_lf HAS_CR)) ≤ length bytes.now }
@@ -159,7 +160,8 @@ fn mask_apart<const HAS_CR: bool>(bytes: &[u8], at: usize) -> u64
     }
 }
 
-/// The same mask, where the set of breaks is known only as the program runs.
+/// Returns the mask of the 32 bytes from `at` on that begin a mark, for a set of breaks known only
+/// at run time.
 pub(crate) fn mask(bytes: &[u8], at: usize, mark: Mark) -> u64
     requires { (at + 32) + ahead mark ≤ length bytes.now }
     ensures { IsBlockMask mark bytes.now at result }
@@ -171,7 +173,7 @@ pub(crate) fn mask(bytes: &[u8], at: usize, mark: Mark) -> u64
     }
 }
 
-/// How many marks begin in the 32 bytes from `at` on.
+/// Returns the number of marks that begin in the 32 bytes from `at` on.
 pub(crate) fn marks_in(bytes: &[u8], at: usize, mark: Mark) -> usize
     requires { (at + 32) + ahead mark ≤ length bytes.now }
     ensures { marks mark (drop at bytes.now) ≡ result + marks mark (drop (at + 32) bytes.now) }
@@ -179,7 +181,7 @@ pub(crate) fn marks_in(bytes: &[u8], at: usize, mark: Mark) -> usize
     ones_before(known_mask(bytes, at, mark), 32)
 }
 
-/// Whether a mark begins with the byte `at`.
+/// Returns whether a mark begins with the byte `at`.
 pub(crate) fn is_mark(bytes: &[u8], at: usize, mark: Mark) -> bool
     requires { at < length bytes.now }
     ensures { result ≡ mark_at mark bytes.now at }
@@ -206,7 +208,7 @@ pub(crate) fn is_mark(bytes: &[u8], at: usize, mark: Mark) -> bool
     }
 }
 
-// The marks that begin from `from` on and before `to`, a byte at a time.
+// Returns the number of marks that begin from `from` on and before `to`, scanning byte by byte.
 fn marks_byte_by_byte(bytes: &[u8], from: usize, to: usize, mark: Mark) -> usize
     requires from { from ≤ to }
     requires to { to ≤ length bytes.now }
@@ -221,9 +223,9 @@ fn marks_byte_by_byte(bytes: &[u8], from: usize, to: usize, mark: Mark) -> usize
     total
 }
 
-/// How many marks begin from the byte `from` on and before `to`. Where they fit into one block,
-/// they are counted at once: near the end by the last block that can be read, of which what lies
-/// before `from` is left out.
+/// Returns the number of marks that begin from the byte `from` on and before `to`. A range within
+/// one block is counted at once: near the end in the last block that can be read, without the bytes
+/// before `from`.
 pub(crate) fn marks_between(bytes: &[u8], from: usize, to: usize, mark: Mark) -> usize
     requires from { from ≤ to }
     requires to { to ≤ length bytes.now }
@@ -237,12 +239,12 @@ pub(crate) fn marks_between(bytes: &[u8], from: usize, to: usize, mark: Mark) ->
     marks_byte_by_byte(bytes, from, to, mark)
 }
 
-// A text of so many bytes or more is counted at four places at once: it comes from slow memory, and
-// the four misses overlap.
+// A text of at least this many bytes is counted at four positions at once: it comes from slow
+// memory, and the four cache misses overlap.
 const LONG_BYTES: usize = 65_536;
 
-// The first whole blocks of a long text, none of a shorter one: their end, and how many marks begin
-// in them.
+// Counts the marks of the first whole blocks of a long text, in four quarters side by side. Returns
+// the end of those blocks and the count; both are 0 for a shorter text.
 #[inline(always)]
 fn marks_in_quarters(bytes: &[u8], to: usize, mark: Mark) -> (usize, usize)
     requires { to ≤ length bytes.now - ahead mark }
@@ -265,8 +267,8 @@ fn marks_in_quarters(bytes: &[u8], to: usize, mark: Mark) -> (usize, usize)
     (4 * quarter, first + second + third + fourth)
 }
 
-// The same of breaks, for each set. It is a function of its own, since with it the caller would be
-// too long to be expanded for each set.
+// Counts the breaks of the first whole blocks of a long text, with the set as a constant. A
+// function of its own, since its code would make the caller too long to be expanded for each set.
 fn breaks_in_quarters(bytes: &[u8], to: usize, breaks: LineBreaks) -> (usize, usize)
     requires { to ≤ length bytes.now - 2 }
     ensures bound { result.0 ≤ to }
@@ -276,8 +278,8 @@ fn breaks_in_quarters(bytes: &[u8], to: usize, breaks: LineBreaks) -> (usize, us
     known_set!(breaks => marks_in_quarters(bytes, to, Mark::Break(breaks)))
 }
 
-/// How many marks begin from the byte `from` on and before `to`. Inlined, since each caller's mark
-/// is a constant.
+/// Returns the number of marks that begin from the byte `from` on and before `to`. Inlined, since
+/// each caller's mark is a constant.
 #[inline(always)]
 pub(crate) fn count_marks(bytes: &[u8], from: usize, to: usize, mark: Mark) -> usize
     requires from { from ≤ to }
@@ -295,10 +297,10 @@ pub(crate) fn count_marks(bytes: &[u8], from: usize, to: usize, mark: Mark) -> u
     total + marks_between(bytes, i, to, mark)
 }
 
-/// The most blocks of a run: a lane takes up to four at each of them, and holds 255.
+/// The maximum number of blocks in a run: each adds up to four to a lane, which holds at most 255.
 const BLOCKS: usize = 63;
 
-// The `ones` of the 16 bytes from `at` on.
+// Returns the `ones` of the 16 bytes from `at` on.
 fn ones_from(bytes: &[u8], at: usize, mark: Mark) -> u8x16
     requires { at + 17 ≤ length bytes.now }
     ensures { IsSum 1 (count_of mark bytes.now at 16) result }
@@ -308,7 +310,7 @@ fn ones_from(bytes: &[u8], at: usize, mark: Mark) -> u8x16
     ones(x, y, mark)
 }
 
-// The sums, with the `ones` of the 64 bytes from `at` on added.
+// Adds the `ones` of the 64 bytes from `at` on to the sums.
 fn add_ones(sums: u8x16, bytes: &[u8], at: usize, mark: Mark) -> u8x16
     requires { at + 65 ≤ length bytes.now }
     ensures { (most total : ℕ) → most + 4 < 256 → IsSum most total sums
@@ -326,8 +328,8 @@ fn is_multibyte_break(x: u8, y: u8, z: u8) -> bool
     (x == 0xC2 && y == 0x85) || (x == 0xE2 && y == 0x80 && (z == 0xA8 || z == 0xA9))
 }
 
-// How many NEL, LS and PS begin in the 64 bytes from `at` on, where they are breaks: their first
-// bytes are rare, and each is looked at by itself.
+// Returns the number of NEL, LS and PS that begin in the 64 bytes from `at` on, if the set has
+// them. Their first bytes are rare, and each is examined alone.
 fn multibyte_in(bytes: &[u8], at: usize, breaks: LineBreaks) -> usize
     requires { at + 66 ≤ length bytes.now }
     ensures { result ≡ multibyte_of breaks bytes.now at 64 }
@@ -357,8 +359,8 @@ fn sum_of(lanes: u8x16) -> usize
     lanes.cast::<u16>().strict_reduce_sum() as usize
 }
 
-// The counts of a run of whole blocks from `from` on and before `to`, behind which two more bytes
-// are read. It has one block at least, if one is there.
+// Returns the counts of a run of whole blocks from `from` on and before `to`, after which two more
+// bytes are read. It has at least one block, if there is one.
 #[inline(always)]
 fn count_run(bytes: &[u8], from: usize, to: usize, breaks: LineBreaks) -> TextInfo
     requires from { from ≤ to }
@@ -398,8 +400,9 @@ fn count_run(bytes: &[u8], from: usize, to: usize, breaks: LineBreaks) -> TextIn
     }
 }
 
-/// The counts of whole blocks from `from` on and before `to`, behind which two more bytes are read:
-/// fewer bytes than a block are left. Inlined, so that what a caller makes no use of isn't counted.
+/// Returns the counts of all whole blocks from `from` on and before `to`, after which two more
+/// bytes are read. Fewer bytes than a block remain. Inlined, so that a count that a caller ignores
+/// is not computed.
 #[inline(always)]
 pub(crate) fn count_blocks(bytes: &[u8], from: usize, to: usize, breaks: LineBreaks) -> TextInfo
     requires from { from ≤ to }
@@ -426,7 +429,7 @@ pub(crate) fn count_blocks(bytes: &[u8], from: usize, to: usize, breaks: LineBre
     counts
 }
 
-/// How many breaks begin before the byte `to`.
+/// Returns the number of breaks that begin before the byte `to`.
 pub(crate) fn count_breaks_before(bytes: &[u8], to: usize, breaks: LineBreaks) -> usize
     requires { to ≤ length bytes.now }
     ensures { byte_break_count breaks bytes.now
@@ -443,8 +446,8 @@ pub(crate) fn count_breaks_before(bytes: &[u8], to: usize, breaks: LineBreaks) -
     })
 }
 
-// What the bytes count, in blocks. Never inlined: in one function with the count of a few bytes, it
-// would make that one's counts go through memory, too.
+// Returns the counts of the bytes, in blocks. Never inlined: in one function with the counts of a
+// few bytes, it would make those go through memory, too.
 #[inline(never)]
 fn count_many(bytes: &[u8], breaks: LineBreaks) -> TextInfo
     ensures { AreCounts breaks bytes.now result }
@@ -463,13 +466,13 @@ fn count_many(bytes: &[u8], breaks: LineBreaks) -> TextInfo
     })
 }
 
-/// What the bytes of a text count, by one pass.
+/// Returns the counts of the bytes of a text, in one pass.
 #[inline(always)]
 pub(crate) fn count_all(bytes: &[u8], breaks: LineBreaks) -> TextInfo
     ensures { AreCounts breaks bytes.now result }
 {
     let len = bytes.len();
-    // One byte, as of a key that was pressed.
+    // One byte, such as a typed character.
     if len == 1 {
         return TextInfo {
             bytes: 1,
@@ -481,7 +484,7 @@ pub(crate) fn count_all(bytes: &[u8], breaks: LineBreaks) -> TextInfo
     if len > 32 {
         return count_many(bytes, breaks);
     }
-    // Few bytes are put before zeros, of which none begins a break, and are counted at once.
+    // Few bytes are copied before zeros, none of which begins a break, and counted at once.
     let mut block = [0; 34];
     block[..len].copy_from_slice(bytes);
     TextInfo {

@@ -1,20 +1,20 @@
-//! Plain texts: line breaks, counts, conversions between indices, places where a text may be cut,
-//! index ranges and errors; and the definitions that the contracts of every crate cite.
+//! Plain texts: line breaks, counts, conversions between indices, positions where a text may be
+//! cut, index ranges and errors; and the definitions that the contracts of every crate cite.
 //!
 //! Modules, lowest first:
 //! - `bits`: masks of blocks of 32 bytes
-//! - `lanes`: counts over bytes, a block at once
-//! - `seek`: the byte of a character, a code unit or a break
-//! - `back`: the line break before a place, with what lies between
+//! - `lanes`: counts over bytes, a block at a time
+//! - `seek`: the byte offset of a character, a code unit or a break
+//! - `back`: backward searches for a line break, with the counts of the text passed
 //! - `str_utils`: counts of a text, conversions between its indices
 //! - `text_info`: the four counts of a text
-//! - `utf8`: which front of some bytes is UTF-8
-//! - `crlf`: places where a text may be cut
+//! - `utf8`: the longest prefix of some bytes that is UTF-8
+//! - `crlf`: positions where a text may be cut
 //! - `line_breaks`: the three sets of line breaks
 //! - `range`: the six kinds of ranges
-//! - `error`: why a call is refused
-//! - `steps`: counts of what a call did
-//! - `laws`: what the definitions have in common
+//! - `error`: the errors of all calls
+//! - `steps`: counts of the work of a call
+//! - `laws`: properties of the definitions
 #![tactic(auto)]
 
 mod back;
@@ -38,50 +38,50 @@ pub use range::IndexRange;
 pub use steps::Steps;
 pub use text_info::TextInfo;
 
-/// The most bytes that a text may have.
+/// The maximum number of bytes of a text.
 pub const MAX_TEXT_BYTES: usize = isize::MAX as usize;
 
-/// The most bytes that a leaf holds.
+/// The maximum number of bytes of a leaf.
 pub const MAX_BYTES: usize = 984;
 
-/// The fewest bytes of a leaf that is cut off a longer text: a place that may be cut is never more
-/// than three bytes back.
+/// The minimum number of bytes of a leaf that is cut off a longer text: there is always a position
+/// to cut at most three bytes before the maximum.
 pub const MIN_CUT_BYTES: usize = MAX_BYTES - 3;
 
-/// The most bytes of a text that goes into a leaf: wherever it goes, a full leaf with it in can be
-/// cut into two leaves.
+/// The maximum number of bytes of a text inserted into a leaf: a full leaf plus this text always
+/// splits into two leaves.
 pub const MAX_SHORT_BYTES: usize = 981;
 
-/// The most bytes that a leaf and a text that goes into it have together.
+/// The maximum number of bytes of a leaf and a text inserted into it.
 pub const MAX_JOINED_BYTES: usize = MAX_BYTES + MAX_SHORT_BYTES;
 
-/// Two neighbouring leaves that fit into one are merged where either has fewer bytes than this.
+/// Two adjacent leaves that fit into one are merged if either has fewer bytes than this.
 pub const MIN_BYTES: usize = 462;
 
-/// The fewest bytes that two neighbouring leaves have together.
+/// The minimum number of bytes of two adjacent leaves.
 pub const MIN_TWO_LEAVES_BYTES: usize = 492;
 
-/// A leaf of so many bytes may stand beside any other, since every leaf has at least one. Where a
-/// leaf without room is cut in two, each half has at least so many.
+/// A leaf of at least this many bytes may be adjacent to any other, since every leaf has at least
+/// one byte. Each half of a split leaf has at least this many.
 pub const MIN_HALF_BYTES: usize = MIN_TWO_LEAVES_BYTES - 1;
 
-/// How many bytes of a device are held at once. If so many are held and no text stands at their
-/// front, they are refused.
+/// The size of the buffer for bytes of a device. A full buffer that begins with no text is refused.
 pub const BUFFER_BYTES: usize = 2 * MAX_BYTES;
 
-/// The most children that an inner node has.
+/// The maximum number of children of an inner node.
 pub const MAX_CHILDREN: usize = 24;
 
-/// The fewest children that an inner node has, unless it is the root.
+/// The minimum number of children of an inner node that is not the root.
 pub const MIN_CHILDREN: usize = 12;
 
-/// The leaves under a node that is made with others of its level: fewer than it can have, so that
-/// it has room for the other half when a leaf is cut in two, and no node on the way has to be made
-/// anew. All leaves are full then, so the first insert into each of them cuts it.
+/// The number of leaves given to a fresh node: below the maximum, so that the node has room when a
+/// leaf splits and no node on the path is copied. Fresh leaves are full, so the first insert into
+/// each splits it.
 pub const FRESH_LEAVES: usize = 20;
 
-/// The same of the children of a node over nodes, which part more seldom.
+/// The number of children given to a fresh inner node of inner nodes; these split less often than
+/// leaves.
 pub const FRESH_CHILDREN: usize = 22;
 
-/// The most levels that a tree has above its leaves.
+/// The maximum number of levels above the leaves.
 pub const MAX_HEIGHT: usize = 18;

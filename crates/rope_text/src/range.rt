@@ -1,5 +1,5 @@
 //! Ranges of indices: the six kinds of Rust. `2..5`, `2..=4` and, in a text of 5 characters, `2..`
-//! are the same.
+//! are equal. No call takes memory.
 ghost use Rattle.std.specs.Prelude.{◌≡◌, ℕ, ◌-◌, ◌<◌, None, Some, Option, MatchOption, Ok, Err};
 ghost use Rattle.std.specs.Range.{range_inclusive_start, range_inclusive_end};
 ghost use Rattle.rope_text.specs.Range.{excluded_end};
@@ -8,18 +8,18 @@ ghost use Rattle.rope_text.specs.Edit.{range_start, range_end, char_range_error}
 use crate::{Error, Result};
 use std::ops::{Range, RangeFrom, RangeFull, RangeInclusive, RangeTo, RangeToInclusive};
 
-/// A range of indices, given by its start and its excluded end, each `None` where it is open.
+/// A range of indices, given by its start and its excluded end, each `None` if it is open.
 pub trait IndexRange: Drop {
     ghost given_start: { Self → Option ℕ };
 
     ghost given_end: { Self → Option ℕ };
 
-    /// The first index, or `None` where the range has no start. Takes constant time and no memory.
+    /// Returns the first index, or `None` if the range has no start.
     fn start(&self) -> Option<usize>
         ensures { result ≡ given_start self.now };
 
-    /// The index past the last, or `None` where the range has no end. An inclusive end is one more
-    /// than what is given, and `usize::MAX` at most. Takes constant time and no memory.
+    /// Returns the excluded end, or `None` if the range has none. An inclusive end is increased by
+    /// one, to at most `usize::MAX`.
     fn end(&self) -> Option<usize>
         ensures { result ≡ given_end self.now };
 }
@@ -108,12 +108,12 @@ impl IndexRange for RangeToInclusive<usize> {
     }
 }
 
-/// The bounds of a range in a text of `len` characters. Takes constant time and no memory.
+/// Returns the bounds of a range in a text of `len` characters.
 ///
 /// # Errors
 ///
-/// First `CharRangeOutOfBounds`, with the bounds and the number of characters, where a bound is
-/// past `len`; then `CharRangeInvalid`, where the start is past the end.
+/// First `CharRangeOutOfBounds`, with the bounds and the number of characters, if a bound is past
+/// `len`; then `CharRangeInvalid`, if the start is past the end.
 pub fn char_bounds<R: IndexRange>(range: &R, len: usize) -> Result<(usize, usize)>
     ensures { MatchOption (char_range_error (R.given_start range.now) (R.given_end range.now) len)
         (result ≡ Ok (range_start (R.given_start range.now), range_end (R.given_end range.now) len))

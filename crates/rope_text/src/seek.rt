@@ -1,8 +1,9 @@
-//! Searches for places in the bytes of a text: whole blocks of 32 bytes are counted until the one
-//! that holds the place, and that one is halved. What is left behind the last block is gone through
-//! byte by byte. A place that isn't there is the end.
+//! Searches in the bytes of a text: whole blocks of 32 bytes are counted up to the block with the
+//! position searched for, and a binary search finishes there. The tail is scanned byte by byte. If
+//! there is no such position, the result is the end.
 //!
-//! The first line break of a text is found with what the text before it counts, in one pass.
+//! The first line break of a text is found together with the counts of the text before it, in one
+//! pass.
 #![tactic(auto, using(crate::proofs::Blocks::begins_le, crate::proofs::Blocks::pairs_le, crate::proofs::Blocks::byte_break_count_le))]
 
 ghost use Rattle.std.specs.Prelude.{◌≡◌, ◌+◌, ◌<◌, ◌≤◌, List, ℕ, length, count_by, drop, take, IsTrue};
@@ -17,7 +18,8 @@ use crate::bits::{first_mark, ones_before, ones_between, place_of_mark};
 use crate::lanes::{Mark, ahead, is_mark, known_mask, marks_between, marks_in, mask, masks_of};
 use crate::{LineBreaks, known_set};
 
-// The byte with which the mark `n` begins, counted from the byte `from` on, byte by byte.
+// Returns the byte with which the mark `n`, counted from the byte `from`, begins. Scans byte by
+// byte.
 fn find(bytes: &[u8], from: usize, n: usize, mark: Mark) -> usize
     requires { from ≤ length bytes.now }
     ensures { IsPlaceOf mark bytes.now from n result }
@@ -34,7 +36,7 @@ fn find(bytes: &[u8], from: usize, n: usize, mark: Mark) -> usize
     bytes.len()
 }
 
-/// The same in blocks.
+/// Returns the byte with which the mark `n`, counted from the byte `from`, begins. Scans by blocks.
 #[inline(always)]
 pub(crate) fn find_from(bytes: &[u8], from: usize, n: usize, mark: Mark) -> usize
     requires { from ≤ length bytes.now }
@@ -53,8 +55,8 @@ pub(crate) fn find_from(bytes: &[u8], from: usize, n: usize, mark: Mark) -> usiz
     find(bytes, at, left, mark)
 }
 
-/// The blocks before the character `n`, two at a time: their end, and which character it is from
-/// there on.
+/// Skips whole pairs of blocks before the character `n`. Returns their end, and the number of the
+/// character counted from there.
 pub(crate) fn skip_chars(bytes: &[u8], n: usize) -> (usize, usize)
     ensures { IsPassed Mark.Char bytes.now n result.0 result.1 }
 {
@@ -70,14 +72,15 @@ pub(crate) fn skip_chars(bytes: &[u8], n: usize) -> (usize, usize)
     (at, left)
 }
 
-/// The same from the end, where it is known how many characters there are: the last two blocks that
-/// begin at or before the character `n`, or the start, and which character it is from there on.
+/// Skips whole pairs of blocks from the end back to the character `n`, in bytes of `chars`
+/// characters. Returns the start of the last pair that begins at or before the character, or 0, and
+/// the number of the character counted from there.
 pub(crate) fn skip_chars_back(bytes: &[u8], n: usize, chars: usize) -> (usize, usize)
     requires within { n ≤ chars }
     requires chars { chars ≡ count_by begins_char bytes.now }
     ensures { IsPassed Mark.Char bytes.now n result.0 result.1 }
 {
-    // What is left are the characters from `n` on that begin before `at`.
+    // `left` is the number of characters from `n` on that begin before `at`.
     let (mut at, mut left) = (bytes.len(), chars - n);
     while at >= 64 {
         let passed = marks_in(bytes, at - 64, Mark::Char) + marks_in(bytes, at - 32, Mark::Char);
@@ -90,8 +93,10 @@ pub(crate) fn skip_chars_back(bytes: &[u8], n: usize, chars: usize) -> (usize, u
     (0, n)
 }
 
-/// The same of breaks, by single blocks. The bytes at the end that only say which breaks begin
-/// before them are counted by themselves, since no block is read there.
+/// Skips single blocks from the end back to the break `n`, in bytes of `break_count` breaks.
+/// Returns a position at or before the break, and the number of the break counted from there. The
+/// last bytes, which decide whether breaks begin before them, are counted separately: no block is
+/// read there.
 pub(crate) fn skip_breaks_back(
     bytes: &[u8],
     n: usize,
@@ -107,7 +112,7 @@ pub(crate) fn skip_breaks_back(
     if break_count - n <= behind {
         return (at, behind - (break_count - n));
     }
-    // What is left are the breaks from `n` on that begin before `at`.
+    // `left` is the number of breaks from `n` on that begin before `at`.
     let mut left = break_count - n - behind;
     while at >= 32 {
         let passed = marks_in(bytes, at - 32, Mark::Break(breaks));
@@ -120,7 +125,8 @@ pub(crate) fn skip_breaks_back(
     (0, n)
 }
 
-/// A place that a search has come to, and what begins before it.
+/// A position that a search has reached, and the numbers of characters and pairs that begin before
+/// it.
 #[derive(Clone, Copy)]
 pub(crate) struct Passed {
     pub at: usize,
@@ -129,7 +135,7 @@ pub(crate) struct Passed {
 }
 
 impl Passed {
-    /// The start of a text.
+    /// Returns the start of a text.
     pub fn none() -> Passed
         ensures passed { (bytes : List ℕ) → HasPassed bytes result }
         ensures none { result.chars + result.pairs ≡ 0 }
@@ -142,8 +148,8 @@ impl Passed {
     }
 }
 
-/// A place at or before the code unit `n`, from the end back over whole blocks, where it is known
-/// what the text counts. It is the end if no code unit has that number.
+/// Skips whole blocks from the end back to a position at or before the code unit `n`, in bytes of
+/// known counts. Returns the end if there is no such code unit.
 pub(crate) fn skip_units_back(bytes: &[u8], n: usize, chars: usize, pairs: usize) -> Passed
     requires chars { chars ≡ count_by begins_char bytes.now }
     requires pairs { pairs ≡ count_by begins_pair bytes.now }
@@ -166,8 +172,8 @@ pub(crate) fn skip_units_back(bytes: &[u8], n: usize, chars: usize, pairs: usize
     passed
 }
 
-/// The byte at which the character begins that holds the code unit `n`, counted from the byte
-/// `from` on, byte by byte.
+/// Returns the byte at which the character that contains the code unit `n`, counted from the byte
+/// `from`, begins. Scans byte by byte.
 pub(crate) fn find_unit(bytes: &[u8], from: usize, n: usize) -> usize
     requires { from ≤ length bytes.now }
     ensures { IsUnitPlaceOf bytes.now from n result }
@@ -185,8 +191,8 @@ pub(crate) fn find_unit(bytes: &[u8], from: usize, n: usize) -> usize
     bytes.len()
 }
 
-/// The byte at which the character `n` begins, and how many breaks begin before it. Inlined, since
-/// each caller's set is a constant.
+/// Returns the byte at which the character `n` begins, and the number of breaks that begin before
+/// it. Inlined, since each caller's set is a constant.
 #[inline(always)]
 pub(crate) fn line_of_char(bytes: &[u8], n: usize, breaks: LineBreaks) -> (usize, usize)
     ensures place { IsPlaceOf Mark.Char bytes.now 0 n result.0 }
@@ -208,8 +214,8 @@ pub(crate) fn line_of_char(bytes: &[u8], n: usize, breaks: LineBreaks) -> (usize
     (to, break_count + more)
 }
 
-/// The whole blocks before some break: their end and their characters, and which break it is from
-/// there on.
+/// The whole blocks before a break: their end, their characters, and the number of the break
+/// counted from their end.
 #[derive(Clone, Copy)]
 struct Blocks {
     end: usize,
@@ -217,7 +223,7 @@ struct Blocks {
     left: usize,
 }
 
-// The whole blocks before the break `n`.
+// Skips the whole blocks before the break `n`.
 fn skip_known(bytes: &[u8], n: usize, breaks: LineBreaks) -> Blocks
     ensures passed { IsPassed (Mark.Break breaks) bytes.now n result.end result.left }
     ensures chars { count_by begins_char bytes.now
@@ -236,8 +242,8 @@ fn skip_known(bytes: &[u8], n: usize, breaks: LineBreaks) -> Blocks
     Blocks { end, chars, left }
 }
 
-/// The byte with which the break `n` begins, where it is known how many breaks there are: from the
-/// side that has fewer of them. Inlined, since each caller's set is a constant.
+/// Returns the byte with which the break `n` begins, in bytes of `break_count` breaks, from the
+/// side with fewer of them. Inlined, since each caller's set is a constant.
 #[inline(always)]
 pub(crate) fn find_break(bytes: &[u8], n: usize, break_count: usize, breaks: LineBreaks) -> usize
     requires within { n ≤ break_count }
@@ -253,7 +259,7 @@ pub(crate) fn find_break(bytes: &[u8], n: usize, break_count: usize, breaks: Lin
     find_from(bytes, from, left, Mark::Break(breaks))
 }
 
-/// How many bytes the character has that begins with the byte.
+/// Returns the number of bytes of the character that begins with the byte.
 pub(crate) fn width_of(byte: u8) -> usize
     ensures { result ≡ char_width byte }
 {
@@ -265,8 +271,8 @@ pub(crate) fn width_of(byte: u8) -> usize
     }
 }
 
-/// The bytes and the characters before the line `line_idx`, or all of them where no line has that
-/// number. Inlined, so that what a caller makes no use of isn't counted.
+/// Returns the numbers of bytes and characters before the line `line_idx`, or of all if there is no
+/// such line. Inlined, so that a count that a caller ignores is not computed.
 #[inline(always)]
 pub(crate) fn front_of_line(text: &str, line_idx: usize, breaks: LineBreaks) -> (usize, usize)
     ensures bytes { result.0 ≡ line_to_byte breaks (chars text.now) line_idx }
@@ -285,9 +291,9 @@ pub(crate) fn front_of_line(text: &str, line_idx: usize, breaks: LineBreaks) -> 
     (to, chars)
 }
 
-/// The bytes before a place, with no line break among them, and what they count.
-// In this order: with the two counts side by side, the compiler would add them up in one vector
-// register, which takes longer.
+/// The bytes before a position, with no line break among them, and their counts.
+// In this order: the compiler would add up two adjacent counts in one vector register, which takes
+// longer.
 #[derive(Clone, Copy)]
 pub(crate) struct Front {
     pub chars: usize,
@@ -295,8 +301,8 @@ pub(crate) struct Front {
     pub pairs: usize,
 }
 
-// Goes on from a place near the end to the next break, or to the end of the last block that can be
-// read; a place behind that end stays.
+// Advances from a position near the end to the next break, or to the end of the last block that can
+// be read. A position after that end stays.
 fn go_in_last_block(bytes: &[u8], from: Front, breaks: LineBreaks) -> Front
     requires near { length bytes.now ≤ from.at + 34 }
     requires front { IsFront breaks bytes.now from.chars from.at from.pairs }
@@ -318,9 +324,9 @@ fn go_in_last_block(bytes: &[u8], from: Front, breaks: LineBreaks) -> Front
     }
 }
 
-// The same to the next break or to the end of the bytes. Never inlined: it is needed once a chunk,
-// and would only make its callers longer. It moves a place that it is given: for one that it
-// answered, a caller would clear stack at each line.
+// Advances from a position near the end to the next break or to the end of the bytes. Never
+// inlined: each chunk needs it once, and it would make its callers longer. The position is passed
+// by reference: to receive one as a result, a caller would clear stack at each line.
 #[inline(never)]
 fn go_to_end(bytes: &[u8], front: &mut Front, breaks: LineBreaks)
     requires near { length bytes.now ≤ front.old.at + 34 }
@@ -339,9 +345,8 @@ fn go_to_end(bytes: &[u8], front: &mut Front, breaks: LineBreaks)
     *front = Front { chars, at, pairs };
 }
 
-/// The bytes before the one at which the last character of the first line break begins, or all, and
-/// what they count: a block at a time. A set that is known where this is called leaves no test for
-/// it in the loop.
+/// Returns the bytes before the last character of the first line break, or all bytes, with their
+/// counts, a block at a time. A set that is constant at the call leaves no test of it in the loop.
 #[inline(always)]
 pub(crate) fn to_first_break(bytes: &[u8], breaks: LineBreaks) -> Front
     ensures front { IsFront breaks bytes.now result.chars result.at result.pairs }

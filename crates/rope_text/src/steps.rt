@@ -1,21 +1,20 @@
-//! Counts of what a call did in a tree. After a look-up in a rope of one chunk, `nodes` is 1 and
+//! Counts of the work of a call in a tree. After a lookup in a rope of one chunk, `nodes` is 1 and
 //! `compares` is 0.
 ghost use Rattle.std.specs.Prelude.{◌≡◌};
 
-/// What a counted call did: the nodes that it entered, the totals that it compared, the nodes that
-/// it made.
+/// The work of a counted call: nodes entered, totals compared, nodes made.
 #[derive(Clone, Copy, Debug, Default, PartialEq, Eq)]
 pub struct Steps {
-    /// The nodes that were entered.
+    /// The number of nodes entered.
     pub nodes: u64,
-    /// The running totals of children that an index was compared with.
+    /// The number of running totals that an index was compared with.
     pub compares: u64,
-    /// The leaves and inner nodes that were made, copies among them.
+    /// The number of leaves and inner nodes made, including copies.
     pub made: u64,
 }
 
 impl Steps {
-    /// All counts 0. Takes constant time and no memory.
+    /// Returns counts that are all 0.
     pub fn new() -> Steps
         ensures { result ≡ record { nodes = 0; compares = 0; made = 0 } }
     {

@@ -1,7 +1,6 @@
-//! The counts of a text: bytes, characters, surrogate pairs and line breaks.
+//! The counts of a text: bytes, characters, surrogate pairs and line breaks. No call takes memory.
 //!
-//! Of `"é\r\n"`, with a set that has CR, they are 4 bytes, 3 characters, no surrogate pair and 1
-//! line break.
+//! With a set that has CR, `"é\r\n"` has 4 bytes, 3 characters, no surrogate pair and 1 line break.
 ghost use Rattle.std.specs.Prelude.{◌≡◌, ◌+◌, ◌<◌, ◌≤◌, ◌^◌, [], ◌++◌, false, length, take, List, ℕ};
 ghost use Rattle.std.specs.Str.{chars};
 ghost use Rattle.rope_text.specs.Breaks.{break_count};
@@ -20,30 +19,29 @@ use crate::str_utils::{
 };
 use crate::{LineBreaks, known_set};
 
-/// How many bytes, characters, surrogate pairs in UTF-16 and line breaks a text has. Copying it
-/// takes no memory.
+/// The numbers of bytes, characters, UTF-16 surrogate pairs and line breaks of a text.
 #[derive(Clone, Copy, Debug, Default, PartialEq, Eq)]
 pub struct TextInfo {
-    /// The characters.
+    /// The number of characters.
     pub chars: usize,
-    /// The characters that take two code units in UTF-16.
+    /// The number of characters that take two UTF-16 code units.
     pub utf16_surrogates: usize,
-    /// The line breaks, by the set that was named.
+    /// The number of line breaks of the given set.
     pub break_count: usize,
-    /// The bytes.
+    /// The number of bytes.
     pub bytes: usize,
 }
 
 impl TextInfo {
-    /// The counts of the empty text: all 0. Takes constant time and no memory.
+    /// Returns the counts of the empty text: all 0.
     pub fn new() -> TextInfo
         ensures { (breaks : LineBreaks) → result ≡ info_of breaks [] }
     {
         TextInfo::default()
     }
 
-    /// The counts of a text, its line breaks by the set. Reads the text once; takes no memory.
-    // Never inlined: the counts of a leaf take the time of a call many times over.
+    /// Returns the counts of a text, in one pass.
+    // Never inlined: counting a leaf takes many times as long as the call.
     #[inline(never)]
     pub fn from_str(text: &str, breaks: LineBreaks) -> TextInfo
         ensures { result ≡ info_of breaks (chars text.now) }
@@ -51,8 +49,8 @@ impl TextInfo {
         TextInfo::of_short(text, breaks)
     }
 
-    /// The same, for a text that mostly has few bytes, such as one that is put in or taken out.
-    // Inlined: a call would store the counts and load them again.
+    /// Returns the counts of a text that is usually short, such as one inserted or removed.
+    // Inlined to avoid a store-forwarding stall on the counts.
     #[inline(always)]
     pub fn of_short(text: &str, breaks: LineBreaks) -> TextInfo
         ensures { result ≡ info_of breaks (chars text.now) }
@@ -60,16 +58,15 @@ impl TextInfo {
         count_all(text.as_bytes(), breaks)
     }
 
-    /// The counts of a text up to the end of its first line break of the set, or of all of it.
-    /// Reads the text once, up to there; takes no memory.
-    // Inlined: a call would store the counts and load them again.
+    /// Returns the counts of a text up to the end of its first line break, or of all of it, in one
+    /// pass up to there.
+    // Inlined to avoid a store-forwarding stall on the counts.
     #[inline(always)]
     pub fn of_first_line(text: &str, breaks: LineBreaks) -> TextInfo
         ensures { result ≡ info_of breaks (first_line breaks (chars text.now)) }
     {
         let bytes = text.as_bytes();
-        // Each set has a loop of its own, since marks that come from one of three places are slow
-        // to put together.
+        // Each set has a loop of its own: selecting between the masks of three sets is slow.
         let front = known_set!(breaks => to_first_break(bytes, breaks));
         let mut line = TextInfo {
             bytes: front.at,
@@ -85,10 +82,10 @@ impl TextInfo {
         line
     }
 
-    /// Of the text before the byte `end`, where its last line starts, or the line `skip` line
-    /// breaks before it: that byte, and the counts from there up to `end`. `end` lies in no
-    /// character and no CR LF. Reads the text once, from `end` back to there; takes no memory.
-    // Inlined: a call would store the counts and load them again.
+    /// Finds the start of the last line of the text before the byte `end`, or of the line `skip`
+    /// line breaks earlier. Returns the start's byte offset and the counts from there up to `end`.
+    /// `end` is inside no character and no CR LF. Reads the text once, backward from `end`.
+    // Inlined to avoid a store-forwarding stall on the counts.
     #[inline(always)]
     pub fn of_last_line(
         text: &str,
@@ -119,10 +116,9 @@ impl TextInfo {
         (start, line)
     }
 
-    /// The counts of the text before the line `line_idx`, which is not the first, by the line
-    /// breaks of the set, of a text whose counts are known. Reads the side of that line that has
-    /// fewer line breaks, and counts no characters where there are as many of them as bytes; takes
-    /// no memory.
+    /// Returns the counts of the text before the line `line_idx`, which is not the first. The
+    /// counts of the whole text are known. Reads the side of that line with fewer line breaks, and
+    /// counts no characters in ASCII.
     pub fn before_line(text: &str, info: TextInfo, line_idx: usize, breaks: LineBreaks) -> TextInfo
         requires later { 0 < line_idx }
         requires within { line_idx ≤ break_count breaks (chars text.now) }
@@ -144,10 +140,10 @@ impl TextInfo {
         front
     }
 
-    /// The counts of the text before a character, by itself: of a text whose counts are known, and
-    /// the byte at which that character begins. Reads the shorter of the two sides, or the front
-    /// where the place lies in a CR LF; takes no memory.
-    // Inlined: a call would store the counts and load them again.
+    /// Returns the counts of the text before the character `char_idx`, which begins at the byte
+    /// `byte_idx`. The counts of the whole text are known. Reads the shorter side, or the front if
+    /// the position is inside a CR LF.
+    // Inlined to avoid a store-forwarding stall on the counts.
     #[inline(always)]
     pub fn of_front(
         text: &str,
@@ -162,7 +158,7 @@ impl TextInfo {
         ensures { result ≡ info_of breaks (take char_idx (chars text.now)) }
     {
         if !is_break(byte_idx, text.as_bytes()) {
-            // Between CR and LF: the CR is a break of the front, and none of the text.
+            // Between CR and LF: the CR is a break of the front, but not of the text.
             return TextInfo::from_str(&text[..byte_idx], breaks);
         }
         TextInfo {
@@ -173,8 +169,8 @@ impl TextInfo {
         }
     }
 
-    /// The sums: the counts of two texts joined, unless CR meets LF there, which makes one line
-    /// break less. Each sum is below 2^64. Takes constant time and no memory.
+    /// Adds counts. The sums are the counts of the joined text, unless CR meets LF at the seam,
+    /// which removes one line break. Each sum is below 2^64.
     pub fn plus(self, other: TextInfo) -> TextInfo
         requires { HasSum self other }
         ensures sum { result ≡ info_sum self other }
@@ -190,8 +186,8 @@ impl TextInfo {
         }
     }
 
-    /// The differences: the counts of what follows a front, unless CR meets LF there. No count of
-    /// the front is greater than the text's. Takes constant time and no memory.
+    /// Subtracts the counts of a prefix. The differences are the counts of the rest, unless CR
+    /// meets LF at the seam. No count of `front` exceeds that of `self`.
     pub fn minus(self, front: TextInfo) -> TextInfo
         requires { HasPart self front }
         ensures sum { info_sum front result ≡ self }

@@ -1,9 +1,9 @@
-//! Bytes that are checked for UTF-8, 32 at once. No call takes memory.
+//! Bytes that are checked for UTF-8, 32 at a time. No call takes memory.
 //!
-//! Each byte is tested against the three before it. Loads one, two and three places back put these
-//! into the same lane, so that nothing is carried from one block to the next. 64 bytes of ASCII are
-//! one test. Only from the last character before a wrong byte, or an unfinished one at the end, is
-//! the rest left to `str::from_utf8`, which goes byte by byte.
+//! Each byte is tested against the three before it. Loads at offsets of one, two and three bytes
+//! put these into the same lane, so that no state is carried from block to block. 64 bytes of ASCII
+//! take one test. `str::from_utf8` checks byte by byte only the rest after the last complete
+//! character before an error, or the unfinished character at the end.
 #![tactic(auto)]
 
 ghost use Rattle.std.specs.Prelude.{◌≡◌, ◌+◌, ◌<◌, ◌≤◌, length, take, List, ℕ, MatchOption, IsTrue, count_by, slice_index};
@@ -17,19 +17,19 @@ ghost use Rattle.rope_text.specs.Utf8.{is_fault, HasNoFault, IsTwice};
 
 use std::simd::prelude::*;
 
-// What may be wrong with two neighbouring bytes, a bit for each fault:
+// The possible faults of two adjacent bytes, a bit for each:
 //
-//     1  the first byte of a longer character, and no continuation
+//     1  the first byte of a longer character, without a continuation
 //     2  a continuation after ASCII
 //     4  C0 or C1
 //     8  three bytes for a character that takes fewer
 //    16  a surrogate
 //    32  four bytes for a character that takes fewer, or F5 or above
 //    64  above the last character
-//   128  two continuations, which are right behind the first byte of three or four
+//   128  two continuations, immediately after the first byte of three or four
 //
-// Each table has the faults that half a byte leaves possible, and a fault is there if all three
-// have it. Byte shuffles work on 16 lanes, so each table is written twice.
+// Each table has the faults that half a byte leaves possible, and a fault exists if all three have
+// it. Byte shuffles work on 16 lanes, so each table is written twice.
 const BY_FIRST_HIGH: [u8; 32] = [
     2, 2, 2, 2, 2, 2, 2, 2, 128, 128, 128, 128, 5, 1, 25, 97, 2, 2, 2, 2, 2, 2, 2, 2, 128, 128,
     128, 128, 5, 1, 25, 97,
@@ -45,7 +45,7 @@ const BY_SECOND_HIGH: [u8; 32] = [
     214, 1, 1, 1, 1,
 ];
 
-// For each lane, what the table has at this place.
+// Looks up an index in the table for each lane.
 #[inline(always)]
 fn look_up(table: u8x32, places: u8x32) -> u8x32
     requires { Each1 (λ k. k < 16) places }
@@ -56,9 +56,9 @@ fn look_up(table: u8x32, places: u8x32) -> u8x32
     table.swizzle_dyn_within::<16>(places)
 }
 
-// Whether in some lane the byte of `b` can't follow those of `x`, `y` and `z`, which stand before
-// it in this order. Where `x` or `y` begins a character that is not yet at its end, `b` and `z`
-// have to be two continuations.
+// Returns whether in some lane the byte of `b` can't follow those of `x`, `y` and `z`, which
+// precede it in this order. If `x` or `y` begins a character that is not complete, `b` and `z` must
+// be two continuations.
 #[inline(always)]
 fn has_fault(x: u8x32, y: u8x32, z: u8x32, b: u8x32) -> bool
     ensures { (ks : List ℕ) (f g h i : ℕ → ℕ) → length ks ≡ 32
@@ -76,7 +76,7 @@ fn has_fault(x: u8x32, y: u8x32, z: u8x32, b: u8x32) -> bool
     found.simd_ne(wanted).to_bitmask() != 0
 }
 
-// Whether a byte of the block from `at` on can't follow those before it.
+// Returns whether a byte of the block at `at` can't follow those before it.
 #[inline(always)]
 fn block_has_fault(bytes: &[u8], at: usize) -> bool
     requires from { 3 ≤ at }
@@ -91,8 +91,8 @@ fn block_has_fault(bytes: &[u8], at: usize) -> bool
     has_fault(x, y, z, b)
 }
 
-// Whether the 61 bytes from `at` on and the three before them are ASCII: then each may follow those
-// before it.
+// Returns whether the 61 bytes from `at` on and the three before them are ASCII. If so, each may
+// follow those before it.
 #[inline(always)]
 fn is_ascii(bytes: &[u8], at: usize) -> bool
     requires from { 3 ≤ at }
@@ -104,7 +104,7 @@ fn is_ascii(bytes: &[u8], at: usize) -> bool
     lanes.simd_ge(u8x64::splat(0x80)).to_bitmask() == 0
 }
 
-// Whether the byte `b` can't follow `x`, `y` and `z`.
+// Returns whether the byte `b` can't follow `x`, `y` and `z`.
 fn is_fault(x: u8, y: u8, z: u8, b: u8) -> bool
     ensures { result ≡ is_fault x y z b }
 {
@@ -116,8 +116,8 @@ fn is_fault(x: u8, y: u8, z: u8, b: u8) -> bool
     misplaced || (overlong || ((z == 0xED && b >= 0xA0) || (z == 0xF4 && b >= 0x90)))
 }
 
-// How many bytes were checked from the front and have no fault. The last block ends where the bytes
-// do, and most of it may have been checked before.
+// Returns the length of a prefix that was checked and has no fault. The last block ends at the end
+// of the bytes, and may overlap checked ones.
 fn front_without_fault(bytes: &[u8]) -> usize
     ensures bound { result ≤ length bytes.now }
     ensures none { HasNoFault bytes.now result }
@@ -155,7 +155,7 @@ fn front_without_fault(bytes: &[u8]) -> usize
     bytes.len()
 }
 
-// The end of the last whole character up to `at`.
+// Returns the end of the last complete character up to `at`.
 fn last_char_end(bytes: &[u8], at: usize) -> usize
     requires bound { at ≤ length bytes.now }
     requires none { HasNoFault bytes.now at }
@@ -176,7 +176,7 @@ fn last_char_end(bytes: &[u8], at: usize) -> usize
     }
 }
 
-/// How many bytes the longest front has that is a whole UTF-8 text.
+/// Returns the length of the longest prefix that is complete UTF-8.
 pub fn valid_len(bytes: &[u8]) -> usize
     ensures { result ≡ utf8_valid_len bytes.now }
 {
@@ -187,14 +187,14 @@ pub fn valid_len(bytes: &[u8]) -> usize
     }
 }
 
-/// The longest front that is a whole UTF-8 text.
+/// Returns the longest prefix that is complete UTF-8.
 pub fn front(bytes: &[u8]) -> &str
     ensures { result.now ≡ text_front bytes.now }
 {
     unsafe { str::from_utf8_unchecked(&bytes[..valid_len(bytes)]) }
 }
 
-/// The bytes as a text, if they are UTF-8.
+/// Returns the bytes as a text, or `None` if they aren't UTF-8.
 pub fn text_of(bytes: &[u8]) -> Option<&str>
     ensures { MatchOption result (IsUtf8 bytes.now → ⊥)
         (λ text. (text.now ≡ bytes.now) × IsUtf8 bytes.now) }

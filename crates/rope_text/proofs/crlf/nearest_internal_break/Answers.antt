@@ -5,7 +5,7 @@ use Rattle.rope_text.proofs.Nearest.{right_is_nearer, left_is_nearer, left_is_on
 use Rattle.rope_text.proofs.crlf.nearest_internal_break.Goals.{else-at-gt0-via-then-at-gt0+then-at-text+else-is_break, else-at-gt0-via-then-at-gt0+else-at-text, else-at-gt0-via-else-at-gt0, After-next_break-right, then-right-text-via-then-right-text, then-right-text-via-else-right-text+then-at-left}
 use Rattle.rope_text.proofs.crlf.nearest_internal_break.Goals as goal
 
--- no cut inside lies at the place itself
+-- no cut inside is at the position itself
 before : (c : After-next_break-right) (k : ℕ) → 0 < k → k < length c.args.text.now → IsTrue (is_cut c.args.text.now k) → k ≤ c.args.at → k ≤ c.prev_break-left.result
 before c k some inside cut up = ⊎_elim (λ (less : k < c.args.at). c.prev_break-left.ensures.nearest k less cut)
     (λ (more : c.args.at ≤ k).

@@ -17,7 +17,7 @@ returns-then-line_idx-eq0 c =
     let first : c.args.line_idx ≡ 0 = c.if-line_idx-eq0.true in
     record { bytes = rw first refl; chars = rw first refl }
 
--- where the last break before the line begins, and what is in front of it
+-- the start of the last break before the line, and the counts before it
 front : (c : After-marks_between) → IsPlaceOf (Break c.args.breaks) c.as_bytes-bytes.result.now 0 (c.args.line_idx - 1) c.find_from-to.result
     × (count_by begins_char c.as_bytes-bytes.result.now ≡ (c.match-breaks.blocks.chars + c.marks_between.result) + count_by begins_char (drop c.find_from-to.result c.as_bytes-bytes.result.now))
 front c =

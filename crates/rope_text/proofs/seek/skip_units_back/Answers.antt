@@ -3,7 +3,7 @@ use Rattle.rope_text.specs.Bytes.{begins_char, begins_pair}
 use Rattle.rope_text.proofs.Blocks.{count_by-front}
 use Rattle.rope_text.proofs.seek.skip_units_back.Goals as goal
 
--- what is counted before a place, a block further back
+-- the count before a position, a block further back
 before : (p : ℕ → Bool) (bs : List ℕ) (at block counted : ℕ) → 32 ≤ at → count_by p bs ≡ counted + count_by p (drop at bs)
     → count_by p (drop (at - 32) bs) ≡ block + count_by p (drop ((at - 32) + 32) bs)
     → (block ≤ counted) × (count_by p bs ≡ (counted - block) + count_by p (drop (at - 32) bs))

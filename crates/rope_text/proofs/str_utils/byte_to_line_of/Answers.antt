@@ -16,7 +16,7 @@ front breaks bs b p u at fits last =
     let line = rw (byte_place bs b p u at fits last) at (line_place breaks bs (byte_to_char (chars bs) b) u) in
     omega (arith, line, byte_to_line-byte_to_char breaks (chars bs) b)
 
--- the breaks of what follows the place p
+-- the breaks from the byte p on
 behind : (breaks : LineBreaks) (bs text : List ℕ) (p counted n : ℕ) → bs ≡ text → n ≡ length (take (length bs - p) (drop p bs))
     → byte_break_count breaks (take (length bs - p) (drop p bs)) ≡ counted + byte_break_count breaks (drop n (take (length bs - p) (drop p bs))) → counted ≡ byte_break_count breaks (drop p text)
 behind breaks bs text p counted n same size more =

@@ -9,7 +9,7 @@ use Rattle.rope_text.proofs.ConversionLaws.{byte_to_char-char_to_byte, byte_to_l
 use Rattle.rope_text.proofs.AsciiTexts.{ascii_char_to_line}
 use Rattle.rope_text.proofs.str_utils.char_to_line_of.Goals as goal
 
--- a character lies on the line of the byte at which it starts
+-- a character is on the line of the byte at which it starts
 line_of_start : (breaks : LineBreaks) (text : List ℕ) (i : ℕ) → byte_to_line breaks text (char_to_byte text i) ≡ char_to_line breaks text i
 line_of_start breaks text i =
     elim (cases_lt i (length text)) [

@@ -14,7 +14,7 @@ returns-then-info-eq0 c =
     let text : List ℕ = chars c.args.text.now in
     omega (arith, c.requires.chars, c.requires.pairs, c.if-info-eq0.true, c.min-before.ensures, length-take c.args.char_idx text, count_by-front (λ x. nat_le 0x1_0000 x) text c.args.char_idx)
 
--- the pairs before the character, and how many characters those are
+-- the pairs before the character, and the number of those characters
 front : (c : After-byte_to_surrogates_of) → (c.byte_to_surrogates_of.result ≡ surrogate_count (take c.args.char_idx (chars c.args.text.now)))
     × (c.char_to_byte_idx_of-place.result ≡ char_to_byte (chars c.args.text.now) c.args.char_idx)
     × (c.min-before.result ≡ length (take c.args.char_idx (chars c.args.text.now)))

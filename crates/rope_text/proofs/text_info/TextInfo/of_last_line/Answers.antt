@@ -7,7 +7,7 @@ use Rattle.rope_text.proofs.LastLines.{end_in, start_in, some_char, left_in, fou
 use Rattle.rope_text.proofs.text_info.TextInfo.of_last_line.Goals.{After-as_bytes-bytes, Joined-breaks, Joined-is_found, in-Lf, in-CrLf, in-Unicode, then-is_found, else-is_found}
 use Rattle.rope_text.proofs.text_info.TextInfo.of_last_line.Goals as goal
 
--- what is asked, of the text's bytes
+-- the precondition, for the text's bytes
 between : (c : After-as_bytes-bytes) → IsBetween (chars c.as_bytes-bytes.result.now) c.args.end
 between c = rw c.as_bytes-bytes.ensures.value c.requires.between
 
