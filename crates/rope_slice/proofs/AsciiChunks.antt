@@ -1,4 +1,4 @@
--- A chunk of a text that has as many bytes as characters has as many, too.
+-- A chunk of an ASCII text is ASCII.
 use Rattle.std.proofs.Common.{◌≡◌, ℕ, ◌∷◌, List, length, ap, arith, length-append}
 use Rattle.std.proofs.lemmas.Str.{length-le-encodes}
 use Rattle.std.specs.List.{concat}

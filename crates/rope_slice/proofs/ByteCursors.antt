@@ -14,13 +14,13 @@ use Rattle.rope_slice.specs.Point.{IsChunkAt}
 use Rattle.rope_slice.specs.Bytes.{at_byte, IsByteCursor}
 use Rattle.rope_slice.proofs.Points.{leaves_next, here_solid, AreSolid_same, chunk_bytes, chunk_some, sides_same}
 
--- a cursor with a byte to the left, or to the right, in its chunk, which shows what another one does
+-- a cursor with a byte to the left, or to the right, in its chunk, with the items of another cursor
 pub record IsReady (is_left back : Bool) (old : Sides ℕ) (p : Place) (chunk : List ℕ) (at before total : ℕ) : Type 0 where
   pub cursor : IsByteCursor p chunk at before total
   pub some : MatchBool is_left (0 < at) (at < length chunk)
   pub same : at_byte p chunk at back ≡ old
 
--- the bytes before the next place, and those from it on
+-- the bytes before the next chunk, and those from it on
 module _ (p q : Place) (chunk next : List ℕ) (n : IsNext p q) (h : IsChunkAt p chunk) (k : IsChunkAt q next) where
   pub bytes_before : encode_utf8_all (concat q.before) ≡ encode_utf8_all (concat p.before) ++ chunk
   bytes_before =
@@ -37,7 +37,7 @@ module _ (p q : Place) (chunk next : List ℕ) (n : IsNext p q) (h : IsChunkAt p
   length_after : length (encode_utf8_all (concat p.after)) ≡ length next + length (encode_utf8_all (concat q.after))
   length_after = ap length bytes_after ∙ length-append next (encode_utf8_all (concat q.after))
 
-  -- past the last byte of a chunk it stands before the first one of the next
+  -- past the last byte of a chunk a cursor is before the first one of the next
   page_left : (at to : ℕ) → at ≡ length chunk → to ≡ 0 → encode_utf8_all (concat p.before) ++ take at chunk ≡ encode_utf8_all (concat q.before) ++ take to next
   page_left at to e z =
       let before = encode_utf8_all (concat p.before) in
@@ -100,7 +100,7 @@ pub ready_beside : (is_left back : Bool) (p q : Place) (chunk next : List ℕ) �
 ready_beside true back p q chunk next n k at to before total c e more t = ready_prev q p next chunk n k c.chunk_is at to before total back c e more t
 ready_beside false back p q chunk next n k at to before total c e more t = ready_next p q chunk next n c.chunk_is k at to before total back c e more t
 
--- a chunk is within what is behind its end
+-- the bytes of a chunk are among those before its end
 pub before_room : (is_left : Bool) (p q : Place) (next : List ℕ) → IsBeside is_left p q → IsChunkAt q next → (chunk : List ℕ) (at to before total : ℕ) → IsByteCursor p chunk at before total
     → to ≡ (if is_left then length next else 0) → to ≤ before + at
 before_room true p q next n k chunk at to before total c t = omega (arith, t, c.before_is, length_before q p next chunk n k c.chunk_is)
@@ -139,7 +139,7 @@ some_chars : (text : List ℕ) → 0 < byte_len text → 0 < length text
 some_chars [] h = absurd (omega arith)
 some_chars (c ∷ cs) h = omega arith
 
--- the cursor at a byte of a text that is the leaves of a place
+-- a cursor at a byte of a text that consists of leaves
 module _ (text : List ℕ) (p : Place) (whole : concat (leaves p) ≡ text) (chunk : List ℕ) (h : IsChunkAt p chunk) (at : ℕ) where
   parts : text ≡ concat p.before ++ (p.here ++ concat p.after)
   parts = sym whole ∙ concat-append p.before (p.here ∷ p.after)

@@ -1,4 +1,4 @@
--- A place between two characters: where it starts, and a line's step.
+-- A position between two characters: its start, and a step over a line.
 use Rattle.std.proofs.Common.{◌≡◌, ℕ, ◌+◌, ◌^◌, ◌<◌, ◌≤◌, false, List, [], ◌∷◌, ◌++◌, length, take, drop, refl, sym, ap, subst, ◌∙◌, arith, append_assoc, inl, inr}
 use Rattle.std.specs.List.{concat}
 use Rattle.std.proofs.lemmas.Bool.{cases_lt}
@@ -40,7 +40,7 @@ pub apart_back : (x y r : List ℕ) → parts_crlf (x ++ y) r ≡ false → part
 apart_back x [] r a = refl
 apart_back x (c ∷ y) r a = sym (parts_crlf-append x c y r) ∙ a
 
--- the place before a character of a part
+-- the position before a character of a slice
 module _ (c : Content) (p : Place) (at i b : ℕ) (kept : IsPart c) (text_is : concat (leaves p) ≡ c.text) (chunks_are : 0 < length c.text → leaves p ≡ c.chunks)
     (place : length (concat p.before) + at ≡ i) (within : at ≤ length p.here) (bytes : b ≡ byte_len (take at p.here)) where
   char_is : byte_to_char p.here b ≡ at
@@ -71,7 +71,7 @@ module _ (c : Content) (p : Place) (at i b : ℕ) (kept : IsPart c) (text_is : c
       ap (λ j. drop j p.here ++ concat p.after) char_is ∙ sym (drop-append-le at p.here (concat p.after) within)
       ∙ sym (drop-append-add (concat p.before) (p.here ++ concat p.after) at) ∙ ap (λ n. drop n (concat p.before ++ (p.here ++ concat p.after))) place ∙ ap (drop i) (sym parts)
 
--- a line's step from a place
+-- a step over a line from a position
 module _ (breaks : LineBreaks) (p : Place) (b : ℕ) (g : IsCaret p b) (info : TextInfo) (e : info ≡ info_of breaks (first_line breaks (drop (byte_to_char p.here b) p.here))) where
   rest_apart : parts_crlf (drop (byte_to_char p.here b) p.here) (concat p.after) ≡ false
   rest_apart =
@@ -149,7 +149,7 @@ module _ (breaks : LineBreaks) (p : Place) (b : ℕ) (g : IsCaret p b) (info : T
               ∙ sym (info_of-append_apart breaks back (first_line breaks r) apart) ∙ ap (info_of breaks) (sym line);
         }
 
--- what the chunk here has from a place on, it holds from there on
+-- the rest of the chunk here from a position on
 pub holds_ahead : (p : Place) (b : ℕ) (held : List ℕ) → held ≡ after_byte p.here b → HoldsAhead (halves_at p b) held
 holds_ahead p b held same =
     let k : ℕ = byte_to_char p.here b in

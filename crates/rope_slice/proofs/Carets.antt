@@ -1,4 +1,4 @@
--- Lines that lie over several chunks.
+-- Lines over several chunks.
 use Rattle.std.proofs.Common.{◌≡◌, ℕ, ◌+◌, ◌^◌, ◌<◌, ◌≤◌, false, List, [], ◌∷◌, ◌++◌, length, take, drop, refl, sym, ap, subst, ◌∙◌, arith, append_assoc, inl, inr}
 use Rattle.std.specs.List.{concat}
 use Rattle.std.specs.Str.{chars, IsUtf8, IsCharBoundary}
@@ -27,7 +27,7 @@ use Rattle.rope_tree.specs.Search.{IsSmall}
 use Rattle.rope_tree.proofs.Infos.{small_info}
 use Rattle.rope_slice.proofs.Spans.{leaves_next}
 
--- no CR meets LF behind joined texts, or before part of a text
+-- no CR meets LF after joined texts, or before a prefix of a text
 pub apart_joined : (x y r : List ℕ) → parts_crlf x (y ++ r) ≡ false → parts_crlf y r ≡ false → parts_crlf (x ++ y) r ≡ false
 apart_joined x [] r a b = ap (λ s. parts_crlf s r) (append-nil x) ∙ a
 apart_joined x (c ∷ y) r a b = parts_crlf-append x c y r ∙ b
@@ -35,7 +35,7 @@ apart_joined x (c ∷ y) r a b = parts_crlf-append x c y r ∙ b
 pub apart_front : (x y r : List ℕ) → parts_crlf x (y ++ r) ≡ false → parts_crlf x y ≡ false
 apart_front x y r a = ap (parts_crlf x) (sym (take_at y r (length y) refl)) ∙ parts_crlf-take x (y ++ r) (length y) a
 
--- the chunk here meets what follows
+-- the chunk here meets the text after it
 pub here_apart : (p : Place) → AreChunks p → parts_crlf p.here (concat p.after) ≡ false
 here_apart p h = (KeepsCrlf-right p.before (p.here ∷ p.after) h.kept).0
 
@@ -59,14 +59,14 @@ size_two s t = IsMeasure-byte_len.joined s t
 pub size_front : (n : ℕ) (t : List ℕ) → byte_len (take n t) ≤ byte_len t
 size_front n t = omega (arith, ap byte_len (take-append-drop n t), size_two (take n t) (drop n t))
 
--- where a character begins, bytes may be cut, and what follows is the text from there on
+-- at a character boundary bytes may be cut, and the rest is the text from there on
 pub between_boundary : (bytes : List ℕ) (b : ℕ) → IsUtf8 bytes → IsBetween (chars bytes) b → IsCharBoundary bytes b
 between_boundary bytes b utf8 between = subst (λ (n : ℕ). IsCharBoundary bytes n) between (byte_len_boundary bytes (byte_to_char (chars bytes) b) utf8)
 
 pub between_after : (bytes rest : List ℕ) (b : ℕ) → IsUtf8 bytes → IsBetween (chars bytes) b → rest ≡ drop b bytes → chars rest ≡ after_byte (chars bytes) b
 between_after bytes rest b utf8 between cut = chars_back bytes rest (chars bytes) (byte_to_char (chars bytes) b) b utf8 refl (sym between) cut
 
--- the bytes of a front are its place
+-- the bytes of a prefix give its length in characters
 pub front_place : (here : List ℕ) (n : ℕ) → n ≤ length here → byte_to_char here (byte_len (take n here)) ≡ n
 front_place here n within = byte_to_char-char_to_byte here n within
 

@@ -37,7 +37,7 @@ record PassedBack (breaks : LineBreaks) (skip : ℕ) (front back : List ℕ) (p 
   pub few : break_count breaks text + left ≡ skip
   pub counts : info ≡ info_of breaks text
 
--- the place behind the last byte is behind the last character
+-- the position after the last byte is after the last character
 end_at : (text : List ℕ) (size : ℕ) → size ≡ byte_len text → byte_to_char text size ≡ length text
 end_at text size e = ap (byte_to_char text) e ∙ byte_to_char-byte_len text
 
@@ -69,7 +69,7 @@ chunks_prev p q n h = record {
   fits = rw (← leaves_next q p n) h.fits;
 }
 
--- one text x of the chunk here, with y behind it in the chunk, after the texts q were passed
+-- a text x of the chunk here, with y after it in the chunk, after the texts q were passed
 module _ (breaks : LineBreaks) (skip left : ℕ) (front back x y q : List ℕ) (p : Place) (start : ℕ) (more info : TextInfo) (chunks : AreChunks p)
     (here_is : p.here ≡ x ++ y) (behind : y ++ concat p.after ≡ q ++ back) (front_is : front ≡ (concat p.before ++ x) ++ q) (few : break_count breaks q + left ≡ skip) (apart : parts_crlf x q ≡ false)
     (start_is : start ≡ byte_len (take (last_start breaks x left) x)) (counts : more ≡ info_of breaks (drop (last_start breaks x left) x)) (passed : info ≡ info_of breaks q) where
@@ -166,7 +166,7 @@ module _ (breaks : LineBreaks) (skip left : ℕ) (front back x y q : List ℕ) (
       let split = ap byte_len (sym (take-append-drop k x)) ∙ size_two (take k x) (drop k x) in
       (small_of breaks (drop k x) more counts (omega (arith, chunks.fits)), small_of breaks q info passed (omega (arith, chunks.fits)))
 
--- what was passed, and then a line's start further back
+-- the text passed, and then a line's start further back
 compose_back : (breaks : LineBreaks) (skip left : ℕ) (front back q : List ℕ) (p new : Place) (b : ℕ) (info more sum : TextInfo) → PassedBack breaks skip front back p info left q
     → PassesBack breaks left (concat p.before) (p.here ++ concat p.after) new b more → sum ≡ info_sum more info → PassesBack breaks skip front back new b sum
 compose_back breaks skip left front back q p new b info more sum h r s =
@@ -201,7 +201,7 @@ line_in_last breaks skip p q start more h n start_is counts =
     found_back breaks skip skip (concat p.before) (p.here ++ concat p.after) q.here [] [] q start more (info_of breaks [])
     (chunks_prev p q n h) (sym (append-nil q.here)) (ap concat n.after) front (omega (arith, no_breaks breaks)) (never (ends_in_cr q.here)) start_is counts refl more (nothing_more breaks more)
 
--- the chunk here, up to a place in it
+-- the chunk here, up to a position in it
 module _ (breaks : LineBreaks) (skip : ℕ) (p : Place) (b start : ℕ) (more : TextInfo) (g : IsCaret p b)
     (chunk : List ℕ) (same : chunk ≡ p.here) (found : start ≡ last_line_byte breaks chunk b skip) (counted : more ≡ last_line_info breaks chunk b skip) where
   start_is : start ≡ last_line_byte breaks p.here b skip
@@ -247,7 +247,7 @@ module _ (breaks : LineBreaks) (skip : ℕ) (p : Place) (b start : ℕ) (more : 
     caret_composed sum s =
         compose_back breaks skip (skip - more.break_count) (halves_at p b).front (halves_at p b).back (take (byte_to_char p.here b) p.here ++ []) p new d more other sum (caret_over none) r s
 
--- a place that parts no CR LF of the text parts none of the chunk
+-- a position that splits no CR LF of the text splits none of the chunk
 pub caret_apart : (p : Place) (b : ℕ) → parts_crlf (halves_at p b).front (halves_at p b).back ≡ false → parts_crlf (take (byte_to_char p.here b) p.here) (drop (byte_to_char p.here b) p.here) ≡ false
 caret_apart p b apart =
     let j : ℕ = byte_to_char p.here b in

@@ -18,7 +18,7 @@ no_front text = chars-nil
 pub no_rest : (text : List ℕ) (at : ℕ) → length text ≤ at → chars (drop at text) ≡ []
 no_rest text at past = ap chars (drop_all at text past) ∙ chars-nil
 
--- the characters before the next place, and those from it on
+-- the characters before the next chunk, and those from it on
 module _ (p q : Place) (chunk next : List ℕ) (n : IsNext p q) (h : IsChunkAt p chunk) (k : IsChunkAt q next) where
   chars_before : concat q.before ≡ concat p.before ++ chars chunk
   chars_before = ap concat n.before ∙ concat-append p.before (p.here ∷ []) ∙ ap (λ x. concat p.before ++ x) (append-nil p.here ∙ sym h.here)
@@ -26,7 +26,8 @@ module _ (p q : Place) (chunk next : List ℕ) (n : IsNext p q) (h : IsChunkAt p
   chars_after : concat p.after ≡ chars next ++ concat q.after
   chars_after = ap concat n.after ∙ ap (λ x. x ++ concat q.after) (sym k.here)
 
-  -- the chunk there is not empty, where it is not at the end; nor the one before, where it is not at the start
+  -- the next chunk is not empty, unless at the end; neither is the previous one, unless at the
+  -- start
   pub next_some : (at passed total : ℕ) → IsCharCursor p chunk at passed total → (passed ≡ total → ⊥) → 0 < length next
   next_some at passed total c more =
       let some : 0 < total = omega (arith, c.total_is, more) in

@@ -1,4 +1,4 @@
--- The part of a leaf that lies in an excerpt, and what lies before it.
+-- The part of a leaf inside an excerpt, and the counts before it.
 use Rattle.std.proofs.Common.{◌≡◌, ℕ, suc, ◌+◌, ◌-◌, ◌<◌, ◌≤◌, min, List, [], ◌++◌, length, take, drop, get_or, refl, sym, ap, ◌∙◌, arith, inl, inr, All}
 use Rattle.std.specs.List.{concat, slice_range}
 use Rattle.std.specs.Str.{chars, IsUtf8, IsCharBoundary}
@@ -24,7 +24,7 @@ use Rattle.rope_slice.specs.Found.{IsFoundChunk}
 use Rattle.rope_slice.proofs.Excerpts.{bytes_of_part, length_part, size_part, char_to_line_part}
 use Rattle.rope_slice.proofs.ClippedChunks.{Clipped, clipped, size_of_part, before_is_front, upto_is_front, front_less}
 
--- the characters of a text between two places, by their bytes
+-- the characters of a text between two boundaries, by their bytes
 pub chars_of_part : (bs cs r : List ℕ) (i j p q : ℕ) → IsUtf8 bs → chars bs ≡ cs → i ≤ j → p ≡ byte_len (take i cs) → q ≡ byte_len (take j cs) → r ≡ slice_range bs p q → chars r ≡ slice_range cs i j
 chars_of_part bs cs r i j p q u same l from to cut =
     let scalars = all_scalars-take (j - i) (drop i (chars bs)) (all_scalars-drop i (chars bs) (scalars-chars bs u)) in
@@ -125,7 +125,8 @@ module _ (breaks : LineBreaks) (chunks : List (List ℕ)) (a b k : ℕ) (l : k <
         count_is = o ∙ sym lines_before ∙ ap (char_to_line breaks (concat (clip chunks a b))) (sym chars_before);
       }
 
-  -- it holds the place of the part, or it is the last chunk of the part and the place is the end
+  -- it contains the index of the slice, or it is the last chunk of the slice and the index is the
+  -- end
   nonempty : All (λ chunk. 0 < length chunk) (clip chunks a b)
   nonempty = let cut : IsCutting (slice_range (concat chunks) a b) (clip chunks a b) = IsCutting-clip (concat chunks) chunks a b (record { joined = refl; nonempty = full }) in cut.nonempty
 

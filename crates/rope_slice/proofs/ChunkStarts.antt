@@ -93,7 +93,7 @@ ends_by_bytes p text whole le =
       length-append p.here (concat p.after),
     )
 
--- the counts of the whole text lie before its end
+-- the counts of the whole text are before its end
 all_before : (breaks : LineBreaks) (chunks : List (List ℕ)) (bytes chars count : ℕ) → bytes ≡ byte_len (concat chunks) → chars ≡ length (concat chunks) → count ≡ break_count breaks (concat chunks)
     → LieBefore (found_chunk breaks chunks (length chunks)) bytes chars count
 unfolding found_chunk
@@ -101,7 +101,7 @@ all_before breaks chunks bytes chars count b c l =
     let all : front_chunks chunks (length chunks) ≡ concat chunks = ap concat (take_all (length chunks) chunks (omega arith)) in
     rw all (record { bytes_are = b; chars_are = c; count_is = l ∙ sym (char_to_line_end breaks (concat chunks)) })
 
--- before the end of the text the place is that of the chunk that is found
+-- before the end of the text the cursor starts at the chunk found
 pub place_inside : (chunks : List (List ℕ)) (i n k : ℕ) → (i ≡ n → ⊥) → (if i == n then length chunks else k) ≡ k
 place_inside chunks i n k other =
     let e : (i == n) ≡ false = grind (arith, nat_tests) in
@@ -113,7 +113,7 @@ place_at_end chunks i n k at_end =
     let e : (i == n) ≡ true = grind (arith, nat_tests) in
     rw e refl
 
--- the place of the first character is the start
+-- the first character is in the first chunk
 pub first_place : (text : List ℕ) (chunks : List (List ℕ)) → IsCutting text chunks → chunk_place_at_char chunks 0 ≡ 0
 first_place text chunks cut = elim (cases_eq 0 (length (concat chunks))) [
   | inl none ↦ place_at_end chunks 0 (length (concat chunks)) _ none ∙ no_chunks chunks cut.nonempty (sym none)
@@ -212,7 +212,7 @@ front_le chunks k =
     let parts = ap concat (sym (take-append-drop k chunks)) ∙ concat-append (take k chunks) (drop k chunks) in
     omega (arith, ap length parts, length-append (front_chunks chunks k) (concat (drop k chunks)))
 
--- the place of the first character of a chunk is that chunk
+-- the first character of a chunk is in that chunk
 chunk_start_place : (chunks : List (List ℕ)) → All (λ chunk. 0 < length chunk) chunks → (k : ℕ) → k ≤ length chunks - 1 → chunk_place_at_char chunks (length (front_chunks chunks k)) ≡ k
 chunk_start_place [] full k le =
     let none : k ≡ 0 = omega (arith, le) in
@@ -223,7 +223,7 @@ chunk_start_place (chunk ∷ chunks) full k le =
     place_inside all (length (front_chunks all k)) (length (concat all)) _ (λ e. omega (arith, e, next, front_le all (suc k)))
     ∙ chunk_index_at_char_is all (length (front_chunks all k)) k (omega (arith, le)) (omega arith) (λ _. next)
 
--- the place of a line break is that of the chunk that it ends in
+-- a line break is in the chunk in which it ends
 module _ (breaks : LineBreaks) (text : List ℕ) (chunks : List (List ℕ)) (cut : IsCutting text chunks) (k i : ℕ) where
   lines_are : line_count breaks (concat chunks) ≡ line_count breaks text
   lines_are = ap (line_count breaks) cut.joined
@@ -233,7 +233,7 @@ module _ (breaks : LineBreaks) (text : List ℕ) (chunks : List (List ℕ)) (cut
       place_at_end chunks i (length (concat chunks)) _ (at ∙ ap length (sym cut.joined))
       ∙ sym (place_at_end chunks k (line_count breaks (concat chunks)) _ (past ∙ sym lines_are))
 
-  -- where the look-up answers how much lies before its chunk
+  -- the counts that the lookup returns are those before its chunk
   pub line_break_start : k < line_count breaks text → i ≡ length (front_chunks chunks (chunk_index_at_line_break breaks chunks k)) → chunk_place_at_char chunks i ≡ chunk_place_at_line_break breaks chunks k
   line_break_start less at =
       let index : ℕ = chunk_index_at_line_break breaks chunks k in

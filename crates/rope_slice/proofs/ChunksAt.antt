@@ -17,7 +17,7 @@ use Rattle.rope_slice.proofs.Measured.{Measured, measured}
 use Rattle.rope_slice.proofs.FoundChunks.{byte_index_single, char_index_single, break_index_single}
 use Rattle.rope_slice.proofs.LeafParts.{meets_byte, meets_char, leaf_in, ends_break}
 
--- the leaf has a character of the excerpt, and is the one that the index names
+-- the leaf has a character of the excerpt, and contains the index
 pub record HoldsIt (unit : Unit) (t : Tree) (start end : TextInfo) (leaf : List ℕ) (front : TextInfo) (idx : ℕ) : Type 0 where
   pub starts : front.chars < end.chars
   pub ends : start.chars < front.chars + length leaf

@@ -1,4 +1,4 @@
--- A chunk that is clipped: which one of the clip it is, and what lies before it.
+-- A chunk of a clip: its number, and the counts before it.
 use Rattle.std.proofs.Common.{◌≡◌, ℕ, zero, suc, ◌+◌, ◌-◌, ◌<◌, min, List, [], ◌∷◌, ◌++◌, length, take, drop, get_or, refl, sym, ap, ◌∙◌, arith, inl, inr, All}
 use Rattle.std.specs.List.{concat, slice_range}
 use Rattle.std.proofs.lemmas.Bool.{cases_lt}
@@ -19,7 +19,7 @@ pub cons_some : (s : List ℕ) (p : List (List ℕ)) → 0 < length s → cons_n
 cons_some [] p some = absurd (omega arith)
 cons_some (c ∷ s) p some = refl
 
--- chunks in front, and those behind them
+-- chunks, followed by more chunks
 pub clip-append : (p q : List (List ℕ)) (a b : ℕ) → clip (p ++ q) a b ≡ clip p a b ++ clip q (a - length (concat p)) (b - length (concat p))
 clip-append [] q a b =
     let from : a - 0 ≡ a = omega arith in

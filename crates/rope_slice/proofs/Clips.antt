@@ -43,7 +43,7 @@ pub no_chars : (text : List ℕ) → length text ≡ 0 → text ≡ []
 no_chars [] none = refl
 no_chars (c ∷ text) none = absurd (omega arith)
 
--- a later byte lies in a later character, or in the same
+-- a later byte is in a later character, or in the same one
 pub byte_to_char-mono : (text : List ℕ) (m n : ℕ) → m ≤ n → byte_to_char text m ≤ byte_to_char text n
 unfolding byte_to_char
 byte_to_char-mono text m n l =

@@ -1,4 +1,4 @@
--- A comparison under way.
+-- A comparison in progress.
 use Rattle.std.proofs.Common.{IsTrue, ◌↔◌, Ordering, Less, Equal, Greater, ◌==◌, Bool, true, false, not, nat_eq, refl, ◌≡◌, ℕ, List, [], ◌++◌, length, sym, ap, ◌∙◌}
 use Rattle.std.proofs.lemmas.Str.{encodes_same}
 use Rattle.std.specs.Str.{encode_utf8_all}
@@ -8,32 +8,32 @@ use Rattle.std.specs.Ordering.{nat_cmp, ordering_index, is_eq}
 use Rattle.rope_text.specs.Compare.{text_cmp}
 use Rattle.rope_text.proofs.CompareLaws.{same_from_text_cmp, text_cmp_same}
 
--- what is left compares as the whole, and a front is empty only where nothing is left
+-- the rests compare as the wholes, and a front is empty only if nothing remains
 pub record IsComparing (a b x a_rest y b_rest : List ℕ) : Type 0 where
   pub same : slice_cmp nat_cmp (x ++ a_rest) (y ++ b_rest) ≡ slice_cmp nat_cmp a b
   pub x_some : length x ≡ 0 → a_rest ≡ []
   pub y_some : length y ≡ 0 → b_rest ≡ []
 
--- what is no tie is one of two
+-- a tie is Equal
 eq_tells : (o : Ordering) → is_eq o ≡ true → o ≡ Equal
 eq_tells Less e = cc
 eq_tells Equal e = refl
 eq_tells Greater e = cc
 
--- pieces that are not the same don't tie
+-- unequal pieces don't tie
 pub untied : (o : Ordering) → (o ≡ Equal → ⊥) → not (ordering_index o == 1) ≡ true
 untied Less other = refl
 untied Equal other = absurd (other refl)
 untied Greater other = refl
 
--- two tests that say the same are the same
+-- tests that imply each other are equal
 same_tests : (r q : Bool) → (r ≡ true → q ≡ true) → (q ≡ true → r ≡ true) → r ≡ q
 same_tests false false f g = refl
 same_tests false true f g = g refl
 same_tests true false f g = sym (f refl)
 same_tests true true f g = refl
 
--- what says whether two texts are the same compares their bytes one by one
+-- a test for equal texts compares their bytes one by one
 pub same_by_bytes : (r : Bool) (s t : List ℕ) → IsTrue r ↔ (s ≡ t) → r ≡ pointwise nat_eq (encode_utf8_all s) (encode_utf8_all t)
 same_by_bytes r s t same =
     let bytes = bytes_decides (encode_utf8_all s) (encode_utf8_all t) in
@@ -44,7 +44,7 @@ bytes_tell s t =
     let bytes = bytes_decides (encode_utf8_all s) (encode_utf8_all t) in
     (λ h. encodes_same s t (bytes.0 h), λ e. bytes.1 (ap encode_utf8_all e))
 
--- a tie says that two texts are the same
+-- a tie means that two texts are equal
 pub ties_tell : (s t : List ℕ) (o : Ordering) (r : Bool) → o ≡ text_cmp s t → r ≡ is_eq o → IsTrue r ↔ (s ≡ t)
 ties_tell s t o r e f = (
   λ h. same_from_text_cmp s t (sym e ∙ eq_tells o (sym f ∙ h)),

@@ -1,4 +1,4 @@
--- The counts up to a place, from the leaf that holds it.
+-- The counts up to an index, from the leaf that contains it.
 use Rattle.std.proofs.Common.{◌≡◌, ℕ, zero, suc, ◌+◌, ◌-◌, ◌<◌, ◌≤◌, Bool, true, false, ◌&&◌, List, [], ◌∷◌, ◌++◌, length, take, drop, refl, sym, ap, ◌∙◌, arith}
 use Rattle.std.specs.List.{concat}
 use Rattle.std.proofs.lemmas.List.{take-append-drop, length-take-le, append_cancel_left, length-append, drop-append-le}
@@ -73,7 +73,7 @@ line_within line t leaf front f later =
     let past : line - 1 < break_count t.breaks (concat (take (f.index + 1) t.leaves)) = f.past in
     omega (arith, past, later, ap (break_count t.breaks) at.more, break_count-append t.breaks (before t.leaves f.index) leaf, at.count)
 
--- the counts before a line that starts behind a break of the leaf
+-- the counts before a line that starts after a break of the leaf
 module _ (line : ℕ) (t : Tree) (leaf : List ℕ) (front : TextInfo) (tree : IsTree t) (f : IsFound LineBreak (line - 1) t leaf front) (later : 0 < line) (within : line ≤ break_count t.breaks (text t)) where
   pub line_front : take (line_start t.breaks (text t) line) (text t) ≡ before t.leaves f.index ++ take (line_start t.breaks leaf (line - front.break_count)) leaf
   line_front =

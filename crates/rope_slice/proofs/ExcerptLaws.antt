@@ -25,14 +25,14 @@ use Rattle.rope_slice.specs.Edge.{IsExcerpt}
 use Rattle.rope_slice.proofs.Measured.{measured}
 use Rattle.rope_slice.proofs.Excerpts.{around_part, byte_to_char_part, utf16_to_char_part, size_of_front, char_to_line_part, byte_to_line_part, line_start_part}
 
--- an element of three lists in a row that lies in the second
+-- an element of the second of three joined lists
 within_middle : (xs ys zs : List ℕ) (i : ℕ) → i < length ys → slice_get (xs ++ (ys ++ zs)) (length xs + i) ≡ slice_get ys i
 within_middle xs ys zs i lt =
     slice_get-get_or (xs ++ (ys ++ zs)) (length xs + i) 0 (omega (arith, length-append xs (ys ++ zs), length-append ys zs))
     ∙ ap (λ x. Some x) (get_or-append-add xs (ys ++ zs) i 0 ∙ get_or_append_left ys zs 0 i lt)
     ∙ sym (slice_get-get_or ys i 0 lt)
 
--- the bytes up to the earlier of two places are the fewer
+-- the bytes up to the earlier of two indices are fewer
 bytes_of_min : (text : List ℕ) (i j : ℕ) → byte_len (take (min i j) text) ≡ min (byte_len (take i text)) (byte_len (take j text))
 bytes_of_min text i j = elim (cases_lt i j) [
   | inl less ↦ let same : min i j ≡ i = omega arith in rw same (omega (arith, size_le byte_len IsMeasure-byte_len text i j (omega arith)))
@@ -94,7 +94,8 @@ module _ (breaks : LineBreaks) (text : List ℕ) (start end : TextInfo) (s : IsE
   excerpt_count CodeUnit = let m = measured breaks text start end s in omega arith
   excerpt_count LineBreak = (measured breaks text start end s).count
 
-  -- no place of the part is past the end of the text, and none before its end is past the end of the part
+  -- no index of the slice is past the end of the text, and none before its end is past the end of
+  -- the slice
   pub place_within : (unit : Unit) (idx : ℕ) → idx ≤ end_index unit breaks (slice_range text start.chars end.chars) → count_of unit start + idx ≤ end_index unit breaks text
   place_within Byte idx within = let m = measured breaks text start end s in omega arith
   place_within Char idx within = let m = measured breaks text start end s in omega arith

@@ -1,4 +1,4 @@
--- The counts of an excerpt's text up to a place of the tree's text, and up to a line.
+-- The counts of an excerpt's text up to an index of the tree's text, and up to a line.
 use Rattle.std.proofs.Common.{◌≡◌, ℕ, ◌+◌, ◌-◌, ◌<◌, ◌≤◌, min, List, length, take, drop, sym, ap, ◌∙◌, arith, inl, inr}
 use Rattle.std.specs.List.{slice_range}
 use Rattle.std.proofs.lemmas.Bool.{cases_lt}
@@ -14,7 +14,7 @@ use Rattle.rope_slice.proofs.Measured.{measured, info_part}
 use Rattle.rope_slice.proofs.ExcerptLaws.{excerpt_line_to_char}
 
 module _ (breaks : LineBreaks) (text : List ℕ) (start end place : TextInfo) (s : IsExcerpt breaks text start end) where
-  -- the part up to a place before its end
+  -- the slice up to an index before its end
   pub up_to : start.chars < place.chars → place ≡ end_info breaks text place.chars → place.chars < end.chars → IsExcerpt breaks text start place
   up_to later counts less = record {
     some = later;
@@ -34,7 +34,7 @@ module _ (breaks : LineBreaks) (text : List ℕ) (start end place : TextInfo) (s
       let m = measured breaks text start end s in
       ap (info_of breaks) (sym (take_all (place.chars - start.chars) (slice_range text start.chars end.chars) (omega (arith, m.chars))))
 
-  -- a line's start of the tree's, behind the excerpt's own
+  -- a start of a line in the tree, after the excerpt's own start
   module _ (l : ℕ) (later : 0 < l) (place_is : place ≡ info_of breaks (take (line_start breaks text (start.break_count + l)) text)) where
     place_chars : place.chars ≡ line_start breaks text (start.break_count + l)
     place_chars = ap (λ x. x.chars) place_is ∙ length-take-le (line_start breaks text (start.break_count + l)) text (line_start-le-length breaks text (start.break_count + l))

@@ -16,13 +16,13 @@ use Rattle.rope_text.proofs.JoinLaws.{front-append_left, front-append_right}
 use Rattle.rope_text.proofs.SliceLaws.{char_to_line-drop, char_to_line-take, break_count-drop, line_start-drop, line_start-take}
 use Rattle.rope_text.proofs.ConversionLaws.{byte_to_line-byte_to_char}
 
--- what stands before a part, and the part, are what stands before its end
+-- the text before a slice and the slice are the text before its end
 pub front_and_part : (text : List ℕ) (a b : ℕ) → a ≤ b → take a text ++ slice_range text a b ≡ take b text
 front_and_part text a b l =
     let same : b ≡ a + (b - a) = omega arith in
     sym (ap (λ n. take n text) same ∙ take-add a (b - a) text)
 
--- a part is what follows its start in what stands before its end
+-- a slice is the text before its end without the text before its start
 pub part_of_front : (text : List ℕ) (a b : ℕ) → a ≤ b → slice_range text a b ≡ drop a (take b text)
 part_of_front text a b l =
     let same : b ≡ a + (b - a) = omega arith in
@@ -82,7 +82,7 @@ pub utf16_to_char_part : (text : List ℕ) (a b n : ℕ) → a ≤ b → b ≤ l
 unfolding utf16_to_char
 utf16_to_char_part text a b n l within fits = front_part utf16_len IsMeasure-utf16_len text a b n l within fits
 
--- the character that holds a byte of a text stands before the end
+-- the character that contains a byte of a text is before the end
 pub byte_to_char-less : (text : List ℕ) (n : ℕ) → n < byte_len text → byte_to_char text n < length text
 unfolding byte_to_char
 byte_to_char-less text n less = elim (cases_lt (byte_to_char text n) (length text)) [
@@ -90,7 +90,7 @@ byte_to_char-less text n less = elim (cases_lt (byte_to_char text n) (length tex
   | inr end ↦ absurd (omega (arith, front_fits byte_len IsMeasure-byte_len text n, ap byte_len (take_all (byte_to_char text n) text end)))
 ]
 
--- the first characters of a part, behind what stands before it
+-- the first characters of a slice, after the text before it
 pub front_of_part : (text : List ℕ) (a b i : ℕ) → i ≤ b - a → take (a + i) text ≡ take a text ++ take i (slice_range text a b)
 front_of_part text a b i l = take-add a i text ∙ ap (λ s. take a text ++ s) (sym (take-take-le i (b - a) (drop a text) l))
   where
@@ -103,7 +103,8 @@ front_of_part text a b i l = take-add a i text ∙ ap (λ s. take a text ++ s) (
 pub size_of_front : (size : List ℕ → ℕ) → IsMeasure size → (text : List ℕ) (a b i : ℕ) → i ≤ b - a → size (take (a + i) text) ≡ size (take a text) + size (take i (slice_range text a b))
 size_of_front size m text a b i l = ap size (front_of_part text a b i l) ∙ m.joined (take a text) (take i (slice_range text a b))
 
--- the breaks of a part with one character or more: those of what stands before its end, but for those that end at its start or before
+-- the breaks of a slice with at least one character: those of the text before its end, except those
+-- that end at its start or before
 module _ (breaks : LineBreaks) (text : List ℕ) (a b : ℕ) (some : a < b) (within : b ≤ length text) where
   inside : a ≤ length (take b text)
   inside = omega (arith, length-take-le b text within)

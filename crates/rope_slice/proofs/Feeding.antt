@@ -5,7 +5,7 @@ use Rattle.rope_text.specs.Compare.{blocks}
 use Rattle.rope_text.proofs.CompareLaws.{blocks_full, blocks_last, blocks_none}
 
 module _ {H : Type 0} (write : H → List ℕ → H) where
-  -- whatever follows, the writes so far and those of what is left are those of all
+  -- the writes so far and those of the rest are those of all, whatever follows
   pub record IsFeeding (start now : H) (all left : List ℕ) : Type 0 where
     pub writes : (rest : List ℕ) → fold write now (blocks (left ++ rest)) ≡ fold write start (blocks (all ++ rest))
 
@@ -33,7 +33,7 @@ module _ {H : Type 0} (write : H → List ℕ → H) where
   pub none_held : (now : H) (old bytes : List ℕ) (held : ℕ) → held ≡ 0 → IsFeeding now now (take held old ++ bytes) bytes
   none_held now old bytes held none = record { writes = λ rest. ap (λ n. fold write now (blocks ((take n old ++ bytes) ++ rest))) (sym none) }
 
-  -- a chunk goes from what is ahead to what is held or handed over
+  -- a chunk moves from the rest to the held or written bytes
   pub feed_chunk : (start now next : H) (all held kept bytes ahead left : List ℕ) → IsFeeding start now all (held ++ ahead) → ahead ≡ bytes ++ left
       → ((rest : List ℕ) → fold write next (blocks (kept ++ rest)) ≡ fold write now (blocks (held ++ (bytes ++ rest)))) → IsFeeding start next all (kept ++ left)
   feed_chunk start now next all held kept bytes ahead left f e w = record {
@@ -50,7 +50,7 @@ module _ {H : Type 0} (write : H → List ℕ → H) where
       sym (ap (λ x. fold write now (blocks x)) (append-nil (held ++ left) ∙ ap (λ x. held ++ x) e ∙ append-nil held))
       ∙ f.writes [] ∙ ap (λ x. fold write start (blocks x)) (append-nil all)
 
-  -- the end: what is held is the last block, if there is any
+  -- at the end the held bytes are the last block, if there are any
   pub fed_last : (start now : H) (all block left : List ℕ) (held : ℕ) → IsFeeding start now all (take held block ++ left) → left ≡ [] → length block ≡ 256 → 0 < held → held < 256
       → write now (take held block) ≡ fold write start (blocks all)
   fed_last start now all block left held f e size some room =

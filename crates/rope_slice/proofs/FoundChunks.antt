@@ -1,4 +1,4 @@
--- Which chunk a look-up answers: of a single chunk, and at a line break.
+-- The chunk that a lookup returns: of a single chunk, and at a line break.
 use Rattle.std.proofs.Common.{◌≡◌, ℕ, suc, ◌+◌, ◌-◌, ◌<◌, ◌≤◌, nat_le, List, [], ◌∷◌, ◌++◌, length, get_or, refl, sym, ap, ◌∙◌, arith, add-one, inl, inr, All}
 use Rattle.std.specs.List.{concat}
 use Rattle.std.proofs.lemmas.Bool.{cases_lt, le-leb, lt-leb, leb-true}
@@ -45,7 +45,8 @@ unfolding found_chunk
 found_single breaks text chunk k first same =
     rw first record { text_is = same ∙ sym (single_first text); bytes_are = refl; chars_are = refl; count_is = sym (char_to_line_start breaks (concat (single_chunk text))) }
 
--- the chunk that a look-up at a character answers starts there or before, and ends after it, unless it is the last
+-- the chunk that a lookup of a character returns starts there or before, and ends after it, unless
+-- it is the last
 pub record HoldsChar (chunks : List (List ℕ)) (i k : ℕ) : Type 0 where
   pub within : k ≤ length chunks - 1
   pub starts : length (front_chunks chunks k) ≤ i

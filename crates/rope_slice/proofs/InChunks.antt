@@ -1,4 +1,4 @@
--- What lies in one chunk: of some chunks, of a clip of them, of a plain text.
+-- Texts inside one chunk: of some chunks, of a clip of them, of a plain text.
 use Rattle.std.proofs.Common.{◌≡◌, ℕ, suc, ◌+◌, ◌-◌, ◌<◌, ◌≤◌, List, [], ◌∷◌, ◌++◌, length, take, drop, get_or, refl, sym, ap, ◌∙◌, arith, inl, inr}
 use Rattle.std.specs.List.{concat, slice_range}
 use Rattle.std.proofs.lemmas.Bool.{cases_lt}
@@ -16,7 +16,7 @@ use Rattle.rope_slice.specs.InChunk.{IsInChunk}
 use Rattle.rope_slice.proofs.Clips.{single_chunk-clip}
 use Rattle.rope_slice.proofs.ClippedChunks.{clip-append, split_at}
 
--- nothing is left of chunks before a place
+-- nothing remains of chunks before an index
 clip_past : (chunks : List (List ℕ)) (a b : ℕ) → length (concat chunks) ≤ a → clip chunks a b ≡ []
 clip_past [] a b l = refl
 clip_past (chunk ∷ chunks) a b l =
@@ -27,7 +27,7 @@ concat-single : (text : List ℕ) → concat (single_chunk text) ≡ text
 concat-single [] = refl
 concat-single (c ∷ text) = append-nil (c ∷ text)
 
--- from character k of a chunk on, between those before and behind it
+-- from character k of a chunk on, between the chunks before and after it
 module _ (p : List (List ℕ)) (s : List ℕ) (q : List (List ℕ)) (k : ℕ) (within : k ≤ length s) where
   cut : (j : ℕ) → j ≤ length (drop k s) → clip (p ++ (s ∷ q)) (length (concat p) + k) ((length (concat p) + k) + j) ≡ single_chunk (take j (drop k s))
   cut j l =
@@ -53,7 +53,7 @@ in_nth_chunk chunks n k i held l within place same =
     let here = rw parts at it in
     rw (place, same) here
 
--- what lies in a chunk lies in it where the chunks are clipped
+-- a text inside a chunk is inside one where the chunks are clipped
 pub in_clip : (text : List ℕ) (chunks : List (List ℕ)) (a b i : ℕ) (held : List ℕ) → IsInChunk text chunks (a + i) held → a ≤ b → b ≤ length text → IsInChunk (slice_range text a b) (clip chunks a b) i held
 in_clip text chunks a b i held it ordered within = record {
   text_is = λ j l m.
@@ -66,7 +66,7 @@ in_clip text chunks a b i held it ordered within = record {
       clip-clip chunks a b i (i + j) (omega arith) ∙ rw on at (it.chunks_are j l (omega arith));
 }
 
--- a text that is one chunk lies in it
+-- a text that is one chunk is inside it
 pub in_single : (text : List ℕ) (i : ℕ) (held : List ℕ) → held ≡ drop i text → IsInChunk text (single_chunk text) i held
 in_single text i held same =
     let part : (j : ℕ) → slice_range text i (i + j) ≡ take j held = λ j. (let size : (i + j) - i ≡ j = omega arith in rw (size, same) refl) in
@@ -103,7 +103,8 @@ in_found unit at t leaf front f k i held within place same =
     let l = lies_at unit at t leaf front f in
     in_nth_chunk t.leaves f.index k i held f.within (omega (arith, ap length l.leaf_is)) (omega (arith, place, l.chars)) (same ∙ ap (drop k) (sym l.leaf_is))
 
--- a part with so few bytes that it ends in the chunk: its characters are a front of the held ones, and are one chunk
+-- a slice short enough to end in the chunk: its characters are a prefix of the held ones, and are
+-- one chunk
 pub record EndsInChunk (text : List ℕ) (chunks : List (List ℕ)) (i e : ℕ) (held : List ℕ) : Type 0 where
   pub text_is : slice_range text i e ≡ take (e - i) held
   pub chunks_are : clip chunks i e ≡ single_chunk (take (e - i) held)

@@ -1,4 +1,4 @@
--- What every part keeps: of a plain text, and of an excerpt of a tree's.
+-- The invariant of every slice: of a plain text, and of an excerpt of a tree's.
 use Rattle.std.proofs.Common.{◌≡◌, ℕ, ◌-◌, ◌^◌, ◌<◌, Bool, true, false, ◌&&◌, List, [], ◌∷◌, ◌++◌, length, drop, refl, arith, All}
 use Rattle.std.specs.List.{concat, slice_range}
 use Rattle.std.specs.Str.{all_scalars, chars}

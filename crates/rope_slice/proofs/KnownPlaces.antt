@@ -1,4 +1,4 @@
--- The chunk that holds a place of which the bytes and the characters before it are known.
+-- The chunk that contains a position with known numbers of bytes and characters before it.
 use Rattle.std.proofs.Common.{◌≡◌, ℕ, ◌+◌, ◌-◌, ◌≤◌, List, ◌++◌, ◌∷◌, length, take, sym, ap, ◌∙◌, arith, inl, inr}
 use Rattle.std.specs.List.{concat}
 use Rattle.std.proofs.lemmas.Bool.{cases_lt}
@@ -12,7 +12,7 @@ use Rattle.rope_text.proofs.JoinLaws.{byte_to_char-append_left, byte_to_char-app
 use Rattle.rope_slice.specs.Path.{Place, leaves}
 use Rattle.rope_slice.proofs.Carets.{front_place, size_two}
 
--- the first characters of two texts lie in the first of them, if their bytes do
+-- the first characters of two texts are in the first of them, if their bytes are
 chars_within : (s t : List ℕ) (b : ℕ) → b ≤ byte_len s → byte_to_char (s ++ t) b ≤ length s
 chars_within s t b few = elim (cases_lt b (byte_len s)) [
   | inl less ↦ omega (arith, byte_to_char-append_left s t b less, byte_to_char-le-length s b)
@@ -21,8 +21,8 @@ chars_within s t b few = elim (cases_lt b (byte_len s)) [
       omega (arith, byte_to_char-append_right s t b most, none)
 ]
 
--- `bytes` bytes and `chars` characters of a text lie before a place; so many bytes lie in the chunks before, and the place is no
--- later than the chunk here ends
+-- `bytes` bytes and `chars` characters of a text are before a position; `front` bytes are in the
+-- chunks before, and the position is not after the end of the chunk here
 module _ (p : Place) (t : List ℕ) (chars bytes front : ℕ) (text_is : concat (leaves p) ≡ t) (within : chars ≤ length t) (bytes_are : bytes ≡ byte_len (take chars t))
     (front_is : front ≡ byte_len (concat p.before)) (starts : byte_len (concat p.before) ≤ bytes) (ends : bytes ≤ byte_len (concat p.before) + byte_len p.here) where
   abbrev rest : List ℕ

@@ -71,7 +71,7 @@ from_chunks xs ys at n e = record {
       ∙ get_or-chunk at n ys (k - at) 0 (omega (arith, from, to)) ∙ ap (λ j. get_or ys j 0) place;
 }
 
--- where no lane differs in either block, both are the same
+-- if no lane differs in either block, both are equal
 module _ (xs ys : List ℕ) (at next n : ℕ) (few : n ≤ 64) where
   abbrev others : List ℕ
   others = zip2 bit_or (zip2 other (chunk at n xs) (chunk at n ys)) (zip2 other (chunk next n xs) (chunk next n ys))
@@ -90,7 +90,7 @@ module _ (xs ys : List ℕ) (at next n : ℕ) (few : n ≤ 64) where
   pub second_same : length xs ≡ length ys → at + n ≤ length xs → next + n ≤ length xs → mask_l (map (top 7) others) % 2 ^ 64 ≡ 0 → IsSameFrom xs ys next n
   second_same size x z none = from_chunks xs ys next n (both_same size x z none).second
 
-  -- and the other way round
+  -- the converse
   pub same_blocks : xs ≡ ys → mask_l (map (top 7) others) % 2 ^ 64 ≡ 0
   same_blocks e =
       ap (λ l. mask_l (map (top 7) (zip2 bit_or (zip2 other (chunk at n xs) (chunk at n l)) (zip2 other (chunk next n xs) (chunk next n l)))) % 2 ^ 64) (sym e)

@@ -171,7 +171,8 @@ ends_break k at t start end leaf front tree s f some next last =
           ∙ p.at_char (i - 1) (omega arith) (omega arith));
     }
 
--- the leaf that holds the excerpt's first byte: how many of its characters, and of its bytes, stand before the excerpt
+-- the leaf that contains the excerpt's first byte: the numbers of its characters and bytes before
+-- the excerpt
 pub record StartsIn (start : TextInfo) (leaf : List ℕ) (front : TextInfo) : Type 0 where
   pub within : start.chars - front.chars ≤ length leaf
   pub place : start.chars ≡ front.chars + (start.chars - front.chars)

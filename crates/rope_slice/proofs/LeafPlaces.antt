@@ -1,4 +1,4 @@
--- The place of a byte in the leaf that holds it.
+-- The position of a byte in the leaf that contains it.
 use Rattle.std.proofs.Common.{◌≡◌, ℕ, ◌+◌, ◌-◌, ◌<◌, ◌≤◌, ◌↔◌, true, List, ◌++◌, length, take, drop, refl, sym, ap, subst, ◌∙◌, arith, inl, inr}
 use Rattle.std.specs.List.{slice_range}
 use Rattle.std.specs.Str.{chars, IsUtf8, IsCharBoundary}
@@ -38,7 +38,7 @@ boundary_of_cut bs text b utf8 same cut =
     let place : byte_to_char text b ≡ f.0 = ap (byte_to_char text) (sym size) ∙ byte_to_char-char_to_byte text f.0 within in
     is_boundary text b (ap (λ i. byte_len (take i text)) place ∙ size)
 
--- a byte of a text lies in one of its characters
+-- a byte of a text is in one of its characters
 byte_to_char-less : (text : List ℕ) (b : ℕ) → b < byte_len text → byte_to_char text b < length text
 unfolding byte_to_char
 byte_to_char-less text b less = elim (cases_lt (byte_to_char text b) (length text)) [
@@ -49,7 +49,7 @@ byte_to_char-less text b less = elim (cases_lt (byte_to_char text b) (length tex
       omega arith)
 ]
 
--- the leaf that holds a byte holds the character in which it lies
+-- the leaf that contains a byte contains its character
 module _ (b : ℕ) (t : Tree) (leaf : List ℕ) (front : TextInfo) (tree : IsTree t) (f : IsFound Byte b t leaf front) where
   less : b - front.bytes < byte_len leaf
   less = (found_byte b t leaf front f).0

@@ -1,4 +1,4 @@
--- The chunk of an excerpt that lies in a leaf, and what of the excerpt lies before it.
+-- The chunk of an excerpt inside a leaf, and the counts of the excerpt before it.
 use Rattle.std.proofs.Common.{◌≤◌, ◌^◌, ◌≡◌, ℕ, suc, ◌+◌, ◌-◌, ◌<◌, min, List, [], ◌∷◌, ◌++◌, length, take, get_or, refl, sym, ap, ◌∙◌, subst, arith, inl, inr, All, append_assoc}
 use Rattle.std.specs.List.{concat, slice_range}
 use Rattle.std.proofs.lemmas.Bool.{cases_lt}
@@ -33,7 +33,7 @@ use Rattle.rope_text.specs.Conversions.{byte_to_char}
 use Rattle.rope_text.specs.Cutting.{single_chunk}
 use Rattle.rope_text.proofs.ConversionLaws.{byte_to_char-char_to_byte, char_to_line_start}
 
--- the place of a leaf among the leaves of a tree
+-- the position of a leaf among the leaves of a tree
 module _ (p : Place) (t : Tree) (e : leaves p ≡ t.leaves) where
   index_within : length p.before < length t.leaves
   index_within = omega (arith, ap length e, length-append p.before (p.here ∷ p.after))
@@ -47,7 +47,7 @@ module _ (p : Place) (t : Tree) (e : leaves p ≡ t.leaves) where
   pub text_is : text t ≡ (concat p.before ++ p.here) ++ concat p.after
   text_is = ap concat (sym e) ∙ concat-append p.before (p.here ∷ p.after) ∙ sym (append_assoc (concat p.before) p.here (concat p.after))
 
--- the way to the leaf finds it
+-- the path to the leaf finds it
 pub found_at : (unit : Unit) (at : ℕ) (t : Tree) (p : Place) (info : TextInfo) → leaves p ≡ t.leaves → HoldsPlace unit t.breaks at p.before p.here info → IsFound unit at t p.here info
 found_at unit at t p info e h =
     let k : ℕ = length p.before in
@@ -191,7 +191,7 @@ module _ (t : Tree) (start end : TextInfo) (s : IsExcerpt t.breaks (text t) star
     meets_in CodeUnit i at h = absurd i
     meets_in LineBreak i at h = absurd i
 
-    -- and what it holds of the excerpt
+    -- the part of the excerpt in it
     module _ (front : List (List ℕ)) (here : List ℕ) (bytes_before : byte_len (concat front) ≡ info.bytes - start.bytes) (chars_before : length (concat front) ≡ info.chars - start.chars)
         (chars : length (concat front) + length here ≡ min (length (concat p.before) + length p.here) end.chars - start.chars)
         (bytes : byte_len (concat front) + byte_len here ≡ min (byte_len (concat p.before) + byte_len p.here) end.bytes - start.bytes) where
@@ -215,7 +215,7 @@ module _ (t : Tree) (start end : TextInfo) (s : IsExcerpt t.breaks (text t) star
       inside_in CodeUnit i at h l = absurd i
       inside_in LineBreak i at h l = absurd i
 
--- what a search for a byte or a character of the excerpt finds
+-- the result of a search for a byte or a character of the excerpt
 module _ (t : Tree) (start end : TextInfo) (tree : IsTree t) (s : IsExcerpt t.breaks (text t) start end) (idx place : ℕ) (unit : Unit) (i : IsItem unit)
     (at : place ≡ min (count_of unit start + idx) (count_of unit end - 1)) (p : Place) (info : TextInfo) (e : leaves p ≡ t.leaves) (h : HoldsPlace unit t.breaks place p.before p.here info) where
   meets : (info.chars < end.chars) × (start.chars < info.chars + length p.here)

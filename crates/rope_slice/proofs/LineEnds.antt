@@ -34,7 +34,7 @@ crlf_at_end text k long =
     ap (λ j. ends_in_cr (take j text) && get_or text j 0 == 10) back
     ∙ ap (λ b. b && get_or text (suc k) 0 == 10) cr
 
--- the line break at the end, by the last character and by whether it is CR LF
+-- the line break at the end, by the last character and a test for CR LF
 module _ (breaks : LineBreaks) (text : List ℕ) (k : ℕ) (long : length text ≡ suc k) where
   ends_is : ends_in_break breaks text ≡ is_break_char breaks (get_or text k 0)
   ends_is =

@@ -1,4 +1,4 @@
--- The place and the counts of a cursor over lines, from line to line.
+-- The position and the counts of a cursor over lines, from line to line.
 use Rattle.std.proofs.Common.{◌≡◌, ℕ, ◌+◌, ◌-◌, ◌<◌, ◌≤◌, false, List, ◌++◌, length, take, drop, sym, ap, ◌∙◌, arith, inl, inr}
 use Rattle.std.specs.List.{slice_range}
 use Rattle.std.proofs.lemmas.List.{take-append-drop, take-take, drop-drop}
@@ -75,7 +75,7 @@ module _ (c : Content) (h : Halves) (before : TextInfo) (l total : ℕ) (breaks 
 pub start_apart : (c : Content) (h : Halves) (before : TextInfo) (l total : ℕ) → IsLineStart c h before l total → parts_crlf h.front h.back ≡ false
 start_apart c h before l total s = ap (λ t. parts_crlf t h.back) s.front_is ∙ ap (parts_crlf (take (line_start c.breaks c.text l) c.text)) s.back_is ∙ line_start_apart c.breaks c.text l
 
--- how many breaks are to be passed backward
+-- the number of breaks to pass backward
 pub breaks_enough : (c : Content) (h : Halves) (before : TextInfo) (l total : ℕ) → IsLineStart c h before l total → l - 1 ≤ before.break_count
 breaks_enough c h before l total s =
     omega (arith, s.within, s.total_is, ap (λ x. x.break_count) s.before_is, break_count-front c.breaks c.text l (omega (arith, s.within, s.total_is)))
@@ -141,7 +141,7 @@ module _ (c : Content) (h : Halves) (before : TextInfo) (l total skip : ℕ) (br
         fits = s.fits;
       }
 
--- what a chunk holds from a line's start on lies in a chunk of the part
+-- the rest of a chunk from a line's start on is inside a chunk of the slice
 pub line_held : (c : Content) (h : Halves) (before : TextInfo) (l total : ℕ) (held : List ℕ) → IsLineStart c h before l total → HoldsAhead h held → IsInChunk c.text c.chunks before.chars held
 line_held c h before l total held s it =
     let n : ℕ = line_start c.breaks c.text l in

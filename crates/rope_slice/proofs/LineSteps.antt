@@ -28,7 +28,7 @@ pub no_line : (is_left : Bool) (c : Content) (h : Halves) (before : TextInfo) (l
 no_line true c h before l total back s e = ap (λ k. take k (lines_of c)) e
 no_line false c h before l total back s e = drop_all l (lines_of c) (omega (arith, length-lines_of c, s.total_is, e))
 
--- how many lines are ahead
+-- the number of lines ahead
 pub ahead_forward : (c : Content) (h : Halves) (before : TextInfo) (l total : ℕ) → IsLineStart c h before l total → length (ahead (at_line c l false)) ≡ total - l
 ahead_forward c h before l total s = omega (arith, length-drop l (lines_of c), length-lines_of c, s.total_is)
 

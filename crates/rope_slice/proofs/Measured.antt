@@ -1,4 +1,4 @@
--- What the counts at the two ends of an excerpt say of its text.
+-- The counts of an excerpt's text, by the counts at its two ends.
 use Rattle.std.proofs.Common.{◌≡◌, ℕ, ◌+◌, ◌*◌, ◌<◌, ◌≤◌, Bool, true, false, ◌&&◌, cond, List, [], length, take, drop, refl, sym, ap, ◌∙◌, arith, inl, inr}
 use Rattle.std.specs.List.{slice_range}
 use Rattle.std.proofs.lemmas.List.{take-append-drop, length-take-le, take_all}
@@ -51,7 +51,7 @@ at_most_one : (b : Bool) → cond {A = ℕ} b 1 0 ≤ 1
 at_most_one true = omega arith
 at_most_one false = omega arith
 
--- the LF behind a CR ends a break
+-- the LF after a CR ends a break
 shared_le : (breaks : LineBreaks) (s t : List ℕ) → cond {A = ℕ} (joins_break breaks s t) 1 0 ≤ break_count breaks t
 shared_le breaks s t = elim (cases_Bool (begins_with_lf t)) [
   | inl lf ↦

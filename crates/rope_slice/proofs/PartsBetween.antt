@@ -32,7 +32,7 @@ char_at_byte text b i within place = ap (byte_to_char text) place ∙ byte_to_ch
 pub byte_of_char : (text : List ℕ) (b i : ℕ) → i ≤ length text → b ≡ byte_len (take i text) → byte_len (take (byte_to_char text b) text) ≡ b
 byte_of_char text b i within place = ap (λ k. byte_len (take k text)) (char_at_byte text b i within place) ∙ sym place
 
--- the counts up to a later place are those up to an earlier one and those between
+-- the counts up to a later index are those up to an earlier one plus those between
 pub between_sum : (breaks : LineBreaks) (text : List ℕ) (from to : TextInfo) → from ≡ info_of breaks (take from.chars text) → to ≡ info_of breaks (take to.chars text) → from.chars ≤ to.chars
     → parts_crlf (take from.chars text) (drop from.chars text) ≡ false → to ≡ info_sum from (info_of breaks (slice_range text from.chars to.chars))
 between_sum breaks text from to first last l apart =
@@ -100,7 +100,7 @@ module _ (breaks : LineBreaks) (text : List ℕ) (start end : TextInfo) (s : IsE
         end_is = end_between to last (omega arith) (omega arith);
       }
 
--- what is added to the counts before a part
+-- the sums of the counts before a slice and within it
 pub sums_between : (breaks : LineBreaks) (text : List ℕ) (base from to : TextInfo) → IsExcerpt breaks text (info_sum base from) (info_sum base to) → byte_len text < 2 ^ 63 → HasSum base from × HasSum base to
 sums_between breaks text base from to s fits =
     let m = measured breaks text (info_sum base from) (info_sum base to) s in (
@@ -108,7 +108,7 @@ sums_between breaks text base from to s fits =
       record { bytes = omega arith; chars = omega arith; pairs = omega arith; breaks = omega arith },
     )
 
--- contents that are the same
+-- equal contents
 abbrev content : List ℕ → List (List ℕ) → LineBreaks → Content
 content text chunks breaks = record { text = text; chunks = chunks; breaks = breaks }
 
@@ -116,7 +116,7 @@ pub same_content : (c d : Content) → c.text ≡ d.text → c.chunks ≡ d.chun
 same_content c d text chunks breaks =
     ap (λ t. content t c.chunks c.breaks) text ∙ ap (λ p. content d.text p c.breaks) chunks ∙ ap (λ s. content d.text d.chunks s) breaks
 
--- counts up to a place, told by their own number of characters
+-- the counts up to an index, given by their own number of characters
 pub counts_at : (breaks : LineBreaks) (text : List ℕ) (n : ℕ) (info : TextInfo) → n ≤ length text → info ≡ info_of breaks (take n text) → (info.chars ≡ n) × (info ≡ info_of breaks (take info.chars text))
 counts_at breaks text n info within e =
     let chars : info.chars ≡ n = ap (λ x. x.chars) e ∙ length-take-le n text within in

@@ -1,4 +1,4 @@
--- A place of an excerpt's text, as one of the tree's.
+-- An index of an excerpt's text, as one of the tree's.
 use Rattle.std.proofs.Common.{◌≡◌, ℕ, ◌+◌, ◌^◌, ◌<◌, ◌≤◌, List, length, take, ap, arith}
 use Rattle.std.specs.List.{slice_range}
 use Rattle.std.proofs.lemmas.List.{length-take-le}

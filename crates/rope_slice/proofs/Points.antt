@@ -62,12 +62,12 @@ char_between_front bs xs at c u cut text h =
     let start : IsCharBoundary bs (length xs) = IsCharBoundary-from_take bs (length xs) u (omega (arith, cut.0)) (subst IsUtf8 (sym before) text) in
     char_between bs (drop at bs) (length xs) at c u start (ap (drop (length xs)) whole ∙ drop_at xs (encode_utf8 c ++ drop at bs) (length xs) refl) (sym size)
 
--- the next place is one among the same leaves
+-- the next leaf is among the same leaves
 pub leaves_next : (p q : Place) → IsNext p q → leaves q ≡ leaves p
 leaves_next p q n =
     ap (λ x. x ++ (q.here ∷ q.after)) n.before ∙ append_assoc p.before (p.here ∷ []) (q.here ∷ q.after) ∙ ap (λ x. p.before ++ (p.here ∷ x)) (sym n.after)
 
--- a place of a text that has items
+-- a leaf of a text that has items
 pub here_solid : (p : Place) (total : ℕ) → AreSolid p total → 0 < total → 0 < length p.here
 here_solid p total solid some =
     let at : get_or (leaves p) (length p.before) [] ≡ p.here = get_or_at p.before p.here p.after [] (length p.before) refl in
@@ -83,7 +83,7 @@ chunk_bytes p bytes h = ap encode_utf8_all (sym h.here) ∙ encodes-chars bytes 
 pub chunk_some : (p : Place) (bytes : List ℕ) → IsChunkAt p bytes → 0 < length p.here → 0 < length bytes
 chunk_some p bytes h some = omega (arith, length-le-encodes p.here, ap length (chunk_bytes p bytes h))
 
--- two cursors with the same on each side
+-- two cursors with equal sides
 pub sides_same : {X : Type 0} (s t : Sides X) → s.left ≡ t.left → s.right ≡ t.right → s.is_backward ≡ t.is_backward → s ≡ t
 sides_same s t l r b = rw (l, r, b) refl
 

@@ -1,4 +1,5 @@
--- A way to a leaf within a part: what of the leaf lies in the part, and the steps to the chunk before and after.
+-- A path to a leaf within a slice: the part of the leaf inside the slice, and the steps to the next
+-- and previous chunk.
 use Rattle.std.proofs.Common.{◌≡◌, ℕ, Bool, true, false, ◌+◌, ◌-◌, ◌<◌, ◌≤◌, min, List, [], ◌∷◌, ◌++◌, length, take, refl, sym, ap, subst, ◌∙◌, arith, inl, inr, All, append_assoc}
 use Rattle.std.specs.Bool.{OnTrue, OnFalse}
 use Rattle.std.specs.List.{concat, slice_range}
@@ -17,7 +18,7 @@ use Rattle.rope_slice.specs.Path.{Place, IsNext, leaves}
 use Rattle.rope_slice.specs.Span.{alone, Edge, edge_at, clipped_place, clipped_at, IsWithin, IsSpan, IsSpanFrom}
 use Rattle.rope_slice.proofs.ClippedChunks.{clip-append, cons_some, size_of_part}
 
--- the bytes of a text's middle part up to a place of the text
+-- the bytes of a text's middle part up to an index of the text
 pub middle_bytes : (x y z : List ℕ) (i : ℕ) → i ≤ length x + length y → byte_len (take (i - length x) y) ≡ byte_len (take i (x ++ (y ++ z))) - byte_len x
 middle_bytes x y z i most = elim (cases_lt i (length x)) [
   | inl less ↦
@@ -103,7 +104,7 @@ module _ (p : Place) (start : ℕ) (from to : Edge) (w : IsWithin p start from t
       ap (take (length (concat p.before))) text_at ∙ take_at (concat p.before) (p.here ++ concat p.after) (length (concat p.before)) refl in
       omega (arith, size_le byte_len IsMeasure-byte_len (concat (leaves p)) (length (concat p.before)) to.chars (omega (arith, w.starts)), ap byte_len front, w.start_is, w.to_bytes)
 
-  -- what of the chunks before lies before the leaf
+  -- the bytes of the previous chunks before the leaf
   pub bytes_before_within : byte_len (concat (clip p.before from.chars to.chars)) ≡ start - from.bytes
   bytes_before_within =
       let x : List ℕ = concat p.before in
@@ -240,7 +241,7 @@ module _ (p : Place) (start : ℕ) (from to : Edge) (h : IsSpan p start from to)
     | inr none ↦ let n = h.none none in absurd (omega (arith, n.start_is, n.to_is))
   ]
 
--- which bytes of the leaf lie in the part
+-- the bytes of the leaf inside the slice
 pub record IsCut (p : Place) (start : ℕ) (from to : Edge) : Type 0 where
   pub in_order : start ≤ to.bytes
   pub ordered : from.chars - length (concat p.before) ≤ to.chars - length (concat p.before)
@@ -250,7 +251,7 @@ pub record IsCut (p : Place) (start : ℕ) (from to : Edge) : Type 0 where
 pub cut : (p : Place) (start : ℕ) (from to : Edge) → IsSpan p start from to → IsCut p start from to
 cut p start from to h = record { in_order = in_order p start from to h; ordered = omega (arith, h.ordered); low = low_here p start from to h; high = high_here p start from to h }
 
--- the way to the leaf beside, from a leaf of the part: it is within the part, too, and the two chunks stand side by side
+-- the adjacent leaf of a leaf of the slice is in the slice, too, and the two chunks are adjacent
 pub span_next : (p q : Place) (from to : ℕ) → IsSpanFrom p from to → IsNext p q → byte_len p.here < to - byte_len (concat p.before)
     → IsSpanFrom q from to × IsNext (clipped_at p from to) (clipped_at q from to)
 span_next p q from to h n l =
@@ -285,7 +286,7 @@ span_prev p q from to h n l =
       subst (λ (ls : List (List ℕ)). IsNext (clipped_place p (edge_at ls from).chars (edge_at ls to).chars) (clipped_at q from to)) same moved,
     )
 
--- where the way may have stayed
+-- the path may have stayed
 pub span_after : (old new : Place) (from to : ℕ) (moved : Bool) → IsSpanFrom old from to → OnTrue moved (IsSpanFrom new from to) → OnFalse moved (new ≡ old) → IsSpanFrom new from to
 span_after old new from to true h goes stays = goes
 span_after old new from to false h goes stays = subst (λ (p : Place). IsSpanFrom p from to) (sym stays) h

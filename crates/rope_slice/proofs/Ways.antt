@@ -1,4 +1,4 @@
--- The way down to a leaf, and the leaves beside it.
+-- The path to a leaf, and the adjacent leaves.
 use Rattle.std.proofs.Common.{◌≡◌, ℕ, zero, suc, ◌+◌, ◌-◌, ◌<◌, ◌≤◌, List, [], ◌∷◌, ◌++◌, length, take, drop, get_or, refl, sym, ap, subst, ◌∙◌, arith, inl, inr, All}
 use Rattle.std.specs.List.{concat}
 use Rattle.std.proofs.lemmas.Bool.{cases_lt}
@@ -26,12 +26,12 @@ use Rattle.rope_slice.proofs.ClippedChunks.{split_at}
 use Rattle.rope_slice.specs.Path.{Place, leaves, IsNext, HoldsPlace}
 use Rattle.rope_slice.specs.Way.{place_at, IsLow, AreInList, IsWay}
 
--- a text that has a place has a leaf
+-- a text with an index in bounds has a leaf
 some_leaves : (unit : Unit) (breaks : LineBreaks) (at : ℕ) (ls : List (List ℕ)) → at < count_of unit (info_of breaks (concat ls)) → 0 < length ls
 some_leaves unit breaks at [] l = absurd (omega (arith, count_of-nil unit breaks))
 some_leaves unit breaks at (leaf ∷ ls) l = omega arith
 
--- what a leaf with a text shows
+-- the content of a leaf with a text
 leaf_here : (t : Tree) (breaks : LineBreaks) (leaf : List ℕ) → t ≡ leaf_tree breaks leaf → 0 < length t.leaves → t.leaves ≡ leaf ∷ []
 leaf_here t breaks [] e some = absurd (omega (arith, ap (λ u. length u.leaves) e))
 leaf_here t breaks (c ∷ cs) e some = ap (λ u. u.leaves) e
@@ -41,7 +41,7 @@ some_bytes : (leaf : List ℕ) → 0 < length leaf → 0 < byte_len leaf
 some_bytes leaf some = omega (arith, some, length-le-encodes leaf)
 
 module _ (ls : List (List ℕ)) (solid : All (λ leaf. 0 < length leaf) ls) where
-  -- the leaf that starts at a byte is the one before which so many bytes stand
+  -- the leaf that starts at a byte is the one with that many bytes before it
   pub index_is : (k b : ℕ) → k < length ls → byte_len (concat (take k ls)) ≤ b → b < byte_len (concat (take k ls)) + byte_len (get_or ls k []) → chunk_index_at_byte ls b ≡ k
   index_is k b within low high =
       chunk_index_at_byte_is ls b k within low (λ _. omega (arith, high, ap byte_len (before_more ls k within), IsMeasure-byte_len.joined (before ls k) (get_or ls k [])))
@@ -56,7 +56,7 @@ module _ (ls : List (List ℕ)) (solid : All (λ leaf. 0 < length leaf) ls) wher
       let e : chunk_index_at_byte ls start ≡ k = ap (chunk_index_at_byte ls) start_is ∙ start_index k within in
       rw e refl
 
--- a place among some leaves, by how many stand before it
+-- a leaf among some leaves, by the number of leaves before it
 pub record StandsAt (ls : List (List ℕ)) (p : Place) : Type 0 where
   pub within : length p.before < length ls
   pub before_is : p.before ≡ take (length p.before) ls
@@ -73,7 +73,7 @@ stands_at ls p e =
       after_is = sym (drop-append-add p.before (p.here ∷ p.after) 1) ∙ ap (drop (n + 1)) e;
     }
 
--- the place of the k-th
+-- the k-th leaf
 abbrev pub nth : List (List ℕ) → ℕ → Place
 nth ls k = record { before = take k ls; here = get_or ls k []; after = drop (k + 1) ls }
 
@@ -251,7 +251,7 @@ module _ (t : Tree) (nodes : List Tree) (at : ℕ) (leaf : List ℕ) (start : �
           omega (arith, size),
         )
 
--- two ways in a tree, of which the one starts where the other ends
+-- two paths in a tree, one of which starts where the other ends
 pub ways_next : (t : Tree) (nodes more : List Tree) (at to : ℕ) (leaf x : List ℕ) (start next : ℕ) → IsWay t nodes at leaf start → IsWay t more to x next → next ≡ start + byte_len leaf
     → IsNext (place_at t.leaves leaf start) (place_at t.leaves x next)
 ways_next t nodes more at to leaf x start next w v e =
@@ -292,7 +292,7 @@ low_list (t ∷ ts) b all =
     let own = All-head (IsChild b 0) t ts all in
     All-cons IsLow t ts (record { levels = omega (arith, own.at_height); some = omega (arith, own.some) }) (low_list ts b (All-tail (IsChild b 0) t ts all))
 
--- on the way down: a node in the list of its parent's children, which are leaves where it is one
+-- on the path: a node in the list of its parent's children, which are leaves if it is one
 pub record IsOnPath (unit : Unit) (idx : ℕ) (t here : Tree) (rest : ℕ) (before : TextInfo) (nodes : List Tree) (at : ℕ) : Type 0 where
   pub way : IsOnWay unit idx t here rest before
   pub list : here.height ≡ 0 → AreInList t.leaves (length way.left) nodes at
@@ -304,7 +304,7 @@ path_start unit idx t info none less = record {
   list = λ flat. record { here = λ some. absurd (omega (arith, some)); few = omega arith; first = omega arith; last = omega arith; low = All-nil IsLow; each = λ i d less. absurd (omega (arith, less)) };
 }
 
--- the children of a node on the way, where they are leaves
+-- the children of a node on the path, if they are leaves
 children_listed : (ls left right : List (List ℕ)) (b : LineBreaks) (ts : List Tree) (k : ℕ) → ls ≡ left ++ (leaves_of ts ++ right) → All (IsChild b 0) ts → k < length ts → length ts ≤ MAX_CHILDREN → AreInList ls (length (left ++ leaves_of (take k ts))) ts k
 children_listed ls left right b ts k whole all within few =
     let count = count_of_leaves ts b all in
@@ -339,7 +339,7 @@ path_down unit idx t here rest info nodes ts at k child front tree p is d =
           children_listed t.leaves w.left w.right (breaks_of ts) ts k (w.whole ∙ ap (λ xs. w.left ++ (xs ++ w.right)) own) all d.within d.children.at_most_24);
     }
 
--- the end of the way
+-- the end of the path
 pub path_end : (unit : Unit) (idx : ℕ) (t here : Tree) (rest : ℕ) (info : TextInfo) (nodes : List Tree) (at : ℕ) (leaf : List ℕ) → IsTree t → IsOnPath unit idx t here rest info nodes at → here ≡ leaf_tree here.breaks leaf
     → IsWay t nodes at leaf info.bytes
 path_end unit idx t here rest info nodes at leaf tree p is =
@@ -356,7 +356,7 @@ path_end unit idx t here rest info nodes at leaf tree p is =
       list = p.list (ap (λ u. u.height) is);
     }
 
--- and what it found
+-- the leaf that it found
 pub path_holds : (unit : Unit) (idx : ℕ) (t here : Tree) (rest : ℕ) (info : TextInfo) (nodes : List Tree) (at : ℕ) (leaf : List ℕ) → IsTree t → IsOnPath unit idx t here rest info nodes at → here ≡ leaf_tree here.breaks leaf
     → HoldsPlace unit t.breaks idx (place_at t.leaves leaf info.bytes).before leaf info
 path_holds unit idx t here rest info nodes at leaf tree p is =

@@ -1,4 +1,4 @@
--- What a cursor over bytes means.
+-- The meaning of a cursor over bytes.
 use Rattle.std.specs.Prelude.{◌≡◌, ℕ, ◌+◌, ◌≤◌, Bool, List, ◌++◌, length, take, drop}
 use Rattle.std.specs.List.{concat}
 use Rattle.std.specs.Str.{encode_utf8_all}
@@ -7,7 +7,7 @@ use Rattle.rope_text.specs.Sides.{Sides}
 use Rattle.rope_slice.specs.Path.{Place}
 use Rattle.rope_slice.specs.Point.{IsChunkAt, AreSolid}
 
--- before the byte `at` of the chunk at a place
+-- before the byte `at` of a chunk
 abbrev pub at_byte : Place → List ℕ → ℕ → Bool → Sides ℕ
 at_byte p chunk at is_backward = record {
   left = encode_utf8_all (concat p.before) ++ take at chunk;
@@ -15,7 +15,7 @@ at_byte p chunk at is_backward = record {
   is_backward = is_backward;
 }
 
--- the chunk is the one at the place, and the counts are right
+-- the chunk is the one here, and the counts are right
 pub record IsByteCursor (p : Place) (chunk : List ℕ) (at before total : ℕ) : Type 0 where
   pub chunk_is : IsChunkAt p chunk
   pub within : at ≤ length chunk

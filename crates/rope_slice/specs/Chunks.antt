@@ -1,4 +1,4 @@
--- A cursor over chunks, by the place of the chunk that it stands at.
+-- A cursor over chunks, by the chunk that it refers to.
 use Rattle.std.specs.Prelude.{ℕ, Bool, List, [], ◌∷◌, ◌++◌, if◌then◌else◌}
 use Rattle.rope_text.specs.Sides.{Sides}
 use Rattle.rope_slice.specs.Path.{Place}

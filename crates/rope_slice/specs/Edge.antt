@@ -1,4 +1,4 @@
--- The counts of a text up to the two ends of a part.
+-- The counts of a text up to the two ends of a slice.
 use Rattle.std.specs.Prelude.{◌≡◌, ℕ, ◌≤◌, ◌<◌, List, [], ◌∷◌, ◌++◌, length, take, drop, false}
 use Rattle.std.proofs.Props.{props}
 use Rattle.rope_text.specs.declared.line_breaks.LineBreaks.{LineBreaks}
@@ -12,8 +12,8 @@ use Rattle.rope_text.specs.Dense.{IsDenseBehind}
 use Rattle.rope_text.specs.declared.TheConstants.{MAX_HEIGHT}
 use Rattle.rope_tree.specs.Tree.{Tree, IsTree, text}
 
--- the counts of the text before a part's start. Its breaks are those that end there or before: the CR of a CR LF that the
--- start lies in is none of them, since the LF is a break of the part
+-- the counts of the text before a slice's start. Its breaks are those that end there or before: the
+-- CR of a CR LF that the start cuts is not one of them, since the LF is a break of the slice
 abbrev pub start_info : LineBreaks → List ℕ → ℕ → TextInfo
 start_info breaks text i = record {
   bytes = byte_len (take i text);
@@ -22,8 +22,8 @@ start_info breaks text i = record {
   break_count = char_to_line breaks text i;
 }
 
--- the counts of the text before a part's end. Its breaks are those of that text by itself: the CR of a CR LF that the
--- end lies in is one of them, since it is a break of the part
+-- the counts of the text before a slice's end. Its breaks are those of that text alone: the CR of a
+-- CR LF that the end cuts is one of them, since it is a break of the slice
 abbrev pub end_info : LineBreaks → List ℕ → ℕ → TextInfo
 end_info breaks text i = info_of breaks (take i text)
 
@@ -31,7 +31,7 @@ end_info breaks text i = info_of breaks (take i text)
 abbrev pub line_info : LineBreaks → List ℕ → ℕ → TextInfo
 line_info breaks text l = info_of breaks (take (line_start breaks text l) text)
 
--- characters of a text, one at least, with the counts up to their start and up to their end
+-- characters of a text, at least one, with the counts up to their start and up to their end
 pub record IsExcerpt (breaks : LineBreaks) (text : List ℕ) (start end : TextInfo) : Type 0 where
   pub some : start.chars < end.chars
   pub within : end.chars ≤ length text
@@ -42,7 +42,7 @@ pub record IsExcerpt (breaks : LineBreaks) (text : List ℕ) (start end : TextIn
 pub IsExcerpt-prop : {breaks : LineBreaks} {text : List ℕ} {start end : TextInfo} → IsProp (IsExcerpt breaks text start end)
 IsExcerpt-prop = hlevel props
 
--- what holds of the tree of every node
+-- an invariant of every tree
 pub record IsLowTree (t : Tree) : Type 0 where
   pub low : t.height ≤ MAX_HEIGHT
   pub tree : IsTree t
@@ -61,7 +61,8 @@ IsLowTree-prop = hlevel (AreDense-prop, KeepsCrlf-prop, props)
 pub IsInfo-prop : (breaks : LineBreaks) (text : List ℕ) (info : TextInfo) → IsProp (info ≡ info_of breaks text)
 IsInfo-prop breaks text info = hlevel props
 
--- the end of a leaf, from a character of the text on: what follows it follows it in the text, and parts no CR LF from it
+-- the end of a leaf, from a character of the text on: the text after it continues it, and no CR LF
+-- is split there
 pub record IsLeafFrom (t : Tree) (i : ℕ) (rest : List ℕ) : Type 0 where
   pub more : List ℕ
   pub text_is : drop i (text t) ≡ rest ++ more

@@ -1,4 +1,4 @@
--- What an excerpt of a tree's text shows.
+-- The content of an excerpt of a tree's text.
 use Rattle.std.specs.Prelude.{ℕ, List}
 use Rattle.std.specs.List.{slice_range}
 use Rattle.rope_text.specs.declared.line_breaks.LineBreaks.{LineBreaks}

@@ -1,4 +1,4 @@
--- How many items a cursor still gives.
+-- The number of items that a cursor still gives.
 use Rattle.std.specs.Prelude.{◌≡◌, ℕ, Option, Some, IfSome, length}
 use Rattle.std.specs.Iterator.{UpTo, item_count}
 use Rattle.std.specs.Iterator.SizeHint.{IsWithinCount}

@@ -1,4 +1,4 @@
--- A place in a leaf of a tree.
+-- A position in a leaf of a tree.
 use Rattle.std.specs.Prelude.{◌≡◌, ℕ, ◌+◌, List}
 use Rattle.rope_text.specs.declared.text_info.TextInfo.{TextInfo}
 use Rattle.rope_text.specs.Conversions.{char_to_byte}
@@ -6,7 +6,8 @@ use Rattle.rope_tree.specs.declared.search.Unit.TheVariants.{Char}
 use Rattle.rope_tree.specs.Found.{IsFound}
 use Rattle.rope_tree.specs.Tree.{Tree}
 
--- the leaf holds the character i of the text, before which so many bytes and characters of the leaf stand
+-- the leaf contains the character i of the text, after `bytes` bytes and `chars` characters of the
+-- leaf
 pub record IsLeafPlace (t : Tree) (i : ℕ) (leaf : List ℕ) (before : TextInfo) (bytes chars : ℕ) : Type 0 where
   pub found : IsFound Char i t leaf before
   pub place : i ≡ before.chars + chars

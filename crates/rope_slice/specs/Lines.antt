@@ -1,4 +1,4 @@
--- A cursor over lines, by the number of the line that it stands before.
+-- A cursor over lines, by the number of the line after it.
 use Rattle.std.specs.Prelude.{◌≡◌, ℕ, ◌^◌, ◌<◌, ◌≤◌, Bool, length, take, drop}
 use Rattle.rope_text.specs.declared.line_breaks.LineBreaks.{LineBreaks}
 use Rattle.rope_text.specs.declared.text_info.TextInfo.{TextInfo}
@@ -14,7 +14,8 @@ use Rattle.rope_slice.specs.Caret.{Halves}
 abbrev pub at_line : Content → ℕ → Bool → Sides Content
 at_line c l is_backward = record { left = take l (lines_of c); right = drop l (lines_of c); is_backward = is_backward }
 
--- a place at the start of line l, or at the end of all the lines, whose number is known; and the counts before it
+-- a position at the start of line l, or at the end of all the lines, whose number is known; and the
+-- counts before it
 pub record IsLineStart (c : Content) (h : Halves) (before : TextInfo) (l total : ℕ) : Type 0 where
   pub within : l ≤ total
   pub total_is : total ≡ line_count c.breaks c.text
@@ -24,7 +25,7 @@ pub record IsLineStart (c : Content) (h : Halves) (before : TextInfo) (l total :
   pub before_is : before ≡ info_of c.breaks (take (line_start c.breaks c.text l) c.text)
   pub fits : byte_len c.text < 2 ^ 63
 
--- the same, with the set of line breaks at hand
+-- the start of a line, with a copy of the set of line breaks
 pub record IsLineCursor (c : Content) (breaks : LineBreaks) (h : Halves) (before : TextInfo) (l total : ℕ) : Type 0 where
   pub start : IsLineStart c h before l total
   pub breaks_is : breaks ≡ c.breaks

@@ -2,7 +2,7 @@
 use Rattle.std.specs.Prelude.{ℕ, Option, None, Some, List, []}
 use Rattle.rope_slice.specs.Path.{Place}
 
--- the leaves after a path; none after a text in no tree
+-- the leaves after a path; none for a plain text
 abbrev pub after_way : Option Place → List (List ℕ)
 after_way None = []
 after_way (Some p) = p.after

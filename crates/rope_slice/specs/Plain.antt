@@ -1,4 +1,4 @@
--- What a plain text shows as a slice.
+-- The content of a plain text as a slice.
 use Rattle.std.specs.Prelude.{ℕ, List}
 use Rattle.std.specs.Str.{chars}
 use Rattle.rope_text.specs.Cutting.{single_chunk}

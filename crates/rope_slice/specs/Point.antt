@@ -3,12 +3,12 @@ use Rattle.std.specs.Prelude.{◌≡◌, ℕ, ◌<◌, List, [], ◌∷◌, ◌+
 use Rattle.std.specs.Str.{chars, IsUtf8, IsCharBoundary}
 use Rattle.rope_slice.specs.Path.{Place, leaves}
 
--- the bytes are those of the chunk at a place
+-- the bytes are those of the chunk here
 pub record IsChunkAt (p : Place) (bytes : List ℕ) : Type 0 where
   pub utf8 : IsUtf8 bytes
   pub here : chars bytes ≡ p.here
 
--- the character c of a text stands between the bytes `start` and `end`
+-- the character c of a text is between the bytes `start` and `end`
 pub record IsCharBetween (bytes : List ℕ) (start end c : ℕ) : Type 0 where
   pub front : chars (take end bytes) ≡ chars (take start bytes) ++ c ∷ []
   pub rest : chars (drop start bytes) ≡ c ∷ chars (drop end bytes)

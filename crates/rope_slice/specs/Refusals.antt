@@ -1,4 +1,4 @@
--- Why an index is refused.
+-- The errors of indices.
 use Rattle.std.specs.Prelude.{ℕ, Option}
 use Rattle.rope_text.specs.declared.error.Error.{Error}
 use Rattle.rope_text.specs.Edit.{byte_index_error, char_index_error, line_index_error, utf16_index_error}

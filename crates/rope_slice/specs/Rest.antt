@@ -1,4 +1,4 @@
--- What is left of a text.
+-- The rest of a text.
 use Rattle.std.specs.Prelude.{ℕ, List}
 use Rattle.std.specs.List.{concat}
 use Rattle.std.specs.Str.{encode_utf8_all}

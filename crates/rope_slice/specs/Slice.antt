@@ -1,4 +1,4 @@
--- What a slice shows.
+-- The content of a slice.
 use Rattle.std.specs.Prelude.{ℕ, List}
 use Rattle.rope_text.specs.declared.line_breaks.LineBreaks.{LineBreaks}
 use Rattle.rope_text.specs.Content.{Content}
@@ -11,12 +11,13 @@ use Rattle.rope_slice.specs.declared.slice.RopeSlice.TheVariants.{InTree, Alone}
 use Rattle.rope_slice.specs.Excerpt as of_excerpt
 use Rattle.rope_slice.specs.Plain as of_plain
 
--- its text, its chunks and its set of line breaks: the text and the leaves of a tree, clipped; a plain text as one chunk, or none
+-- the text, chunks and set of line breaks of a slice: the text and the leaves of a tree, clipped; a
+-- plain text as one chunk, or none
 abbrev pub content_of : RopeSlice → Content
 content_of (InTree excerpt) = of_excerpt.content_of excerpt
 content_of (Alone plain) = of_plain.content_of plain
 
--- what a plain text with these line breaks shows: itself, as one chunk or none
+-- the content of a plain text with these line breaks: itself, as one chunk or none
 abbrev pub plain_content : LineBreaks → List ℕ → Content
 plain_content breaks text = record { text = text; chunks = single_chunk text; breaks = breaks }
 
@@ -29,7 +30,7 @@ chunks_of slice = (content_of slice).chunks
 abbrev pub breaks_of : RopeSlice → LineBreaks
 breaks_of slice = (content_of slice).breaks
 
--- its bytes, and what it hands a hasher
+-- the bytes of a slice, and its writes to a hasher
 abbrev pub bytes_of : RopeSlice → List ℕ
 bytes_of slice = encode_utf8_all (text_of slice)
 

@@ -11,7 +11,8 @@ use Rattle.rope_text.specs.Edit.{range_start, range_end, char_range_error, byte_
 abbrev pub HasCharRange : List ℕ → Option ℕ → Option ℕ → Type 0
 HasCharRange text start end = char_range_error start end (length text) ≡ None
 
--- a text has the bytes of a range: the same, and no bound lies inside a character
+-- a text has the bytes of a range: no bound is past its end or inside a character, and the range's
+-- start is not past its own end
 abbrev pub HasByteRange : List ℕ → Option ℕ → Option ℕ → Type 0
 HasByteRange text start end = byte_range_error text start end ≡ None
 
@@ -29,7 +30,7 @@ pub record IsSlice (whole : Content) (a b : ℕ) (slice : Content) : Type 0 wher
 abbrev pub IsCharRange : Content → Option ℕ → Option ℕ → Content → Type 0
 IsCharRange whole start end slice = IsSlice whole (range_start start) (range_end end (length whole.text)) slice
 
--- the same of a range of bytes
+-- the slice of a range of bytes, given by its start and its excluded end
 abbrev pub IsByteRange : Content → Option ℕ → Option ℕ → Content → Type 0
 IsByteRange whole start end slice =
     IsSlice whole (byte_to_char whole.text (range_start start))

@@ -1,4 +1,4 @@
--- A way to a leaf within a part of the text of all the leaves.
+-- A path to a leaf within a slice of the text of all the leaves.
 use Rattle.std.specs.Prelude.{◌≡◌, ℕ, ◌+◌, ◌-◌, ◌<◌, ◌≤◌, Option, None, Some, List, [], length, take, All}
 use Rattle.std.specs.List.{concat, slice_range}
 use Rattle.rope_text.specs.Text.{byte_len}
@@ -6,21 +6,21 @@ use Rattle.rope_text.specs.Conversions.{byte_to_char}
 use Rattle.rope_text.specs.Cutting.{clip}
 use Rattle.rope_slice.specs.Path.{Place, leaves}
 
--- the place of a text that is the only leaf
+-- a text that is the only leaf
 abbrev pub alone : List ℕ → Place
 alone text = record { before = []; here = text; after = [] }
 
--- the place of a chunk in a tree, or that of a text in no tree
+-- a chunk in a tree, or a plain text
 abbrev pub place_in : List ℕ → Option Place → Place
 place_in text None = alone text
 place_in text (Some p) = p
 
--- a place of the text: the bytes and the characters before it
+-- an index of the text: the bytes and the characters before it
 pub record Edge : Type 0 where
   pub bytes : ℕ
   pub chars : ℕ
 
--- that with so many bytes of all the leaves before it
+-- the index with `bytes` bytes of all the leaves before it
 abbrev pub edge_at : List (List ℕ) → ℕ → Edge
 edge_at all bytes = record { bytes = bytes; chars = byte_to_char (concat all) bytes }
 
@@ -32,11 +32,11 @@ clipped_place p a b = record {
   after = clip p.after (a - length (concat p.before) - length p.here) (b - length (concat p.before) - length p.here);
 }
 
--- the same from one byte up to another
+-- the leaves, clipped from one byte up to another
 abbrev pub clipped_at : Place → ℕ → ℕ → Place
 clipped_at p from to = clipped_place p (edge_at (leaves p) from).chars (edge_at (leaves p) to).chars
 
--- the leaf has a character of the part, and starts at the byte `start`
+-- the leaf has a character of the slice, and starts at the byte `start`
 pub record IsWithin (p : Place) (start : ℕ) (from to : Edge) : Type 0 where
   pub solid : All (λ leaf. 0 < length leaf) (leaves p)
   pub some : from.chars < to.chars
@@ -56,12 +56,12 @@ pub record IsNothing (p : Place) (start : ℕ) (from to : Edge) : Type 0 where
   pub from_is : from.bytes ≡ 0
   pub to_is : to.bytes ≡ 0
 
--- a part is within its leaves, or it is empty
+-- a slice is within its leaves, or it is empty
 pub record IsSpan (p : Place) (start : ℕ) (from to : Edge) : Type 0 where
   pub some : from.chars < to.chars → IsWithin p start from to
   pub none : to.chars ≤ from.chars → IsNothing p start from to
   pub ordered : from.chars ≤ to.chars
 
--- the same, of the part from one byte up to another
+-- the slice from one byte up to another is within its leaves, or it is empty
 abbrev pub IsSpanFrom : Place → ℕ → ℕ → Type 0
 IsSpanFrom p from to = IsSpan p (byte_len (concat p.before)) (edge_at (leaves p) from) (edge_at (leaves p) to)

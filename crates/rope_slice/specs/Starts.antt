@@ -1,4 +1,4 @@
--- Where a cursor over chunks starts.
+-- The start of a cursor over chunks.
 use Rattle.std.specs.Prelude.{◌≡◌, ⊤, ℕ, ◌+◌, ◌<◌, ◌≤◌, List, length}
 use Rattle.std.specs.List.{concat}
 use Rattle.rope_text.specs.declared.line_breaks.LineBreaks.{LineBreaks}
@@ -17,28 +17,30 @@ IsItem Char = ⊤
 IsItem CodeUnit = ⊥
 IsItem LineBreak = ⊥
 
--- how many of them a text has
+-- the number of a text's bytes or characters
 abbrev pub size_in : Unit → List ℕ → ℕ
 size_in Byte text = byte_len text
 size_in Char text = length text
 size_in CodeUnit text = 0
 size_in LineBreak text = 0
 
--- before which chunk a cursor starts: the one that holds the byte or the character, and at the end past the last
+-- the chunk before which a cursor starts: the one that contains the byte or the character, and at
+-- the end past the last
 abbrev pub chunk_place : Unit → List (List ℕ) → ℕ → ℕ
 chunk_place Byte chunks idx = chunk_place_at_byte chunks idx
 chunk_place Char chunks idx = chunk_place_at_char chunks idx
 chunk_place CodeUnit chunks idx = 0
 chunk_place LineBreak chunks idx = 0
 
--- the bytes, the characters and the line breaks of a text that lie in its first chunks; only breaks that end there are counted
+-- the numbers of bytes, characters and line breaks of a text in its first chunks; only breaks that
+-- end there are counted
 pub record AreBefore (breaks : LineBreaks) (text : List ℕ) (chunks : List (List ℕ)) (bytes chars count : ℕ) : Type 0 where
   pub bytes_are : bytes ≡ byte_len (concat chunks)
   pub chars_are : chars ≡ length (concat chunks)
   pub count_is : count ≡ char_to_line breaks text chars
 
--- the chunk at a place holds a byte or a character of a slice, or its end; with the bytes, the characters and the line breaks that
--- lie before it. A slice with no chunk has the empty text there
+-- the chunk here contains a byte or a character of a slice, or its end; with the numbers of bytes,
+-- characters and line breaks before it. A slice without chunks has the empty text there
 pub record IsHolding (unit : Unit) (idx : ℕ) (c : Content) (p : Place) (bytes chars count : ℕ) : Type 0 where
   pub text : concat (leaves p) ≡ c.text
   pub chunks : 0 < length c.text → leaves p ≡ c.chunks

@@ -1,4 +1,4 @@
--- How a path keeps its leaf: by the byte at which that starts, and by the list in which it stands.
+-- The fields of a path: the byte at which its leaf starts, and the list that contains the leaf.
 use Rattle.std.specs.Prelude.{◌≡◌, ℕ, ◌+◌, ◌-◌, ◌<◌, ◌≤◌, Option, List, [], ◌∷◌, length, take, drop, get_or, All, IsSomeAnd}
 use Rattle.std.specs.Borrow.{Bor}
 use Rattle.std.specs.List.{concat}
@@ -10,7 +10,7 @@ use Rattle.rope_tree.specs.Tree.{Tree, IsTree, tree_over}
 use Rattle.rope_tree.specs.View.{IsInnerOf}
 use Rattle.rope_slice.specs.Path.{Place}
 
--- the place among the leaves of the one that starts at a byte
+-- the leaf that starts at a byte, among the leaves
 abbrev pub place_at : List (List ℕ) → List ℕ → ℕ → Place
 place_at leaves leaf start = record { before = take (chunk_index_at_byte leaves start) leaves; here = leaf; after = drop (chunk_index_at_byte leaves start + 1) leaves }
 
@@ -19,7 +19,7 @@ pub record IsLow (t : Tree) : Type 0 where
   pub levels : t.height ≤ 0
   pub some : 0 < length t.leaves
 
--- these nodes are leaves that follow each other, of which the one at `at` has the number `index` among all
+-- these nodes are consecutive leaves, and the one at `at` has the number `index` among all
 pub record AreInList (leaves : List (List ℕ)) (index : ℕ) (nodes : List Tree) (at : ℕ) : Type 0 where
   pub here : 0 < at + length nodes → at < length nodes
   pub few : length nodes ≤ MAX_CHILDREN
@@ -41,7 +41,7 @@ pub record IsWay (t : Tree) (nodes : List Tree) (at : ℕ) (leaf : List ℕ) (st
 abbrev pub AreListed : List Tree → Option (Bor (List TextInfo)) → Type 0
 AreListed nodes totals = IsSomeAnd totals (λ sums. IsInnerOf (tree_over nodes) nodes sums.now)
 
--- a way whose list, if it has one, has its totals at hand
+-- a path whose list, if it has one, comes with its totals
 pub record IsListedWay (t : Tree) (nodes : List Tree) (totals : Option (Bor (List TextInfo))) (at : ℕ) (leaf : List ℕ) (start : ℕ) : Type 0 where
   pub way : IsWay t nodes at leaf start
   pub listed : 0 < length nodes → AreListed nodes totals

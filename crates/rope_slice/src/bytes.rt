@@ -1,4 +1,5 @@
-//! A cursor over the bytes of a slice.
+//! A cursor over the bytes of a slice. A start costs one or two lookups, a step at the end of a
+//! chunk up to one. No call takes memory.
 ghost use Rattle.std.specs.Prelude.{◌≡◌, ℕ, ◌≤◌, ⊤};
 ghost use Rattle.std.specs.Bool.{MatchBool};
 ghost use Rattle.std.specs.Str.{encode_utf8_all};
@@ -17,9 +18,9 @@ use std::alloc::AllocError;
 use std::iter::ExactSizeIterator;
 use std::marker::Model;
 
-/// A cursor over the bytes of a slice, between two of them. It takes no memory.
+/// A cursor between two bytes of a slice.
 ///
-/// As `Debug` it shows where it stands and which way it faces, and no text.
+/// `Debug` prints its position and direction, without text.
 #[derive(Drop)]
 #[derive_where(Debug)]
 pub struct Bytes<'a> {
@@ -28,7 +29,7 @@ pub struct Bytes<'a> {
     // the span's chunk, kept here so that a step within it is one read
     #[derive_where(skip)]
     chunk: &'a str,
-    // the bytes before the chunk, those of the chunk behind the cursor, and all of them
+    // the bytes before the chunk, those of the chunk before the cursor, and all of them
     before: usize,
     at: usize,
     total: usize,
@@ -48,8 +49,9 @@ impl<'a> Model for Bytes<'a> {
 }
 
 impl<'a> RopeSlice<'a> {
-    /// A cursor over the bytes, before the first, facing forward. Costs one or two look-ups; takes
-    /// no memory.
+    /// Returns a cursor before the first byte, facing forward.
+    ///
+    /// `RopeSlice::from("ab").bytes().next()` is `Some(b'a')`.
     #[inline(always)]
     pub fn bytes(&self) -> Bytes<'a>
         ensures { result ≡ at_start (encode_utf8_all (text_of self.now)) }
@@ -57,10 +59,11 @@ impl<'a> RopeSlice<'a> {
         self.bytes_at(0)
     }
 
-    /// A cursor over the bytes, before the byte `byte_idx`, counted from 0, facing forward; for
-    /// `len_bytes()` it stands past the last one.
+    /// Returns a cursor before the byte `byte_idx`, facing forward; for `len_bytes()` it is past
+    /// the last byte.
     ///
-    /// The index is at most `len_bytes()`. Costs one or two look-ups; takes no memory.
+    /// The index is at most `len_bytes()`. `RopeSlice::from("ab").bytes_at(1).next()` is
+    /// `Some(b'b')`.
     #[inline(always)]
     pub fn bytes_at(&self, byte_idx: usize) -> Bytes<'a>
         requires { byte_idx ≤ byte_len (text_of self.now) }
@@ -79,8 +82,7 @@ impl<'a> RopeSlice<'a> {
         }
     }
 
-    /// As `bytes_at`, or `None` exactly where the index is past `len_bytes()`. Costs one or two
-    /// look-ups; takes no memory.
+    /// Returns a cursor as `bytes_at` does, or `None` exactly if the index is past `len_bytes()`.
     pub fn get_bytes_at(&self, byte_idx: usize) -> Option<Bytes<'a>>
         ensures { GivesWithin byte_idx (byte_len (text_of self.now)) result
             (λ bytes. bytes ≡ at_place (encode_utf8_all (text_of self.now)) byte_idx) }
@@ -90,7 +92,7 @@ impl<'a> RopeSlice<'a> {
 }
 
 impl<'a> Bytes<'a> {
-    // One byte to the left, or to the right.
+    // Moves over one byte to the left, or to the right.
     fn step(&mut self, is_left: bool) -> Option<u8>
         ensures { MatchBool is_left (GoesLeft (λ x. x) self.old result self.new)
             (GoesRight (λ x. x) self.old result self.new) }
@@ -113,7 +115,7 @@ impl<'a> Bytes<'a> {
         Some(self.chunk.as_bytes()[at])
     }
 
-    /// The byte behind, to which it steps back; or none at that end, where it stays.
+    /// Moves back over one byte and returns it, or returns `None` at that end.
     #[inline(always)]
     pub fn prev(&mut self) -> Option<u8>
         ensures { StepsBack (λ x. x) self.old result self.new }
@@ -125,14 +127,14 @@ impl<'a> Bytes<'a> {
         }
     }
 
-    /// Turns it round where it stands: `next` and `prev` change places.
+    /// Reverses the direction: `next` and `prev` change roles.
     pub fn reverse(&mut self)
         ensures { self.new ≡ turned self.old }
     {
         self.is_backward = !self.is_backward;
     }
 
-    /// The same cursor turned round.
+    /// Returns the cursor with its direction reversed.
     pub fn reversed(mut self) -> Bytes<'a>
         ensures { result ≡ turned self.entry }
     {
@@ -148,7 +150,7 @@ impl<'a> Iterator for Bytes<'a> {
 
     ghost remaining = { item_count ahead };
 
-    /// The next byte, or none at the end, where it stays.
+    /// Moves over the next byte and returns it, or returns `None` at the end.
     #[inline(always)]
     fn next(&mut self) -> Option<u8>
         ensures steps { YieldsFirstBy (λ x. x) ahead self.old result self.new }
@@ -161,7 +163,7 @@ impl<'a> Iterator for Bytes<'a> {
         }
     }
 
-    /// How many bytes it still gives, which is exact.
+    /// Returns the exact number of bytes left.
     fn size_hint(&self) -> (usize, Option<usize>)
         ensures { CountsAhead self.now result.0 result.1 }
     {
@@ -170,7 +172,7 @@ impl<'a> Iterator for Bytes<'a> {
 }
 
 impl<'a> ExactSizeIterator for Bytes<'a> {
-    /// How many bytes it still gives.
+    /// Returns the number of bytes left.
     fn len(&self) -> usize {
         let left = self.total - self.before - self.at;
         let passed = self.total - left;

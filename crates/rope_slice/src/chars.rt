@@ -1,4 +1,5 @@
-//! A cursor over the characters of a slice.
+//! A cursor over the characters of a slice. A start costs one or two lookups, a step at the end of
+//! a chunk up to one. No call takes memory.
 ghost use Rattle.std.specs.Prelude.{◌≡◌, ℕ, ◌≤◌, length, ⊤};
 ghost use Rattle.std.specs.Iterator.{YieldsFirstBy, item_count};
 ghost use Rattle.rope_slice.specs.Found.{GivesWithin};
@@ -13,18 +14,19 @@ use std::alloc::AllocError;
 use std::iter::ExactSizeIterator;
 use std::marker::Model;
 
-/// A cursor over the characters of a slice, between two of them. It takes no memory.
+/// A cursor between two characters of a slice.
 ///
-/// As `Debug` it shows where it stands and which way it faces, and no text.
+/// `Debug` prints its position and direction, without text.
 #[derive(Drop)]
 #[derive_where(Debug)]
 pub struct Chars<'a> {
     #[derive_where(skip)]
     span: Span<'a>,
-    // the span's chunk, kept here so that a step within it reads no more than the character
+    // the span's chunk, kept here so that a step within it reads only the character
     #[derive_where(skip)]
     chunk: &'a str,
-    // the bytes of the chunk behind it; the characters of the text behind it, and all of them
+    // the bytes of the chunk before the cursor; the characters of the text before it, and all of
+    // them
     #[derive_where(skip)]
     at: usize,
     passed: usize,
@@ -45,8 +47,9 @@ impl<'a> Model for Chars<'a> {
 }
 
 impl<'a> RopeSlice<'a> {
-    /// A cursor over the characters, before the first, facing forward. Costs one or two look-ups;
-    /// takes no memory.
+    /// Returns a cursor before the first character, facing forward.
+    ///
+    /// `RopeSlice::from("éa").chars().next()` is `Some('é')`.
     #[inline(always)]
     pub fn chars(&self) -> Chars<'a>
         ensures { result ≡ at_start (text_of self.now) }
@@ -54,10 +57,11 @@ impl<'a> RopeSlice<'a> {
         self.chars_at(0)
     }
 
-    /// A cursor over the characters, before the character `char_idx`, counted from 0, facing
-    /// forward; for `len_chars()` it stands past the last one.
+    /// Returns a cursor before the character `char_idx`, facing forward; for `len_chars()` it is
+    /// past the last character.
     ///
-    /// The index is at most `len_chars()`. Costs one or two look-ups; takes no memory.
+    /// The index is at most `len_chars()`. `RopeSlice::from("éa").chars_at(1).next()` is
+    /// `Some('a')`.
     #[inline(always)]
     pub fn chars_at(&self, char_idx: usize) -> Chars<'a>
         requires { char_idx ≤ length (text_of self.now) }
@@ -76,8 +80,7 @@ impl<'a> RopeSlice<'a> {
         }
     }
 
-    /// As `chars_at`, or `None` exactly where the index is past `len_chars()`. Costs one or two
-    /// look-ups; takes no memory.
+    /// Returns a cursor as `chars_at` does, or `None` exactly if the index is past `len_chars()`.
     pub fn get_chars_at(&self, char_idx: usize) -> Option<Chars<'a>>
         ensures { GivesWithin char_idx (length (text_of self.now)) result
             (λ chars. chars ≡ at_place (text_of self.now) char_idx) }
@@ -87,7 +90,8 @@ impl<'a> RopeSlice<'a> {
 }
 
 impl<'a> Chars<'a> {
-    // One character to the right. Inlined: mostly it stays in the chunk, and a call costs as much.
+    // Moves over one character to the right. Inlined: it mostly stays in the chunk, where a call
+    // would cost as much as the step.
     #[inline(always)]
     fn right(&mut self) -> Option<char>
         ensures { GoesRight (λ x. x) self.old result self.new }
@@ -111,7 +115,7 @@ impl<'a> Chars<'a> {
         Some(c)
     }
 
-    // One character to the left.
+    // Moves over one character to the left.
     #[inline(always)]
     fn left(&mut self) -> Option<char>
         ensures { GoesLeft (λ x. x) self.old result self.new }
@@ -134,7 +138,7 @@ impl<'a> Chars<'a> {
         Some(c)
     }
 
-    /// The character behind, to which it steps back; or none at that end, where it stays.
+    /// Moves back over one character and returns it, or returns `None` at that end.
     #[inline(always)]
     pub fn prev(&mut self) -> Option<char>
         ensures { StepsBack (λ x. x) self.old result self.new }
@@ -146,14 +150,14 @@ impl<'a> Chars<'a> {
         }
     }
 
-    /// Turns it round where it stands: `next` and `prev` change places.
+    /// Reverses the direction: `next` and `prev` change roles.
     pub fn reverse(&mut self)
         ensures { self.new ≡ turned self.old }
     {
         self.is_backward = !self.is_backward;
     }
 
-    /// The same cursor turned round.
+    /// Returns the cursor with its direction reversed.
     pub fn reversed(mut self) -> Chars<'a>
         ensures { result ≡ turned self.entry }
     {
@@ -169,7 +173,7 @@ impl<'a> Iterator for Chars<'a> {
 
     ghost remaining = { item_count ahead };
 
-    /// The next character, or none at the end, where it stays.
+    /// Moves over the next character and returns it, or returns `None` at the end.
     #[inline(always)]
     fn next(&mut self) -> Option<char>
         ensures steps { YieldsFirstBy (λ x. x) ahead self.old result self.new }
@@ -182,7 +186,7 @@ impl<'a> Iterator for Chars<'a> {
         }
     }
 
-    /// How many characters it still gives, which is exact.
+    /// Returns the exact number of characters left.
     fn size_hint(&self) -> (usize, Option<usize>)
         ensures { CountsAhead self.now result.0 result.1 }
     {
@@ -191,7 +195,7 @@ impl<'a> Iterator for Chars<'a> {
 }
 
 impl<'a> ExactSizeIterator for Chars<'a> {
-    /// How many characters it still gives.
+    /// Returns the number of characters left.
     fn len(&self) -> usize {
         let left = self.total - self.passed;
         if self.is_backward { self.passed } else { left }

@@ -1,4 +1,4 @@
-//! A cursor over the chunks of a slice.
+//! A cursor over the chunks of a slice. A start costs one or two lookups. No call takes memory.
 ghost use Rattle.std.specs.Prelude.{◌≡◌, ◌≤◌, length, List, ⊤};
 ghost use Rattle.std.specs.Bool.{MatchBool};
 ghost use Rattle.std.specs.Str.{chars};
@@ -19,15 +19,15 @@ use rope_tree::{Unit, count};
 use std::alloc::AllocError;
 use std::marker::Model;
 
-/// A cursor over chunks, and how many bytes, characters and line breaks stand before its place.
+/// A cursor over chunks, and the numbers of bytes, characters and line breaks before it.
 pub type ChunksAt<'a> = (Chunks<'a>, usize, usize, usize);
 
-/// A cursor over the chunks of a slice. It takes no memory.
+/// A cursor over the chunks of a slice.
 ///
-/// It stands at a chunk, before it or past it. An empty slice has no chunk: its cursor stands at a
-/// text that it never gives.
+/// It refers to a chunk and is before or past it. An empty slice has no chunk: its cursor refers to
+/// an empty text that it never returns.
 ///
-/// As `Debug` it shows whether it stands past its chunk and which way it faces, and no text.
+/// `Debug` prints whether it is past its chunk, and its direction, without text.
 #[derive(Drop)]
 #[derive_where(Debug)]
 pub struct Chunks<'a> {
@@ -49,9 +49,9 @@ impl<'a> Model for Chunks<'a> {
 }
 
 impl<'a> RopeSlice<'a> {
-    // A cursor before the chunk that holds a byte or a character, facing forward; at the end of the
-    // text past the last chunk. With it the bytes, the characters and the line breaks of the text
-    // before its place. Inlined: the unit is a constant at each call, and of a slice in one chunk
+    // Returns a cursor before the chunk that contains a byte or a character, facing forward; at the
+    // end of the text past the last chunk. Also returns the numbers of bytes, characters and line
+    // breaks before it. Inlined: the unit is a constant at each call, and for a slice of one chunk
     // the cursor is its text and two flags.
     #[inline(always)]
     fn chunks_from(&self, unit: Unit, idx: usize) -> ChunksAt<'a>
@@ -76,8 +76,9 @@ impl<'a> RopeSlice<'a> {
         (chunks, before.bytes, before.chars, before.break_count)
     }
 
-    /// A cursor over the chunks, before the first, facing forward. Costs one or two look-ups; takes
-    /// no memory.
+    /// Returns a cursor before the first chunk, facing forward.
+    ///
+    /// `RopeSlice::from("ab").chunks().next()` is `Some("ab")`.
     #[inline(always)]
     pub fn chunks(&self) -> Chunks<'a>
         ensures { result ≡ at_start (chunks_of self.now) }
@@ -85,11 +86,12 @@ impl<'a> RopeSlice<'a> {
         self.chunks_from(Unit::Char, 0).0
     }
 
-    /// A cursor over the chunks, before the chunk that holds the byte `byte_idx`, facing forward;
-    /// for `len_bytes()` it stands past the last chunk. With it the numbers of bytes, of characters
-    /// and of line breaks that end before the cursor.
+    /// Returns a cursor before the chunk that contains the byte `byte_idx`, facing forward; for
+    /// `len_bytes()` it is past the last chunk. Also returns the numbers of bytes, characters and
+    /// line breaks that end before the cursor.
     ///
-    /// The index is at most `len_bytes()`. Costs one or two look-ups; takes no memory.
+    /// The index is at most `len_bytes()`. For `"ab"`, `chunks_at_byte(2)` returns the numbers 2, 2
+    /// and 0.
     #[inline(always)]
     pub fn chunks_at_byte(&self, byte_idx: usize) -> ChunksAt<'a>
         requires { byte_idx ≤ byte_len (text_of self.now) }
@@ -99,11 +101,12 @@ impl<'a> RopeSlice<'a> {
         self.chunks_from(Unit::Byte, byte_idx)
     }
 
-    /// A cursor over the chunks, before the chunk that holds the character `char_idx`, facing
-    /// forward; for `len_chars()` it stands past the last chunk. With it the numbers of bytes, of
-    /// characters and of line breaks that end before the cursor.
+    /// Returns a cursor before the chunk that contains the character `char_idx`, facing forward;
+    /// for `len_chars()` it is past the last chunk. Also returns the numbers of bytes, characters
+    /// and line breaks that end before the cursor.
     ///
-    /// The index is at most `len_chars()`. Costs one or two look-ups; takes no memory.
+    /// The index is at most `len_chars()`. For `"éb"`, `chunks_at_char(2)` returns the numbers 3, 2
+    /// and 0.
     #[inline(always)]
     pub fn chunks_at_char(&self, char_idx: usize) -> ChunksAt<'a>
         requires { char_idx ≤ length (text_of self.now) }
@@ -113,12 +116,12 @@ impl<'a> RopeSlice<'a> {
         self.chunks_from(Unit::Char, char_idx)
     }
 
-    /// A cursor over the chunks, before the first chunk by whose end `line_break_idx` line breaks
-    /// have ended, or else before the last, facing forward; for `len_lines()` it stands past the
-    /// last chunk. With it the numbers of bytes, of characters and of line breaks that end before
-    /// the cursor.
+    /// Returns a cursor before the first chunk that ends after `line_break_idx` line breaks, or
+    /// else before the last, facing forward; for `len_lines()` it is past the last chunk. Also
+    /// returns the numbers of bytes, characters and line breaks that end before the cursor.
     ///
-    /// The index is at most `len_lines()`. Costs one or two look-ups; takes no memory.
+    /// The index is at most `len_lines()`. For `"a\nb"`, `chunks_at_line_break(2)` returns the
+    /// numbers 3, 3 and 1.
     #[inline(always)]
     pub fn chunks_at_line_break(&self, line_break_idx: usize) -> ChunksAt<'a>
         requires { line_break_idx ≤ line_count (breaks_of self.now) (text_of self.now) }
@@ -135,8 +138,8 @@ impl<'a> RopeSlice<'a> {
         self.chunks_from(Unit::Char, char_idx)
     }
 
-    /// As `chunks_at_byte`, or `None` exactly where the index is past `len_bytes()`. Costs one or
-    /// two look-ups; takes no memory.
+    /// Returns a cursor as `chunks_at_byte` does, or `None` exactly if the index is past
+    /// `len_bytes()`.
     pub fn get_chunks_at_byte(&self, byte_idx: usize) -> Option<ChunksAt<'a>>
         ensures { GivesWithin byte_idx (byte_len (text_of self.now)) result
             (StandsBefore (content_of self.now)
@@ -145,8 +148,8 @@ impl<'a> RopeSlice<'a> {
         Some(self.chunks_at_byte(within(byte_idx, self.len_bytes())?))
     }
 
-    /// As `chunks_at_char`, or `None` exactly where the index is past `len_chars()`. Costs one or
-    /// two look-ups; takes no memory.
+    /// Returns a cursor as `chunks_at_char` does, or `None` exactly if the index is past
+    /// `len_chars()`.
     pub fn get_chunks_at_char(&self, char_idx: usize) -> Option<ChunksAt<'a>>
         ensures { GivesWithin char_idx (length (text_of self.now)) result
             (StandsBefore (content_of self.now)
@@ -155,8 +158,8 @@ impl<'a> RopeSlice<'a> {
         Some(self.chunks_at_char(within(char_idx, self.len_chars())?))
     }
 
-    /// As `chunks_at_line_break`, or `None` exactly where the index is past `len_lines()`. Costs
-    /// one or two look-ups; takes no memory.
+    /// Returns a cursor as `chunks_at_line_break` does, or `None` exactly if the index is past
+    /// `len_lines()`.
     pub fn get_chunks_at_line_break(&self, line_break_idx: usize) -> Option<ChunksAt<'a>>
         ensures { GivesWithin line_break_idx (line_count (breaks_of self.now) (text_of self.now))
             result (StandsBefore (content_of self.now)
@@ -167,7 +170,7 @@ impl<'a> RopeSlice<'a> {
 }
 
 impl<'a> Chunks<'a> {
-    // One chunk to the right, or to the left.
+    // Moves over one chunk to the left, or to the right.
     #[inline(always)]
     fn step(&mut self, is_left: bool) -> Option<&'a str>
         ensures { MatchBool is_left (GoesLeft (λ x. chars x.now) self.old result self.new)
@@ -183,7 +186,7 @@ impl<'a> Chunks<'a> {
         Some(self.span.chunk())
     }
 
-    /// The chunk behind, to which it steps back; or none at that end, where it stays.
+    /// Moves back over one chunk and returns it, or returns `None` at that end.
     #[inline(always)]
     pub fn prev(&mut self) -> Option<&'a str>
         ensures { StepsBack (λ x. chars x.now) self.old result self.new }
@@ -191,14 +194,14 @@ impl<'a> Chunks<'a> {
         self.step(!self.is_backward)
     }
 
-    /// Turns it round where it stands: `next` and `prev` change places.
+    /// Reverses the direction: `next` and `prev` change roles.
     pub fn reverse(&mut self)
         ensures { self.new ≡ turned self.old }
     {
         self.is_backward = !self.is_backward;
     }
 
-    /// The same cursor turned round.
+    /// Returns the cursor with its direction reversed.
     pub fn reversed(mut self) -> Chunks<'a>
         ensures { result ≡ turned self.entry }
     {
@@ -214,7 +217,7 @@ impl<'a> Iterator for Chunks<'a> {
 
     ghost remaining = { item_count ahead };
 
-    /// The next chunk, or none at the end, where it stays.
+    /// Moves over the next chunk and returns it, or returns `None` at the end.
     #[inline(always)]
     fn next(&mut self) -> Option<&'a str>
         ensures steps { YieldsFirstBy (λ x. chars x.now) ahead self.old result self.new }

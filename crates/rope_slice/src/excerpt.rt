@@ -1,4 +1,4 @@
-//! One character or more of a tree's text.
+//! Slices of a tree's text with at least one character.
 ghost use Rattle.std.specs.Prelude.{◌≡◌, ◌+◌, ◌-◌, ◌≤◌, ◌<◌, length, take};
 ghost use Rattle.std.specs.Str.{chars};
 ghost use Rattle.rope_text.specs.declared.TheConstants.{MAX_HEIGHT};
@@ -14,7 +14,7 @@ use rope_text::str_utils::{byte_to_line_of, byte_to_surrogates_of, char_to_byte_
 use rope_text::{Steps, TextInfo};
 use rope_tree::{Found, Node, Unit, convert_in, count, leaf_at};
 
-// The counts of the text before a line that is not the first, and what follows there of the leaf in
+// Returns the counts of the text before a line that is not the first, and the rest of the leaf in
 // which the break before it ends.
 #[inline(always)]
 fn line_start_at(node: &Node, line_idx: usize) -> (TextInfo, &str)
@@ -35,8 +35,8 @@ fn line_start_at(node: &Node, line_idx: usize) -> (TextInfo, &str)
     (found.before.plus(front), &leaf[front.bytes..])
 }
 
-// A place in a leaf: the leaf, with what stands before it, and how many of its bytes and of its
-// characters stand before the place.
+// A position in a leaf: the leaf with the counts before it, and the numbers of its bytes and
+// characters before the position.
 #[derive(Drop)]
 struct LeafPlace<'a> {
     found: Found<'a>,
@@ -44,7 +44,7 @@ struct LeafPlace<'a> {
     chars: usize,
 }
 
-/// The bytes, the characters and the line breaks of a text before a place in it.
+/// The numbers of bytes, characters and line breaks of a text before a position in it.
 #[derive(Clone, Copy)]
 pub(crate) struct Before {
     pub bytes: usize,
@@ -53,8 +53,8 @@ pub(crate) struct Before {
 }
 
 impl Before {
-    /// Those before a place, from a start on: none where the place lies before the start.
-    // Inlined: a call would store the numbers and load them again.
+    /// Returns the numbers between a start and a position: 0 if the position is before the start.
+    // Inlined to avoid a store-forwarding stall on the numbers.
     #[inline(always)]
     pub(crate) fn since(place: TextInfo, start: TextInfo) -> Before
         ensures bytes { result.bytes ≡ place.bytes - start.bytes }
@@ -69,12 +69,12 @@ impl Before {
     }
 }
 
-/// One character or more of a tree's text. It keeps the counts of the text before its start and
-/// before its end, so that a length is a difference of two of them, and a conversion is one of the
-/// tree's.
+/// A slice of a tree's text with at least one character. It keeps the counts of the text before its
+/// start and before its end, so that a length is a difference of two of them, and a conversion is
+/// one of the tree's.
 ///
 /// The breaks before the start are those that end there or before it; those before the end are the
-/// breaks of the text up to there by itself. So a CR LF that is cut at an end gives a break to each
+/// breaks of the text up to there alone. So a CR LF that is cut at an end gives a break to each
 /// side.
 #[derive(Clone, Copy)]
 pub struct Excerpt<'a> {
@@ -96,7 +96,8 @@ impl<'a> Excerpt<'a> {
     ghost use Rattle.rope_slice.specs.LeafPlace.{IsLeafPlace};
     ghost use Rattle.rope_slice.specs.Excerpt.{content_of, text_of, chunks_of, breaks_of};
 
-    /// A place in its text as a place in the tree's. For lines it may be the one past the last.
+    /// Converts an index of the slice to one of the tree's text. A line index may be the one past
+    /// the last.
     pub(crate) fn place(&self, unit: Unit, idx: usize) -> usize
         requires { idx ≤ count_of unit (info_of (breaks_of self.now) (text_of self.now)) + 1 }
         ensures value { result ≡ count_of unit self.now.start + idx }
@@ -106,7 +107,7 @@ impl<'a> Excerpt<'a> {
         count(self.start, unit) + idx
     }
 
-    /// The counts of its text.
+    /// Returns the counts of the slice's text.
     pub(crate) fn info(&self) -> TextInfo
         ensures value { result ≡ info_of (breaks_of self.now) (text_of self.now) }
         ensures kept { IsPart (content_of self.now) }
@@ -114,7 +115,8 @@ impl<'a> Excerpt<'a> {
         self.end.minus(self.start)
     }
 
-    /// What the leaf that holds its first character has from there on, perhaps past its end.
+    /// Returns the rest of the leaf from the slice's first character on, possibly past the slice's
+    /// end.
     fn first_held(&self) -> &'a str
         ensures { IsInChunk (text_of self.now) (chunks_of self.now) 0 (chars result.now) }
     {
@@ -122,7 +124,7 @@ impl<'a> Excerpt<'a> {
         &found.leaf.as_str()[self.start.bytes - found.before.bytes..]
     }
 
-    /// Its characters from `start` up to `end`, where one leaf has them all.
+    /// Returns the characters from `start` up to `end`, if one leaf has them all.
     pub(crate) fn in_one_leaf(&self, start: usize, end: usize) -> Option<&'a str>
         requires some { start < end }
         requires within { end ≤ length (text_of self.now) }
@@ -142,8 +144,8 @@ impl<'a> Excerpt<'a> {
         Some(&held[..char_to_byte_idx(held, count)])
     }
 
-    // The place of a character: the leaf that holds it, and how many of the leaf's bytes and
-    // characters stand before it.
+    // Finds the position of a character: the leaf that contains it, and the numbers of the leaf's
+    // bytes and characters before it.
     #[inline(always)]
     fn place_of_char(&self, char_idx: usize) -> LeafPlace<'a>
         requires { char_idx < length (text_of self.now) }
@@ -162,8 +164,8 @@ impl<'a> Excerpt<'a> {
         }
     }
 
-    // The place of the character that begins at a byte; none where the byte lies inside a
-    // character.
+    // Finds the position of the character that begins at a byte. Returns `None` if the byte is
+    // inside a character.
     #[inline(always)]
     fn place_of_byte(&self, byte_idx: usize) -> Option<LeafPlace<'a>>
         requires { byte_idx < byte_len (text_of self.now) }
@@ -190,7 +192,7 @@ impl<'a> Excerpt<'a> {
         })
     }
 
-    // The `start` of its part from a place on.
+    // Returns the `start` counts of the slice from a position on.
     #[inline(always)]
     fn start_at(&self, place: LeafPlace<'a>) -> TextInfo
         requires place { IsLeafPlace self.now.node.now (place.found.before.chars + place.chars)
@@ -216,7 +218,7 @@ impl<'a> Excerpt<'a> {
         }
     }
 
-    // The `end` of its part up to a place.
+    // Returns the `end` counts of the slice up to a position.
     #[inline(always)]
     fn end_at(&self, place: LeafPlace<'a>) -> TextInfo
         requires place { IsLeafPlace self.now.node.now (place.found.before.chars + place.chars)
@@ -236,7 +238,7 @@ impl<'a> Excerpt<'a> {
         found.before.plus(front)
     }
 
-    /// The `start` of its part from a character on.
+    /// Returns the `start` counts of the slice from a character on.
     #[inline(always)]
     pub(crate) fn start_of(&self, char_idx: usize) -> TextInfo
         requires { char_idx < length (text_of self.now) }
@@ -249,7 +251,7 @@ impl<'a> Excerpt<'a> {
         self.start_at(self.place_of_char(char_idx))
     }
 
-    /// The `end` of its part up to a character.
+    /// Returns the `end` counts of the slice up to a character.
     #[inline(always)]
     pub(crate) fn end_of(&self, char_idx: usize) -> TextInfo
         requires { char_idx ≤ length (text_of self.now) }
@@ -262,8 +264,8 @@ impl<'a> Excerpt<'a> {
         self.end_at(self.place_of_char(char_idx))
     }
 
-    /// The `start` of its part from the character on that begins at a byte; none where the byte
-    /// lies inside a character.
+    /// Returns the `start` counts of the slice from the character that begins at a byte. Returns
+    /// `None` if the byte is inside a character.
     #[inline(always)]
     pub(crate) fn start_of_byte(&self, byte_idx: usize) -> Option<TextInfo>
         requires { byte_idx < byte_len (text_of self.now) }
@@ -278,8 +280,8 @@ impl<'a> Excerpt<'a> {
         Some(self.start_at(self.place_of_byte(byte_idx)?))
     }
 
-    /// The `end` of its part up to the character that begins at a byte; none where the byte lies
-    /// inside a character.
+    /// Returns the `end` counts of the slice up to the character that begins at a byte. Returns
+    /// `None` if the byte is inside a character.
     #[inline(always)]
     pub(crate) fn end_of_byte(&self, byte_idx: usize) -> Option<TextInfo>
         requires { byte_idx ≤ byte_len (text_of self.now) }
@@ -294,8 +296,8 @@ impl<'a> Excerpt<'a> {
         Some(self.end_at(self.place_of_byte(byte_idx)?))
     }
 
-    // The counts of its text up to a place of the tree's text behind its start; past its end those
-    // of all of it.
+    // Returns the counts of the slice's text up to a position of the tree's text after its start;
+    // past its end those of all of it.
     fn counts_to(&self, place: TextInfo) -> TextInfo
         requires later { self.now.start.chars < place.chars }
         requires within { place.chars ≤ length (text self.now.node.now) }
@@ -310,7 +312,7 @@ impl<'a> Excerpt<'a> {
         place.minus(self.start)
     }
 
-    /// The counts of its text before a line; past the last line those of all of it.
+    /// Returns the counts of the slice's text before a line; past the last line those of all of it.
     #[inline(always)]
     pub(crate) fn before_line(&self, line_idx: usize) -> TextInfo
         requires { line_idx ≤ line_count (breaks_of self.now) (text_of self.now) }
@@ -327,9 +329,9 @@ impl<'a> Excerpt<'a> {
         self.counts_to(line_start_at(self.node, place).0)
     }
 
-    /// The counts of its text before a line, and before the next one; past the last line those of
-    /// all of it. And what the leaf in which the line starts has from there on. One look-up, where
-    /// the line ends before that leaf does.
+    /// Returns the counts of the slice's text before a line and before the next one, and the rest
+    /// of the leaf from the line's start on. Past the last line the counts are those of all of the
+    /// text. Costs one lookup if the line ends before that leaf does.
     #[inline(always)]
     pub(crate) fn around_line(&self, line_idx: usize) -> LinePlace<'a>
         requires { line_idx < line_count (breaks_of self.now) (text_of self.now) }

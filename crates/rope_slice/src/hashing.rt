@@ -1,4 +1,4 @@
-//! What a hasher is handed of a text, however it is cut. No memory is taken.
+//! The writes of a text to a hasher, independent of its chunks. No call takes memory.
 ghost use Rattle.std.specs.Prelude.{◌≡◌, ℕ, ◌+◌, ◌<◌, ◌≤◌, List, ◌++◌, length, take, fold};
 ghost use Rattle.std.proofs.Common.{rules};
 ghost use Rattle.rope_text.specs.Compare.{blocks};
@@ -8,11 +8,11 @@ use crate::pieces::Pieces;
 use crate::slice::RopeSlice;
 use std::hash::{Hash, Hasher};
 
-// How many bytes a hasher is handed at once.
+// The number of bytes of a write.
 const BLOCK_BYTES: usize = 256;
 
-// Puts the bytes behind the held ones of the block, hands over each block that is full, and answers
-// how many are held then. Where none is held, whole blocks are handed over from where they lie.
+// Appends bytes to the held ones of the block, writes each full block to the hasher, and returns
+// the number of bytes held. If none is held, whole blocks are written without a copy.
 fn feed_piece<H: Hasher>(state: &mut H, block: &mut [u8], held: usize, bytes: &[u8]) -> usize
     requires size { length block.old ≡ 256 }
     requires room { held < 256 }
@@ -42,7 +42,7 @@ fn feed_piece<H: Hasher>(state: &mut H, block: &mut [u8], held: usize, bytes: &[
     rest.len()
 }
 
-// Puts the bytes behind the first `held` ones of the block.
+// Copies bytes to the block after the first `held` ones.
 fn put(block: &mut [u8], held: usize, bytes: &[u8])
     requires { held + length bytes.now ≤ length block.old }
     ensures size { length block.new ≡ length block.old }
@@ -51,8 +51,8 @@ fn put(block: &mut [u8], held: usize, bytes: &[u8])
     block[held..held + bytes.len()].copy_from_slice(bytes);
 }
 
-/// A hasher is handed the bytes of the text in blocks of 256, the last one shorter where need be,
-/// and then 0xff: however it is cut.
+/// Writes the bytes of the text in blocks of 256, the last one possibly shorter, and then 0xff,
+/// independent of the chunks.
 impl<'a> Hash for RopeSlice<'a> {
     ghost use Rattle.std.specs.Cmp.Rules.{hashing};
     ghost use Rattle.rope_slice.specs.Slice.{writes_of};

@@ -1,5 +1,5 @@
-//! Laws: what equality, order and hash of slices say of their texts; each cursor steps as one in
-//! the list of its items.
+//! Laws: equality, order and hash of slices in terms of their texts; each cursor steps through the
+//! list of its items.
 ghost use Rattle.std.specs.Prelude.{◌≡◌, IsTrue, ◌↔◌, ℕ, List};
 ghost use Rattle.std.specs.Cmp.{IsTotalOrder};
 ghost use Rattle.std.specs.declared.cmp.Ordering.TheVariants.{Equal};
@@ -13,9 +13,9 @@ ghost use Rattle.rope_text.specs.Laws.{StepsUndo, StepsAreCursors, StartsCount};
 use crate::slice::RopeSlice;
 use std::hash::Hash;
 
-/// It does nothing; its contract is the law. Two slices are equal exactly if their texts are,
-/// however they are cut; their order is total, and only equal slices tie; equal slices hand any
-/// hasher the same writes.
+/// Does nothing; the contract is the law. Two slices are equal exactly if their texts are,
+/// independent of their chunks; their order is total, and only equal slices tie; equal slices give
+/// any hasher the same writes.
 pub fn texts_are_compared()
     ensures equal { (a b : RopeSlice) →
         (IsTrue (⟦<RopeSlice<'static> as PartialEq>⟧.eq a b) ↔ (text_of a ≡ text_of b)) }
@@ -27,10 +27,10 @@ pub fn texts_are_compared()
         ⟦<RopeSlice<'static> as Hash>⟧.hash_input a ≡ ⟦<RopeSlice<'static> as Hash>⟧.hash_input b }
 {}
 
-/// It does nothing; its contract is the law. A step back undoes a step, the two sides are a cursor,
-/// and what is ahead is as many items as are left. `Bytes` and `Chars` are cursors over the lists
-/// of the slice's bytes and characters. `Chunks` is one over its chunks, by the text of each, and
-/// `Lines` one over its lines, by what each shows.
+/// Does nothing; the contract is the law. A step back undoes a step, the two sides are a cursor,
+/// and the number of items ahead is the number left. `Bytes` and `Chars` are cursors over the lists
+/// of the slice's bytes and characters. `Chunks` is a cursor over the texts of its chunks, and
+/// `Lines` one over the contents of its lines.
 pub fn steps_are_of_cursors()
     ensures undo { StepsUndo ℕ }
     ensures steps { StepsAreCursors (λ (x : ℕ). x) }

@@ -1,22 +1,22 @@
-//! Borrowed slices of ropes and of plain texts. No call takes memory, but for those that copy a
-//! text out.
+//! Borrowed slices of ropes and of plain texts. No call takes memory, except those that copy a
+//! text.
 //!
-//! A slice answers everything that a rope does, about its own text: `rope.slice(4..).line(0)` is
-//! the first line from character 4 on. A *look-up* enters one node a level of the rope's tree and
-//! reads part of one chunk; in a plain text it reads the text up to the place.
+//! A slice has the queries of a rope, over its own text: `rope.slice(4..).line(0)` is the first
+//! line from character 4 on. A *lookup* enters one node a level of the rope's tree and reads part
+//! of one chunk; in a plain text it reads the text up to the index.
 //!
 //!     let slice = RopeSlice::from("one\ntwo");
 //!     let second = slice.line(1);  // "two"
 //!
-//! A cursor stands between two items. Over the characters of the slice `1..3` of `"abcd"`,
-//! `chars()` gives `b`, then `c`, then none.
+//! A cursor is between two items. Over the characters of the slice `1..3` of `"abcd"`, `chars()`
+//! gives `b`, then `c`, then none.
 //!
 //! Modules, lowest first:
-//! - `plain`, `excerpt`: a plain text; one character or more of a tree's text
+//! - `plain`, `excerpt`: a plain text; a slice of a tree's text with at least one character
 //! - `slice`: either of them, its lengths, and slices of it
 //! - `lookups`: bytes, characters and chunks by their index, and conversions
-//! - `path`, `span`, `point`: a leaf of a tree, a chunk of a slice, and a step over one character
-//!   of it
+//! - `path`, `span`, `point`: a leaf of a tree, a chunk of a slice, and a step over one of its
+//!   characters
 //! - `bytes`, `chars`, `chunks`, `lines`: the four cursors, and lines by their number
 //! - `line_end`: the line break at the end of a slice
 //! - `pieces`: the bytes of a slice, forward only
@@ -24,9 +24,9 @@
 //! - `laws`: equality, order and hash; each cursor steps through the list of its items
 #![tactic(auto)]
 
-// What answers a slice, a cursor or several counts is inlined, where it is short or the start of a
-// hot path: a call would store the answer in words, and a caller that moves it would stall on
-// loading it again wider.
+// Functions that return a slice, a cursor or several counts are inlined if they are short or the
+// start of a hot path: a call would store the result by words, and a caller that moves it would
+// have a store-forwarding stall.
 
 mod bytes;
 mod chars;

@@ -39,8 +39,10 @@ impl<'a> RopeSlice<'a> {
         1
     }
 
-    /// Returns the slice without the line break that it ends in; all of it if it ends in none. CR
-    /// LF is one break in the sets of line breaks that have CR.
+    /// Returns the slice without the line break at its end, if there is one. CR LF is one break in
+    /// the sets of line breaks that have CR.
+    ///
+    /// `RopeSlice::from("a\r\n").without_break()` is `"a"`.
     pub fn without_break(&self) -> RopeSlice<'a>
         ensures { content_of result ≡ part_between (content_of self.now) 0
             (length (text_of self.now) - last_break_len (breaks_of self.now) (text_of self.now)) }
@@ -52,8 +54,10 @@ impl<'a> RopeSlice<'a> {
         self.char_range(0, self.len_chars() - self.last_break_len())
     }
 
-    /// Returns the line break that the slice ends in; an empty slice if it ends in none. Together
-    /// with `without_break` this is the text of the slice.
+    /// Returns the line break at the end of the slice, or an empty slice if there is none. The
+    /// slice is `without_break` followed by `line_break`.
+    ///
+    /// `RopeSlice::from("a\r\n").line_break()` is `"\r\n"`.
     pub fn line_break(&self) -> RopeSlice<'a>
         ensures { content_of result ≡ part_between (content_of self.now)
             (length (text_of self.now) - last_break_len (breaks_of self.now) (text_of self.now))

@@ -1,4 +1,5 @@
-//! Lines of a slice by their number, and a cursor over them. No call takes memory.
+//! Lines of a slice by their number, and a cursor over them. A start costs one or two lookups. No
+//! call takes memory.
 //!
 //! The slice of all of `"a\nb\n"` has the lines `"a\n"`, `"b\n"` and `""`.
 ghost use Rattle.std.specs.Prelude.{◌≡◌, ◌≤◌, ◌<◌, ◌+◌, ◌++◌, ⊤, false, take, drop, length, MatchOption, IfSome};
@@ -32,18 +33,18 @@ use std::alloc::AllocError;
 use std::iter::ExactSizeIterator;
 use std::marker::Model;
 
-/// A cursor over the lines of a slice, each with its break. It takes no memory.
+/// A cursor over the lines of a slice, each with its line break.
 ///
 /// A slice has one line more than it has line breaks: after a break at its end there is an empty
 /// line.
 ///
-/// As `Debug` it shows where it stands and which way it faces, and no text.
+/// `Debug` prints its position and direction, without text.
 #[derive(Drop)]
 #[derive_where(Debug)]
 pub struct Lines<'a> {
     #[derive_where(skip)]
     slice: RopeSlice<'a>,
-    // the slice's, kept here: each step would else read it in the tree's root
+    // the slice's set, kept here: each step would otherwise read it in the tree's root
     #[derive_where(skip)]
     breaks: LineBreaks,
     #[derive_where(skip)]
@@ -71,7 +72,7 @@ impl<'a> Model for Lines<'a> {
 }
 
 impl<'a> RopeSlice<'a> {
-    // The counts of the text before a line; past the last line those of all of it.
+    // Returns the counts of the text before a line; past the last line those of all of it.
     #[inline(always)]
     fn before_line(&self, line_idx: usize) -> TextInfo
         requires { line_idx ≤ line_count (breaks_of self.now) (text_of self.now) }
@@ -83,8 +84,8 @@ impl<'a> RopeSlice<'a> {
         }
     }
 
-    // The counts of the text before a line, and before the next one; past the last line those of
-    // all of it. And what the chunk in which the line starts has from there on.
+    // Returns the counts of the text before a line and before the next one, and the rest of the
+    // chunk from the line's start on. Past the last line the counts are those of all of the text.
     #[inline(always)]
     fn around_line(&self, line_idx: usize) -> LinePlace<'a>
         requires { line_idx < line_count (breaks_of self.now) (text_of self.now) }
@@ -94,8 +95,8 @@ impl<'a> RopeSlice<'a> {
         ensures held { IsInChunk (text_of self.now) (chunks_of self.now) result.start.chars
             (chars result.held.now) }
     {
-        // For the proof: `info` says that a slice has at most `isize::MAX` bytes, so the counts up
-        // to the next line fit.
+        // For the proof: `info` ensures that a slice has at most `isize::MAX` bytes, so the counts
+        // up to the next line fit.
         let _ = self.info();
         match self {
             RopeSlice::InTree(excerpt) => excerpt.around_line(line_idx),
@@ -103,9 +104,9 @@ impl<'a> RopeSlice<'a> {
         }
     }
 
-    // The slice between two places, by the counts of the text up to them, and by the set of line
-    // breaks, which the caller knows. The first place lies in no CR LF. `held` is what a chunk has
-    // from there on: a slice that ends in it is its text, of which nothing is looked up again.
+    // Returns the slice between two positions, given the counts of the text up to them and the set
+    // of line breaks. The first position is in no CR LF. `held` is the rest of a chunk from there
+    // on: a slice that ends in it is a plain text, without a lookup.
     #[inline(always)]
     fn between(
         &self,
@@ -146,14 +147,14 @@ impl<'a> RopeSlice<'a> {
         }
     }
 
-    // The start of a line, or the end of the text, and the counts of the text before it.
+    // Returns the start of a line, or the end of the text, and the counts of the text before it.
     #[inline(always)]
     fn caret_at(&self, line_idx: usize) -> (Caret<'a>, TextInfo)
         requires { line_idx ≤ line_count (breaks_of self.now) (text_of self.now) }
         ensures { IsLineStart (content_of self.now) result.0 result.1 line_idx
             (line_count (breaks_of self.now) (text_of self.now)) }
     {
-        // For the proof: `info` says that a slice has at most `isize::MAX` bytes.
+        // For the proof: `info` ensures that a slice has at most `isize::MAX` bytes.
         let _ = self.info();
         let before = self.before_line(line_idx);
         let (span, inside) = Span::at_counts(self, before);
@@ -161,10 +162,10 @@ impl<'a> RopeSlice<'a> {
         (caret, before)
     }
 
-    /// The line `line_idx`, counted from 0, with its line break, as a slice.
+    /// Returns the line `line_idx`, with its line break, as a slice.
     ///
-    /// The index is below `len_lines()`. Costs a few look-ups, and counts the line; takes no
-    /// memory.
+    /// The index is below `len_lines()`. Costs a few lookups, and counts the line.
+    /// `RopeSlice::from("a\nb").line(0)` is `"a\n"`.
     pub fn line(&self, line_idx: usize) -> RopeSlice<'a>
         requires { line_idx < line_count (breaks_of self.now) (text_of self.now) }
         ensures { content_of result ≡ line_of (content_of self.now) line_idx }
@@ -173,8 +174,8 @@ impl<'a> RopeSlice<'a> {
         self.between(self.line_breaks(), line.start, line.end, line.held)
     }
 
-    /// The line `line_idx`, counted from 0, with its line break, or `None` exactly where the index
-    /// is `len_lines()` or past it. Costs a few look-ups, and counts the line; takes no memory.
+    /// Returns the line `line_idx`, with its line break, or `None` exactly if the index is
+    /// `len_lines()` or more. Costs a few lookups, and counts the line.
     pub fn get_line(&self, line_idx: usize) -> Option<RopeSlice<'a>>
         ensures { MatchOption result (line_count (breaks_of self.now) (text_of self.now) ≤ line_idx)
             (λ slice. (line_idx < line_count (breaks_of self.now) (text_of self.now))
@@ -183,8 +184,9 @@ impl<'a> RopeSlice<'a> {
         Some(self.line(within(line_idx, self.len_lines() - 1)?))
     }
 
-    /// A cursor over the lines, before the first, facing forward. Costs one or two look-ups; takes
-    /// no memory.
+    /// Returns a cursor before the first line, facing forward.
+    ///
+    /// `RopeSlice::from("a\nb").lines().next()` is the line `"a\n"`.
     #[inline(always)]
     pub fn lines(&self) -> Lines<'a>
         ensures { result ≡ at_start (lines_of (content_of self.now)) }
@@ -192,10 +194,11 @@ impl<'a> RopeSlice<'a> {
         self.lines_at(0)
     }
 
-    /// A cursor over the lines, before the line `line_idx`, counted from 0, facing forward; for
-    /// `len_lines()` it stands past the last line.
+    /// Returns a cursor before the line `line_idx`, facing forward; for `len_lines()` it is past
+    /// the last line.
     ///
-    /// The index is at most `len_lines()`. Costs one or two look-ups; takes no memory.
+    /// The index is at most `len_lines()`. `RopeSlice::from("a\nb").lines_at(1).next()` is the line
+    /// `"b"`.
     #[inline(always)]
     pub fn lines_at(&self, line_idx: usize) -> Lines<'a>
         requires { line_idx ≤ line_count (breaks_of self.now) (text_of self.now) }
@@ -204,8 +207,11 @@ impl<'a> RopeSlice<'a> {
         self.lines_and_counts_at(line_idx).0
     }
 
-    /// As `lines_at`, with the counts of the text before the line. Costs one or two look-ups; takes
-    /// no memory.
+    /// Returns a cursor before the line `line_idx`, facing forward, and the counts of the text
+    /// before the line.
+    ///
+    /// The index is at most `len_lines()`. For `"a\nb"` and line 1 the counts are 2 bytes, 2
+    /// characters, no surrogate pair and 1 line break.
     #[inline(always)]
     pub fn lines_and_counts_at(&self, line_idx: usize) -> (Lines<'a>, TextInfo)
         requires { line_idx ≤ line_count (breaks_of self.now) (text_of self.now) }
@@ -226,8 +232,7 @@ impl<'a> RopeSlice<'a> {
         (lines, before)
     }
 
-    /// As `lines_at`, or `None` exactly where the index is past `len_lines()`. Costs one or two
-    /// look-ups; takes no memory.
+    /// Returns a cursor as `lines_at` does, or `None` exactly if the index is past `len_lines()`.
     pub fn get_lines_at(&self, line_idx: usize) -> Option<Lines<'a>>
         ensures { GivesWithin line_idx (line_count (breaks_of self.now) (text_of self.now)) result
             (λ lines. lines ≡ at_place (lines_of (content_of self.now)) line_idx) }
@@ -237,8 +242,8 @@ impl<'a> RopeSlice<'a> {
 }
 
 impl<'a> Lines<'a> {
-    // One line to the left, or to the right. Inlined, so that of the slice only what the caller
-    // asks for is worked out; the text is read in a call.
+    // Moves over one line to the left, or to the right. Inlined, so that only the parts of the
+    // slice that the caller uses are computed; a call reads the text.
     #[inline(always)]
     fn step(&mut self, is_left: bool) -> Option<RopeSlice<'a>>
         ensures { MatchBool is_left (GoesLeft (λ x. content_of x) self.old result self.new)
@@ -264,8 +269,7 @@ impl<'a> Lines<'a> {
         Some(self.slice.between(breaks, here, self.before, held))
     }
 
-    /// The line behind, to which it steps back; or none at that end, where it stays. Takes no
-    /// memory.
+    /// Moves back over one line and returns it, or returns `None` at that end.
     #[inline(always)]
     pub fn prev(&mut self) -> Option<RopeSlice<'a>>
         ensures { StepsBack (λ x. content_of x) self.old result self.new }
@@ -273,14 +277,14 @@ impl<'a> Lines<'a> {
         self.step(!self.is_backward)
     }
 
-    /// Turns it round where it stands: `next` and `prev` change places.
+    /// Reverses the direction: `next` and `prev` change roles.
     pub fn reverse(&mut self)
         ensures { self.new ≡ turned self.old }
     {
         self.is_backward = !self.is_backward;
     }
 
-    /// The same cursor turned round.
+    /// Returns the cursor with its direction reversed.
     pub fn reversed(mut self) -> Lines<'a>
         ensures { result ≡ turned self.entry }
     {
@@ -296,7 +300,7 @@ impl<'a> Iterator for Lines<'a> {
 
     ghost remaining = { item_count ahead };
 
-    /// The next line, or none at the end, where it stays.
+    /// Moves over the next line and returns it, or returns `None` at the end.
     #[inline(always)]
     fn next(&mut self) -> Option<RopeSlice<'a>>
         ensures steps { YieldsFirstBy (λ x. content_of x) ahead self.old result self.new }
@@ -305,7 +309,7 @@ impl<'a> Iterator for Lines<'a> {
         self.step(self.is_backward)
     }
 
-    /// How many lines it still gives, which is exact.
+    /// Returns the exact number of lines left.
     fn size_hint(&self) -> (usize, Option<usize>)
         ensures { CountsAhead self.now result.0 result.1 }
     {
@@ -314,7 +318,7 @@ impl<'a> Iterator for Lines<'a> {
 }
 
 impl<'a> ExactSizeIterator for Lines<'a> {
-    /// How many lines it still gives.
+    /// Returns the number of lines left.
     fn len(&self) -> usize {
         let left = self.total - self.line;
         if self.is_backward { self.line } else { left }
@@ -337,7 +341,7 @@ impl<'a> Clone for Lines<'a> {
     }
 }
 
-// A place between two characters of a slice, which goes from line to line: a byte of a chunk.
+// A position between two characters of a slice, as a byte of a chunk. It moves from line to line.
 #[derive(Drop)]
 struct Caret<'a> {
     span: Span<'a>,
@@ -354,10 +358,10 @@ impl<'a> Model for Caret<'a> {
     ghost invariant = { λ a. IsCaret a.span a.inside };
 }
 
-// Passes the rest of a line, from the end of a chunk on, if it ends in the next chunk: returns the
-// byte of that chunk at which it ends, and puts the counts of what was passed in `more`: for counts
-// that it returned, a caller would clear stack at each line. Where it ends later the span may have
-// moved. Never inlined, so that a step within one chunk is kept short.
+// Passes the rest of a line, from the end of a chunk on, if it ends in the next chunk. Returns the
+// byte of that chunk at which it ends, and stores the counts of the text passed in `more`: to
+// receive counts as a result, a caller would clear stack at each line. If the line ends later, the
+// span may have moved. Never inlined, so that a step within one chunk stays short.
 #[inline(never)]
 fn pass_chunk(span: &mut Span<'_>, more: &mut TextInfo, breaks: LineBreaks) -> Option<usize>
     requires { AreChunks span.old }
@@ -377,9 +381,9 @@ fn pass_chunk(span: &mut Span<'_>, more: &mut TextInfo, breaks: LineBreaks) -> O
     Some(line.bytes)
 }
 
-// Passes line breaks backward from the start of a chunk, if the line starts in the chunk before:
-// returns the byte of that chunk at which it starts, and puts the counts of what was passed in
-// `more`. Where it starts earlier the span may have moved.
+// Passes line breaks backward from the start of a chunk, if the line starts in the chunk before.
+// Returns the byte of that chunk at which it starts, and stores the counts of the text passed in
+// `more`. If the line starts earlier, the span may have moved.
 #[inline(never)]
 fn pass_chunk_back(
     span: &mut Span<'_>,
@@ -415,10 +419,9 @@ impl<'a> Caret<'a> {
         &self.span.chunk()[self.inside..]
     }
 
-    // Passes the next line break and adds what it passed to the counts of the text before. Returns
-    // whether it did: it looks in this chunk and in the next one, and may stand anywhere if the
-    // break is in neither. The counts are kept by the callee: were they returned, the caller would
-    // load as vectors what was just stored in words, and stall.
+    // Passes the next line break and adds the text passed to the counts. Returns whether the break
+    // was in this chunk or in the next one; if it was in neither, the position may have moved. The
+    // callee updates the counts: returned counts would give the caller a store-forwarding stall.
     #[inline(never)]
     fn pass_line(&mut self, before: &mut TextInfo, breaks: LineBreaks) -> bool
         requires { HasSum before.old (info_of breaks (first_line breaks self.old.back)) }
@@ -441,9 +444,9 @@ impl<'a> Caret<'a> {
         true
     }
 
-    // Passes `skip` line breaks backward, and goes on to the end of the one before them, and takes
-    // what it passed from the counts of the text before. Returns whether it did, as `pass_line`
-    // does. The place is in no CR LF.
+    // Passes `skip` line breaks backward up to the end of the one before them, and subtracts the
+    // text passed from the counts. Returns whether it was found, as `pass_line` does. The position
+    // is in no CR LF.
     #[inline(never)]
     fn pass_line_back(&mut self, before: &mut TextInfo, skip: usize, breaks: LineBreaks) -> bool
         requires apart { parts_crlf self.old.front self.old.back ≡ false }
@@ -469,7 +472,7 @@ impl<'a> Caret<'a> {
         true
     }
 
-    // Goes to the start of a line, or to the end of the text, in a descent from the root.
+    // Moves to the start of a line, or to the end of the text, in a descent from the root.
     #[inline(never)]
     fn seek(&mut self, before: &mut TextInfo, slice: &RopeSlice<'a>, line_idx: usize)
         requires { line_idx ≤ line_count (breaks_of slice.now) (text_of slice.now) }
@@ -479,7 +482,7 @@ impl<'a> Caret<'a> {
         (*self, *before) = slice.caret_at(line_idx);
     }
 
-    // Goes from the start of a line to the start of the next one. Returns the rest of the chunk
+    // Moves from the start of a line to the start of the next one. Returns the rest of the chunk
     // from the line's start on.
     #[inline(always)]
     fn go_on(
@@ -505,7 +508,7 @@ impl<'a> Caret<'a> {
         held
     }
 
-    // Goes back to the start of a line from the start of the next one. Returns the rest of the
+    // Moves back to the start of a line from the start of the next one. Returns the rest of the
     // chunk from there on.
     #[inline(always)]
     fn go_back(

@@ -1,5 +1,6 @@
 //! Bytes, characters and chunks of a slice by their index, and conversions between indices of
-//! bytes, characters, UTF-16 code units and lines: all counted from 0 at the slice's start.
+//! bytes, characters, UTF-16 code units and lines. Indices begin at 0 at the slice's start. Each
+//! call costs one or two lookups and takes no memory.
 //!
 //! Of the slice `1..3` of `"héllo"`, `char(0)` is `é`, and `chunk_at_char(1)` is `("él", 0, 0, 0)`.
 //! For the slice `3..` of `"one\ntwo"`, `char_to_line(1)` is 1 and `line_to_char(1)` is 1: the
@@ -23,13 +24,13 @@ use rope_text::str_utils::{byte_len_of, char_to_byte_idx, first_char};
 use rope_text::{Error, Result, Steps};
 use rope_tree::{Unit, byte_at, char_at, convert, convert_in, count, first_sought, leaf_at};
 
-/// A chunk, and how many bytes, characters and line breaks stand before it.
+/// A chunk, and the numbers of bytes, characters and line breaks before it.
 pub type ChunkAt<'a> = (&'a str, usize, usize, usize);
 
 impl<'a> RopeSlice<'a> {
-    /// The byte `byte_idx`, counted from 0.
+    /// Returns the byte `byte_idx`.
     ///
-    /// The index is below `len_bytes()`. Costs one or two look-ups; takes no memory.
+    /// The index is below `len_bytes()`. `RopeSlice::from("ab").byte(1)` is `b'b'`.
     pub fn byte(&self, byte_idx: usize) -> u8
         requires { byte_idx < byte_len (text_of self.now) }
         ensures { slice_get (encode_utf8_all (text_of self.now)) byte_idx ≡ Some result }
@@ -46,9 +47,9 @@ impl<'a> RopeSlice<'a> {
         }
     }
 
-    /// The character `char_idx`, counted from 0.
+    /// Returns the character `char_idx`.
     ///
-    /// The index is below `len_chars()`. Costs one or two look-ups; takes no memory.
+    /// The index is below `len_chars()`. `RopeSlice::from("éa").char(1)` is `'a'`.
     pub fn char(&self, char_idx: usize) -> char
         requires { char_idx < length (text_of self.now) }
         ensures { slice_get (text_of self.now) char_idx ≡ Some result }
@@ -65,11 +66,10 @@ impl<'a> RopeSlice<'a> {
         }
     }
 
-    // The chunk that holds a byte or a character; at the end of the text the last chunk. Or the one
-    // that holds the last character of a line break, counted from 0. With it the bytes, the
-    // characters and the line breaks that end before it. With no chunk it is the empty text, with
-    // nothing before it. Inlined: the unit is a constant at most calls, and a search for one kind
-    // of count has no test for it.
+    // Returns the chunk that contains a byte, a character, or the last character of a line break;
+    // at the end of the text the last chunk. Also returns the numbers of bytes, characters and line
+    // breaks that end before it. With no chunk the result is the empty text and zeros. Inlined: the
+    // unit is a constant at most calls, and a search for one unit has no test for it.
     #[inline(always)]
     fn chunk_at(&self, unit: Unit, idx: usize) -> ChunkAt<'a>
         requires { MayHold unit (breaks_of self.now) (text_of self.now) idx }
@@ -97,7 +97,7 @@ impl<'a> RopeSlice<'a> {
         }
     }
 
-    // The same, for callers that are small.
+    // Calls `chunk_at`, for callers that are to stay small.
     #[inline(never)]
     fn chunk_apart(&self, unit: Unit, idx: usize) -> ChunkAt<'a>
         requires { MayHold unit (breaks_of self.now) (text_of self.now) idx }
@@ -107,11 +107,12 @@ impl<'a> RopeSlice<'a> {
         self.chunk_at(unit, idx)
     }
 
-    /// The chunk that holds the byte `byte_idx`, and at the end of the text the last chunk. With it
-    /// the numbers of bytes, of characters and of line breaks that end before the chunk; with no
-    /// chunk at all `("", 0, 0, 0)`.
+    /// Returns the chunk that contains the byte `byte_idx`, and at the end of the text the last
+    /// chunk. Also returns the numbers of bytes, characters and line breaks that end before the
+    /// chunk; for an empty slice `("", 0, 0, 0)`.
     ///
-    /// The index is at most `len_bytes()`. Costs one or two look-ups; takes no memory.
+    /// The index is at most `len_bytes()`. `RopeSlice::from("ab").chunk_at_byte(1)` is `("ab", 0,
+    /// 0, 0)`.
     #[inline(always)]
     pub fn chunk_at_byte(&self, byte_idx: usize) -> ChunkAt<'a>
         requires { byte_idx ≤ byte_len (text_of self.now) }
@@ -121,11 +122,12 @@ impl<'a> RopeSlice<'a> {
         self.chunk_at(Unit::Byte, byte_idx)
     }
 
-    /// The chunk that holds the character `char_idx`, and at the end of the text the last chunk.
-    /// With it the numbers of bytes, of characters and of line breaks that end before the chunk;
-    /// with no chunk at all `("", 0, 0, 0)`.
+    /// Returns the chunk that contains the character `char_idx`, and at the end of the text the
+    /// last chunk. Also returns the numbers of bytes, characters and line breaks that end before
+    /// the chunk; for an empty slice `("", 0, 0, 0)`.
     ///
-    /// The index is at most `len_chars()`. Costs one or two look-ups; takes no memory.
+    /// The index is at most `len_chars()`. `RopeSlice::from("éb").chunk_at_char(1)` is `("éb", 0,
+    /// 0, 0)`.
     #[inline(always)]
     pub fn chunk_at_char(&self, char_idx: usize) -> ChunkAt<'a>
         requires { char_idx ≤ length (text_of self.now) }
@@ -135,11 +137,12 @@ impl<'a> RopeSlice<'a> {
         self.chunk_at(Unit::Char, char_idx)
     }
 
-    /// The first chunk by whose end `line_break_idx` line breaks have ended, or else the last
-    /// chunk. With it the numbers of bytes, of characters and of line breaks that end before the
-    /// chunk; with no chunk at all `("", 0, 0, 0)`.
+    /// Returns the first chunk that ends after `line_break_idx` line breaks, or else the last
+    /// chunk. Also returns the numbers of bytes, characters and line breaks that end before the
+    /// chunk; for an empty slice `("", 0, 0, 0)`.
     ///
-    /// The index is at most `len_lines()`. Costs one or two look-ups; takes no memory.
+    /// The index is at most `len_lines()`. `RopeSlice::from("a\n").chunk_at_line_break(1)` is
+    /// `("a\n", 0, 0, 0)`.
     pub fn chunk_at_line_break(&self, line_break_idx: usize) -> ChunkAt<'a>
         requires { line_break_idx ≤ line_count (breaks_of self.now) (text_of self.now) }
         ensures { ShowsChunk (content_of self.now)
@@ -156,8 +159,10 @@ impl<'a> RopeSlice<'a> {
         self.chunk_apart(Unit::LineBreak, line_break_idx - 1)
     }
 
-    /// The whole text, exactly where the slice has at most one chunk, and else `None`. Costs at
-    /// most two look-ups; takes no memory.
+    /// Returns the whole text if the slice has at most one chunk, else `None`. Costs at most two
+    /// lookups.
+    ///
+    /// `RopeSlice::from("ab").as_str()` is `Some("ab")`.
     #[inline(always)]
     pub fn as_str(&self) -> Option<&'a str>
         ensures one { OnSome result (length (chunks_of self.now) ≤ 1) }
@@ -170,8 +175,8 @@ impl<'a> RopeSlice<'a> {
         }
     }
 
-    // The same. It takes a copy of the slice: were it told where the slice lies, a caller would
-    // have to keep each line in memory for it, a plain text too.
+    // Returns the text of the only chunk, if there is at most one. The slice is passed by value: by
+    // reference, a caller would have to keep each line in memory for it, also a plain text.
     #[inline(never)]
     fn only_chunk(self) -> Option<&'a str>
         ensures one { OnSome result (length (chunks_of self.entry) ≤ 1) }
@@ -183,8 +188,7 @@ impl<'a> RopeSlice<'a> {
         (byte_len_of(chunk) == len).then_some(chunk)
     }
 
-    /// The byte `byte_idx`, counted from 0, or `None` exactly where the index is `len_bytes()` or
-    /// past it. Costs one or two look-ups; takes no memory.
+    /// Returns the byte `byte_idx`, or `None` exactly if the index is `len_bytes()` or more.
     pub fn get_byte(&self, byte_idx: usize) -> Option<u8>
         ensures { result ≡ slice_get (encode_utf8_all (text_of self.now)) byte_idx }
     {
@@ -192,8 +196,7 @@ impl<'a> RopeSlice<'a> {
         Some(self.byte(within(byte_idx, last)?))
     }
 
-    /// The character `char_idx`, counted from 0, or `None` exactly where the index is `len_chars()`
-    /// or past it. Costs one or two look-ups; takes no memory.
+    /// Returns the character `char_idx`, or `None` exactly if the index is `len_chars()` or more.
     pub fn get_char(&self, char_idx: usize) -> Option<char>
         ensures { result ≡ slice_get (text_of self.now) char_idx }
     {
@@ -201,12 +204,12 @@ impl<'a> RopeSlice<'a> {
         Some(self.char(within(char_idx, last)?))
     }
 
-    /// As `chunk_at_byte`, for any index. Costs one or two look-ups; takes no memory.
+    /// Returns a chunk as `chunk_at_byte` does, for any index.
     ///
     /// # Errors
     ///
-    /// `ByteIndexOutOfBounds`, with the index and the number of bytes, exactly where the index is
-    /// past `len_bytes()`.
+    /// `ByteIndexOutOfBounds`, with the index and the number of bytes, exactly if the index is past
+    /// `len_bytes()`.
     pub fn try_chunk_at_byte(&self, byte_idx: usize) -> Result<ChunkAt<'a>>
         ensures { MatchOption (byte_index_error byte_idx (byte_len (text_of self.now)))
             (IsOkAnd result (ShowsChunk (content_of self.now)
@@ -218,8 +221,8 @@ impl<'a> RopeSlice<'a> {
         Ok(self.chunk_at_byte(idx))
     }
 
-    /// As `chunk_at_char`, or `None` exactly where the index is past `len_chars()`. Costs one or
-    /// two look-ups; takes no memory.
+    /// Returns a chunk as `chunk_at_char` does, or `None` exactly if the index is past
+    /// `len_chars()`.
     pub fn get_chunk_at_char(&self, char_idx: usize) -> Option<ChunkAt<'a>>
         ensures { GivesWithin char_idx (length (text_of self.now)) result
             (ShowsChunk (content_of self.now) (chunk_index_at_char (chunks_of self.now) char_idx)) }
@@ -227,8 +230,8 @@ impl<'a> RopeSlice<'a> {
         Some(self.chunk_at_char(within(char_idx, self.len_chars())?))
     }
 
-    /// As `chunk_at_line_break`, or `None` exactly where the index is past `len_lines()`. Costs one
-    /// or two look-ups; takes no memory.
+    /// Returns a chunk as `chunk_at_line_break` does, or `None` exactly if the index is past
+    /// `len_lines()`.
     pub fn get_chunk_at_line_break(&self, line_break_idx: usize) -> Option<ChunkAt<'a>>
         ensures { GivesWithin line_break_idx (line_count (breaks_of self.now) (text_of self.now))
             result (ShowsChunk (content_of self.now)
@@ -237,9 +240,9 @@ impl<'a> RopeSlice<'a> {
         Some(self.chunk_at_line_break(within(line_break_idx, self.len_lines())?))
     }
 
-    // The index in the unit `to` of the place that an index in the unit `from` names: the character
-    // that holds the byte or the code unit, the line on which the place lies, or the place at which
-    // the line starts. The index may be that of the end, which of lines is the one past the last.
+    // Converts an index in the unit `from` to one in the unit `to`: the character that contains the
+    // byte or the code unit, the line that contains the position, or the position at which the line
+    // starts. The index may be that of the end; for lines that is the one past the last.
     #[inline(always)]
     fn convert(&self, from: Unit, to: Unit, idx: usize) -> usize
         requires units { are_converted from to ≡ true }
@@ -247,9 +250,9 @@ impl<'a> RopeSlice<'a> {
         ensures { result ≡ converted from to (breaks_of self.now) (text_of self.now) idx }
     {
         match self {
-            // The tree's answer, less what lies before the start. Where a slice ends between CR and
-            // LF, its last line starts at that end, while the tree's line starts behind the LF: so
-            // the answer is cut at the end.
+            // The tree's result, minus the counts before the start. If a slice ends between CR and
+            // LF, its last line starts at that end, while the tree's line starts after the LF: so
+            // the result is limited to the end.
             RopeSlice::InTree(excerpt) => {
                 let first = first_sought(from);
                 if idx < first {
@@ -269,8 +272,7 @@ impl<'a> RopeSlice<'a> {
         }
     }
 
-    // The index in the unit `to` of the place that any index in the unit `from` names, or the
-    // refusal of the index.
+    // Converts an index in the unit `from` to one in the unit `to`, or returns the index's error.
     #[inline(always)]
     fn try_convert(&self, from: Unit, to: Unit, idx: usize) -> Result<usize>
         requires { are_converted from to ≡ true }
@@ -288,10 +290,10 @@ impl<'a> RopeSlice<'a> {
         Ok(self.convert(from, to, within(idx, len).ok_or(error)?))
     }
 
-    /// The character, counted from 0, that holds the byte `byte_idx`, also where the byte is inside
+    /// Returns the index of the character that contains the byte `byte_idx`, which may be inside
     /// the character; at the end of the text, the number of characters.
     ///
-    /// The index is at most `len_bytes()`. Costs one or two look-ups; takes no memory.
+    /// The index is at most `len_bytes()`. `RopeSlice::from("éa").byte_to_char(1)` is 0.
     pub fn byte_to_char(&self, byte_idx: usize) -> usize
         requires { byte_idx ≤ byte_len (text_of self.now) }
         ensures { result ≡ byte_to_char (text_of self.now) byte_idx }
@@ -299,12 +301,12 @@ impl<'a> RopeSlice<'a> {
         self.convert(Unit::Byte, Unit::Char, byte_idx)
     }
 
-    /// As `byte_to_char`, for any index. Costs one or two look-ups; takes no memory.
+    /// Converts as `byte_to_char` does, for any index.
     ///
     /// # Errors
     ///
-    /// `ByteIndexOutOfBounds`, with the index and the number of bytes, exactly where the index is
-    /// past `len_bytes()`.
+    /// `ByteIndexOutOfBounds`, with the index and the number of bytes, exactly if the index is past
+    /// `len_bytes()`.
     pub fn try_byte_to_char(&self, byte_idx: usize) -> Result<usize>
         ensures { result ≡ checked (byte_index_error byte_idx (byte_len (text_of self.now)))
             (byte_to_char (text_of self.now) byte_idx) }
@@ -312,11 +314,11 @@ impl<'a> RopeSlice<'a> {
         self.try_convert(Unit::Byte, Unit::Char, byte_idx)
     }
 
-    /// The line, counted from 0, on which the byte `byte_idx` lies: how many line breaks end at or
-    /// before it. A byte inside a break of several bytes, as between CR and LF, lies on the line
-    /// that the break ends.
+    /// Returns the line of the byte `byte_idx`: the number of line breaks that end at or before it.
+    /// A byte inside a break of several bytes, such as between CR and LF, is on the line that the
+    /// break ends.
     ///
-    /// The index is at most `len_bytes()`. Costs one or two look-ups; takes no memory.
+    /// The index is at most `len_bytes()`. `RopeSlice::from("é\na").byte_to_line(3)` is 1.
     pub fn byte_to_line(&self, byte_idx: usize) -> usize
         requires { byte_idx ≤ byte_len (text_of self.now) }
         ensures { result ≡ byte_to_line (breaks_of self.now) (text_of self.now) byte_idx }
@@ -324,12 +326,12 @@ impl<'a> RopeSlice<'a> {
         self.convert(Unit::Byte, Unit::LineBreak, byte_idx)
     }
 
-    /// As `byte_to_line`, for any index. Costs one or two look-ups; takes no memory.
+    /// Converts as `byte_to_line` does, for any index.
     ///
     /// # Errors
     ///
-    /// `ByteIndexOutOfBounds`, with the index and the number of bytes, exactly where the index is
-    /// past `len_bytes()`.
+    /// `ByteIndexOutOfBounds`, with the index and the number of bytes, exactly if the index is past
+    /// `len_bytes()`.
     pub fn try_byte_to_line(&self, byte_idx: usize) -> Result<usize>
         ensures { result ≡ checked (byte_index_error byte_idx (byte_len (text_of self.now)))
             (byte_to_line (breaks_of self.now) (text_of self.now) byte_idx) }
@@ -337,10 +339,10 @@ impl<'a> RopeSlice<'a> {
         self.try_convert(Unit::Byte, Unit::LineBreak, byte_idx)
     }
 
-    /// The byte, counted from 0, at which the character `char_idx` starts; at the end of the text,
+    /// Returns the byte offset at which the character `char_idx` begins; at the end of the text,
     /// the number of bytes.
     ///
-    /// The index is at most `len_chars()`. Costs one or two look-ups; takes no memory.
+    /// The index is at most `len_chars()`. `RopeSlice::from("éa").char_to_byte(1)` is 2.
     pub fn char_to_byte(&self, char_idx: usize) -> usize
         requires { char_idx ≤ length (text_of self.now) }
         ensures { result ≡ char_to_byte (text_of self.now) char_idx }
@@ -348,12 +350,12 @@ impl<'a> RopeSlice<'a> {
         self.convert(Unit::Char, Unit::Byte, char_idx)
     }
 
-    /// As `char_to_byte`, for any index. Costs one or two look-ups; takes no memory.
+    /// Converts as `char_to_byte` does, for any index.
     ///
     /// # Errors
     ///
-    /// `CharIndexOutOfBounds`, with the index and the number of characters, exactly where the index
-    /// is past `len_chars()`.
+    /// `CharIndexOutOfBounds`, with the index and the number of characters, exactly if the index is
+    /// past `len_chars()`.
     pub fn try_char_to_byte(&self, char_idx: usize) -> Result<usize>
         ensures { result ≡ checked (char_index_error char_idx (length (text_of self.now)))
             (char_to_byte (text_of self.now) char_idx) }
@@ -361,10 +363,10 @@ impl<'a> RopeSlice<'a> {
         self.try_convert(Unit::Char, Unit::Byte, char_idx)
     }
 
-    /// The line, counted from 0, on which the character `char_idx` lies: how many line breaks end
-    /// at or before it. The place between CR and LF lies on the line that they end.
+    /// Returns the line of the character `char_idx`: the number of line breaks that end at or
+    /// before it. An index between CR and LF is on the line that they end.
     ///
-    /// The index is at most `len_chars()`. Costs one or two look-ups; takes no memory.
+    /// The index is at most `len_chars()`. `RopeSlice::from("é\na").char_to_line(2)` is 1.
     pub fn char_to_line(&self, char_idx: usize) -> usize
         requires { char_idx ≤ length (text_of self.now) }
         ensures { result ≡ char_to_line (breaks_of self.now) (text_of self.now) char_idx }
@@ -372,12 +374,12 @@ impl<'a> RopeSlice<'a> {
         self.convert(Unit::Char, Unit::LineBreak, char_idx)
     }
 
-    /// As `char_to_line`, for any index. Costs one or two look-ups; takes no memory.
+    /// Converts as `char_to_line` does, for any index.
     ///
     /// # Errors
     ///
-    /// `CharIndexOutOfBounds`, with the index and the number of characters, exactly where the index
-    /// is past `len_chars()`.
+    /// `CharIndexOutOfBounds`, with the index and the number of characters, exactly if the index is
+    /// past `len_chars()`.
     pub fn try_char_to_line(&self, char_idx: usize) -> Result<usize>
         ensures { result ≡ checked (char_index_error char_idx (length (text_of self.now)))
             (char_to_line (breaks_of self.now) (text_of self.now) char_idx) }
@@ -385,10 +387,10 @@ impl<'a> RopeSlice<'a> {
         self.try_convert(Unit::Char, Unit::LineBreak, char_idx)
     }
 
-    /// The UTF-16 code unit, counted from 0, at which the character `char_idx` starts; at the end
-    /// of the text, the number of code units.
+    /// Returns the index of the first UTF-16 code unit of the character `char_idx`; at the end of
+    /// the text, the number of code units.
     ///
-    /// The index is at most `len_chars()`. Costs one or two look-ups; takes no memory.
+    /// The index is at most `len_chars()`. `RopeSlice::from("😀a").char_to_utf16_cu(1)` is 2.
     pub fn char_to_utf16_cu(&self, char_idx: usize) -> usize
         requires { char_idx ≤ length (text_of self.now) }
         ensures { result ≡ char_to_utf16 (text_of self.now) char_idx }
@@ -396,12 +398,12 @@ impl<'a> RopeSlice<'a> {
         self.convert(Unit::Char, Unit::CodeUnit, char_idx)
     }
 
-    /// As `char_to_utf16_cu`, for any index. Costs one or two look-ups; takes no memory.
+    /// Converts as `char_to_utf16_cu` does, for any index.
     ///
     /// # Errors
     ///
-    /// `CharIndexOutOfBounds`, with the index and the number of characters, exactly where the index
-    /// is past `len_chars()`.
+    /// `CharIndexOutOfBounds`, with the index and the number of characters, exactly if the index is
+    /// past `len_chars()`.
     pub fn try_char_to_utf16_cu(&self, char_idx: usize) -> Result<usize>
         ensures { result ≡ checked (char_index_error char_idx (length (text_of self.now)))
             (char_to_utf16 (text_of self.now) char_idx) }
@@ -409,11 +411,11 @@ impl<'a> RopeSlice<'a> {
         self.try_convert(Unit::Char, Unit::CodeUnit, char_idx)
     }
 
-    /// The character, counted from 0, that holds the UTF-16 code unit `utf16_cu_idx`, also where
-    /// that is the second half of a surrogate pair; at the end of the text, the number of
+    /// Returns the index of the character that contains the UTF-16 code unit `utf16_cu_idx`, which
+    /// may be the second half of a surrogate pair; at the end of the text, the number of
     /// characters.
     ///
-    /// The index is at most `len_utf16_cu()`. Costs one or two look-ups; takes no memory.
+    /// The index is at most `len_utf16_cu()`. `RopeSlice::from("😀a").utf16_cu_to_char(1)` is 0.
     pub fn utf16_cu_to_char(&self, utf16_cu_idx: usize) -> usize
         requires { utf16_cu_idx ≤ utf16_len (text_of self.now) }
         ensures { result ≡ utf16_to_char (text_of self.now) utf16_cu_idx }
@@ -421,12 +423,12 @@ impl<'a> RopeSlice<'a> {
         self.convert(Unit::CodeUnit, Unit::Char, utf16_cu_idx)
     }
 
-    /// As `utf16_cu_to_char`, for any index. Costs one or two look-ups; takes no memory.
+    /// Converts as `utf16_cu_to_char` does, for any index.
     ///
     /// # Errors
     ///
-    /// `Utf16IndexOutOfBounds`, with the index and the number of code units, exactly where the
-    /// index is past `len_utf16_cu()`.
+    /// `Utf16IndexOutOfBounds`, with the index and the number of code units, exactly if the index
+    /// is past `len_utf16_cu()`.
     pub fn try_utf16_cu_to_char(&self, utf16_cu_idx: usize) -> Result<usize>
         ensures { result ≡ checked (utf16_index_error utf16_cu_idx (utf16_len (text_of self.now)))
             (utf16_to_char (text_of self.now) utf16_cu_idx) }
@@ -434,10 +436,10 @@ impl<'a> RopeSlice<'a> {
         self.try_convert(Unit::CodeUnit, Unit::Char, utf16_cu_idx)
     }
 
-    /// The byte, counted from 0, at which the line `line_idx` starts; for `len_lines()`, the end of
+    /// Returns the byte offset at which the line `line_idx` starts; for `len_lines()`, the end of
     /// the text.
     ///
-    /// The index is at most `len_lines()`. Costs one or two look-ups; takes no memory.
+    /// The index is at most `len_lines()`. `RopeSlice::from("é\na").line_to_byte(1)` is 3.
     pub fn line_to_byte(&self, line_idx: usize) -> usize
         requires { line_idx ≤ line_count (breaks_of self.now) (text_of self.now) }
         ensures { result ≡ line_to_byte (breaks_of self.now) (text_of self.now) line_idx }
@@ -445,12 +447,12 @@ impl<'a> RopeSlice<'a> {
         self.convert(Unit::LineBreak, Unit::Byte, line_idx)
     }
 
-    /// As `line_to_byte`, for any index. Costs one or two look-ups; takes no memory.
+    /// Converts as `line_to_byte` does, for any index.
     ///
     /// # Errors
     ///
-    /// `LineIndexOutOfBounds`, with the index and the number of lines, exactly where the index is
-    /// past `len_lines()`.
+    /// `LineIndexOutOfBounds`, with the index and the number of lines, exactly if the index is past
+    /// `len_lines()`.
     pub fn try_line_to_byte(&self, line_idx: usize) -> Result<usize>
         ensures { result ≡ checked
             (line_index_error line_idx (line_count (breaks_of self.now) (text_of self.now)))
@@ -459,10 +461,10 @@ impl<'a> RopeSlice<'a> {
         self.try_convert(Unit::LineBreak, Unit::Byte, line_idx)
     }
 
-    /// The character, counted from 0, at which the line `line_idx` starts; for `len_lines()`, the
-    /// end of the text.
+    /// Returns the index of the first character of the line `line_idx`; for `len_lines()`, the end
+    /// of the text.
     ///
-    /// The index is at most `len_lines()`. Costs one or two look-ups; takes no memory.
+    /// The index is at most `len_lines()`. `RopeSlice::from("é\na").line_to_char(1)` is 2.
     pub fn line_to_char(&self, line_idx: usize) -> usize
         requires { line_idx ≤ line_count (breaks_of self.now) (text_of self.now) }
         ensures { result ≡ line_to_char (breaks_of self.now) (text_of self.now) line_idx }
@@ -470,12 +472,12 @@ impl<'a> RopeSlice<'a> {
         self.convert(Unit::LineBreak, Unit::Char, line_idx)
     }
 
-    /// As `line_to_char`, for any index. Costs one or two look-ups; takes no memory.
+    /// Converts as `line_to_char` does, for any index.
     ///
     /// # Errors
     ///
-    /// `LineIndexOutOfBounds`, with the index and the number of lines, exactly where the index is
-    /// past `len_lines()`.
+    /// `LineIndexOutOfBounds`, with the index and the number of lines, exactly if the index is past
+    /// `len_lines()`.
     pub fn try_line_to_char(&self, line_idx: usize) -> Result<usize>
         ensures { result ≡ checked
             (line_index_error line_idx (line_count (breaks_of self.now) (text_of self.now)))

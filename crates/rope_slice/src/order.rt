@@ -1,4 +1,4 @@
-//! The order of two texts, however they are cut, and whether they are equal. No call takes memory.
+//! The order and equality of two texts, independent of their chunks. No call takes memory.
 //!
 //! The slice `1..3` of `"abc"` equals the slice of the plain text `"bc"`.
 ghost use Rattle.std.proofs.Common.{rules};
@@ -18,7 +18,8 @@ use crate::slice::RopeSlice;
 use std::cmp::Ordering;
 use std::simd::prelude::*;
 
-// Whether the 64 bytes from `at` on, and those from `next` on, are the same in both, by one test.
+// Returns whether the 64 bytes from `at` on, and those from `next` on, are equal in both, by one
+// test.
 fn are_same_blocks(left: &[u8], right: &[u8], at: usize, next: usize) -> bool
     requires size { length left.now ≡ length right.now }
     requires first { at + 64 ≤ length left.now }
@@ -34,8 +35,8 @@ fn are_same_blocks(left: &[u8], right: &[u8], at: usize, next: usize) -> bool
     (x.simd_ne(y) | z.simd_ne(w)).to_bitmask() == 0
 }
 
-// Whether two pieces of the same length are the same. The last two blocks may overlap: so no bytes
-// are left over to be compared one by one, unless the pieces are shorter than a block.
+// Returns whether two pieces of one length are equal. The last two blocks may overlap, so no bytes
+// remain to be compared one by one, unless the pieces are shorter than a block.
 fn are_same(left: &[u8], right: &[u8]) -> bool
     requires { length left.now ≡ length right.now }
     ensures { IsTrue result ↔ (left.now ≡ right.now) }
@@ -55,7 +56,7 @@ fn are_same(left: &[u8], right: &[u8]) -> bool
     are_same_blocks(left, right, at.min(last), last)
 }
 
-// A piece, or the next one where it is empty: so it is empty only at the end.
+// Returns a piece, or the next one if it is empty: so the result is empty only at the end.
 fn filled<'a>(front: &'a [u8], pieces: &mut Pieces<'a>) -> &'a [u8]
     ensures same { result.now ++ pieces.new ≡ front.now ++ pieces.old }
     ensures some { length result.now ≡ 0 → pieces.new ≡ [] }
@@ -66,8 +67,8 @@ fn filled<'a>(front: &'a [u8], pieces: &mut Pieces<'a>) -> &'a [u8]
     pieces.next_piece(Heads::Left)
 }
 
-// The lexicographic order of two lists of bytes, each given as its first piece and the pieces after
-// it. A first piece is empty only where the list is.
+// Returns the lexicographic order of two lists of bytes, each given as its first piece and the
+// pieces after it. A first piece is empty only if the list is.
 fn order_of_pieces<'a>(left: (&'a [u8], Pieces<'a>), right: (&'a [u8], Pieces<'a>)) -> Ordering
     requires left { length left.0.now ≡ 0 → left.1 ≡ [] }
     requires right { length right.0.now ≡ 0 → right.1 ≡ [] }
@@ -76,7 +77,7 @@ fn order_of_pieces<'a>(left: (&'a [u8], Pieces<'a>), right: (&'a [u8], Pieces<'a
 {
     let (mut x, mut lefts) = left;
     let (mut y, mut rights) = right;
-    // As many bytes as the shorter piece has are compared, and are then passed in both.
+    // The bytes of the shorter piece are compared, and then passed in both.
     'pieces: loop {
         let n = x.len().min(y.len());
         if n == 0 {
@@ -84,7 +85,7 @@ fn order_of_pieces<'a>(left: (&'a [u8], Pieces<'a>), right: (&'a [u8], Pieces<'a
         }
         let (front, rest) = x.split_at(n);
         let (other_front, other_rest) = y.split_at(n);
-        // Mostly they are the same, which is found faster than where they differ.
+        // Pieces are mostly equal, which is decided faster than the first difference.
         if !are_same(front, other_front) {
             return front.cmp(other_front);
         }
@@ -93,7 +94,7 @@ fn order_of_pieces<'a>(left: (&'a [u8], Pieces<'a>), right: (&'a [u8], Pieces<'a
     }
 }
 
-// The lexicographic order of the bytes of two texts, however each is cut. No memory is taken.
+// Returns the lexicographic order of the bytes of two texts, independent of their chunks.
 fn order(left: &RopeSlice<'_>, right: &RopeSlice<'_>) -> Ordering
     ensures { result ≡ text_cmp (text_of left.now) (text_of right.now) }
 {
@@ -101,7 +102,9 @@ fn order(left: &RopeSlice<'_>, right: &RopeSlice<'_>) -> Ordering
 }
 
 impl<'a> RopeSlice<'a> {
-    /// Whether the text is this one. Reads both texts up to where they differ; takes no memory.
+    /// Returns whether the text equals `other`. Reads both texts up to the first difference.
+    ///
+    /// `RopeSlice::from("ab").eq_str("ab")` is true.
     pub fn eq_str(&self, other: &str) -> bool
         ensures { IsTrue result ↔ (text_of self.now ≡ chars other.now) }
     {
@@ -110,8 +113,8 @@ impl<'a> RopeSlice<'a> {
     }
 }
 
-/// Slices are equal exactly if their texts are, however they are cut and whatever their sets of
-/// line breaks.
+/// Slices are equal exactly if their texts are, independent of their chunks and sets of line
+/// breaks.
 impl<'a> PartialEq for RopeSlice<'a> {
     ghost use Rattle.std.specs.Prelude.{◌==◌};
     ghost use lib.Pointwise.{pointwise};
@@ -130,7 +133,7 @@ impl<'a> Eq for RopeSlice<'a> {
     ghost laws = { Prim.search (comparing, rules) };
 }
 
-/// The lexicographic order of the bytes of the texts, however they are cut.
+/// The lexicographic order of the bytes of the texts, independent of their chunks.
 impl<'a> Ord for RopeSlice<'a> {
     ghost cmp = { on text_of text_cmp };
 

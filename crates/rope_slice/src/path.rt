@@ -1,4 +1,4 @@
-//! A leaf of a tree, from which a cursor goes to the leaves beside it; and a leaf within a part of
+//! A leaf of a tree, from which a cursor moves to the adjacent leaves; and a leaf within a slice of
 //! the text. No step takes memory.
 ghost use Rattle.std.specs.Prelude.{◌≡◌, ◌+◌, ◌-◌, ◌<◌, ◌≤◌, ◌∷◌, [], All, length, slice_index_or};
 ghost use Rattle.std.specs.Bool.{OnTrue, OnFalse};
@@ -21,14 +21,14 @@ use std::marker::Model;
 
 /// A leaf of a tree, seen as the leaves before it, the leaf, and the leaves after it.
 ///
-/// It keeps the list in which the leaf stands, so that most steps are one in that list. Where the
-/// list ends, the next leaf is looked up from the root by its first byte, or by its last: once in
-/// some twenty steps.
+/// It keeps the list that contains the leaf, so that most steps stay in that list. When the list
+/// ends, once in some twenty steps, the next leaf is looked up from the root by its first byte, or
+/// by its last.
 #[derive(Drop)]
 pub(crate) struct Path<'a> {
     root: &'a Node,
-    // the children of the node over the leaf with their running totals, and which of them it is;
-    // none where the tree is that leaf
+    // the children of the leaf's parent with their running totals, and the leaf's index among them;
+    // none if the tree is that leaf
     nodes: &'a [Node],
     totals: Option<&'a Totals>,
     at: usize,
@@ -50,8 +50,8 @@ impl<'a> Model for Path<'a> {
         IsListedWay a.root.now a.nodes.now a.totals a.at (chars a.leaf.now) a.start };
 }
 
-// The text of a leaf in its list. Its length comes from the list's totals, so that nothing of the
-// leaf is read: a walk over leaves would miss on each.
+// Returns the text of a leaf in its list. Its length comes from the list's totals, so that no byte
+// of the leaf is read: a walk over leaves would miss on each.
 #[inline(always)]
 fn text_in_list<'a>(nodes: &'a [Node], totals: Option<&Totals>, at: usize) -> &'a str
     requires within { at < length nodes.now }
@@ -69,28 +69,27 @@ fn text_in_list<'a>(nodes: &'a [Node], totals: Option<&Totals>, at: usize) -> &'
     }
 }
 
-/// Whether a walk that comes to a list reads the heads of its leaves ahead.
+/// Whether a walk that reaches a list prefetches the heads of its leaves.
 #[derive(Clone, Copy)]
 pub(crate) enum Heads {
-    /// Bytes, characters and hashes: they read one leaf after the other, each of which is a miss
-    /// where edits have scattered them.
+    /// Prefetches, for bytes, characters and hashes: they read one leaf after the other, each a
+    /// cache miss if edits have scattered the leaves.
     Touched,
-    /// Chunks, lines and comparisons, which are faster so: a chunk's length is known without its
-    /// head, and where leaves lie in a row the processor reads ahead by itself.
+    /// Doesn't prefetch, for chunks, lines and comparisons, which are faster so: a chunk's length
+    /// is known without its head, and the processor prefetches leaves that are in a row.
     Left,
 }
 
-// Prefetch: reads the head of each leaf of a list, so that their misses overlap. Answers whether
-// all have bytes, as leaves have: a caller that tests it keeps the compiler from dropping the
-// reads.
+// Prefetches the head of each leaf of a list, so that the cache misses overlap. Returns true, since
+// all leaves have bytes: callers test the result so that the reads aren't optimized away.
 fn touch_heads(nodes: &[Node]) -> bool {
     nodes.iter().all(|node| node.info().bytes > 0)
 }
 
 impl<'a> Path<'a> {
-    /// The way to the leaf that holds a place of a tree's text, and the counts of the text before
-    /// the leaf. It enters each node on the way once.
-    // Inlined, since a call would answer the way through memory.
+    /// Returns the path to the leaf that contains an index of a tree's text, and the counts of the
+    /// text before the leaf. Enters each node on the path once.
+    // Inlined, since a call would return the path through memory.
     #[inline(always)]
     pub(crate) fn at(root: &'a Node, unit: Unit, idx: usize) -> (Path<'a>, TextInfo)
         requires within { idx < count_of unit (info_of root.now.breaks (text root.now)) }
@@ -134,23 +133,23 @@ impl<'a> Path<'a> {
         }
     }
 
-    /// The text of the leaf.
+    /// Returns the text of the leaf.
     pub(crate) fn leaf(&self) -> &'a str
         ensures { chars result.now ≡ self.now.here }
     {
         self.leaf
     }
 
-    /// The bytes of the tree's text before the leaf.
+    /// Returns the number of bytes of the tree's text before the leaf.
     pub(crate) fn start(&self) -> usize
         ensures { result ≡ byte_len (concat self.now.before) }
     {
         self.start
     }
 
-    // The leaf of a tree that holds a byte of its text. Never inlined: most steps stay in the list
-    // of the leaf. It takes the root alone: a cursor whose address is passed nowhere can be kept in
-    // registers.
+    // Finds the leaf of a tree that contains a byte of its text. Never inlined: most steps stay in
+    // the list of the leaf. It takes the root alone: a cursor whose address is never passed can be
+    // kept in registers.
     #[inline(never)]
     fn look_up(root: &'a Node, byte_idx: usize, heads: Heads) -> Path<'a>
         requires within { byte_idx < byte_len (text root.now) }
@@ -166,7 +165,7 @@ impl<'a> Path<'a> {
         Path::at(root, Unit::Byte, byte_idx).0
     }
 
-    /// Returns whether the next leaf, or backward the one before, is in the same list and has a
+    /// Returns whether the next leaf, or backward the previous one, is in the same list and has a
     /// line break. The list's totals tell, so no leaf is read.
     #[inline(always)]
     fn has_break_beside(&self, is_backward: bool) -> bool {
@@ -181,7 +180,7 @@ impl<'a> Path<'a> {
         at < totals.len() && total_before(totals, at).break_count < totals.get(at).break_count
     }
 
-    /// Goes to the next leaf, if there is one; else it stays.
+    /// Moves to the next leaf. Returns false, without a move, if there is none.
     #[inline(always)]
     pub(crate) fn step_on(&mut self, heads: Heads) -> bool
         ensures moved { OnTrue result (IsNext self.old self.new) }
@@ -204,7 +203,7 @@ impl<'a> Path<'a> {
         true
     }
 
-    // Goes to the leaf before, if there is one.
+    // Moves to the previous leaf. Returns false, without a move, if there is none.
     #[inline(always)]
     fn step_back(&mut self) -> bool
         ensures moved { OnTrue result (IsNext self.new self.old) }
@@ -228,8 +227,8 @@ impl<'a> Path<'a> {
         true
     }
 
-    /// Goes to the next leaf, or backward to the one before. Answers whether there is one; else it
-    /// stays.
+    /// Moves to the next leaf, or backward to the previous one. Returns false, without a move, if
+    /// there is none.
     #[inline(always)]
     pub(crate) fn step(&mut self, is_backward: bool, heads: Heads) -> bool
         ensures moved { OnTrue result (IsBeside is_backward self.old self.new) }
@@ -249,7 +248,7 @@ impl<'a> Path<'a> {
 #[derive(Drop)]
 pub(crate) struct TreeSpan<'a> {
     path: Path<'a>,
-    // the bytes of the text before the part's start, and before its end
+    // the bytes of the text before the excerpt's start, and before its end
     from: usize,
     to: usize,
 }
@@ -266,9 +265,10 @@ impl<'a> Model for TreeSpan<'a> {
 }
 
 impl<'a> TreeSpan<'a> {
-    /// The chunk of an excerpt that holds a byte or a character; at the end of the text the last
-    /// chunk. With it the bytes, the characters and the line breaks of the text before it.
-    // Inlined, since a call would answer the way through memory.
+    /// Returns the chunk of an excerpt that contains a byte or a character, and at the end of the
+    /// text the last chunk. Also returns the numbers of bytes, characters and line breaks of the
+    /// text before it.
+    // Inlined, since a call would return the path through memory.
     #[inline(always)]
     pub(crate) fn holding(excerpt: &Excerpt<'a>, unit: Unit, idx: usize) -> (TreeSpan<'a>, Before)
         requires unit { IsItem unit }
@@ -284,13 +284,13 @@ impl<'a> TreeSpan<'a> {
         (span, Before::since(before, start))
     }
 
-    /// Returns whether the leaf beside this one is known at once to have a line break.
+    /// Returns whether the adjacent leaf is known at once to have a line break.
     #[inline(always)]
     pub(crate) fn has_break_beside(&self, is_backward: bool) -> bool {
         self.path.has_break_beside(is_backward)
     }
 
-    /// The same chunk, with a way of its own.
+    /// Returns a copy with a path of its own.
     pub(crate) fn copy(&self) -> TreeSpan<'a>
         ensures { result ≡ self.now }
     {
@@ -298,7 +298,7 @@ impl<'a> TreeSpan<'a> {
         TreeSpan { path, ..*self }
     }
 
-    /// The chunk.
+    /// Returns the chunk.
     pub(crate) fn chunk(&self) -> &'a str
         ensures { chars result.now ≡ self.now.here }
     {
@@ -309,8 +309,8 @@ impl<'a> TreeSpan<'a> {
         &leaf[low..high]
     }
 
-    /// Goes to the next chunk, or backward to the one before. Answers whether there is one; else it
-    /// stays.
+    /// Moves to the next chunk, or backward to the previous one. Returns false, without a move, if
+    /// there is none.
     #[inline(always)]
     pub(crate) fn step(&mut self, is_backward: bool, heads: Heads) -> bool
         ensures moved { OnTrue result (IsBeside is_backward self.old self.new) }

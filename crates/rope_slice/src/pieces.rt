@@ -8,13 +8,13 @@ use crate::slice::RopeSlice;
 use rope_tree::Unit;
 use std::marker::Model;
 
-/// The bytes of a slice from a place on, in pieces as the leaves hold them, forward only. Nothing
-/// is read before the next piece is asked for.
+/// The bytes of a slice from a position on, in pieces as the leaves hold them, forward only. No
+/// byte is read before the next piece is requested.
 #[derive(Drop)]
 pub(crate) struct Pieces<'a> {
     // none for a plain text
     way: Option<Path<'a>>,
-    // how many bytes of the leaves ahead lie in the slice
+    // the number of bytes of the slice in the leaves ahead
     left: usize,
 }
 
@@ -32,8 +32,8 @@ impl<'a> Model for Pieces<'a> {
 }
 
 impl<'a> Pieces<'a> {
-    /// The first piece of a slice's bytes, and the pieces after it. The first one is empty only
-    /// where the slice is.
+    /// Returns the first piece of a slice's bytes, and the pieces after it. The first one is empty
+    /// only if the slice is.
     pub(crate) fn of(slice: &RopeSlice<'a>) -> (&'a [u8], Pieces<'a>)
         ensures bytes { result.0.now ++ result.1 ≡ encode_utf8_all (text_of slice.now) }
         ensures some { length result.0.now ≡ 0 → result.1 ≡ [] }
@@ -53,7 +53,7 @@ impl<'a> Pieces<'a> {
         }
     }
 
-    /// A plain text as the first piece, with none after it.
+    /// Returns a plain text as the first piece, with none after it.
     pub(crate) fn of_text(text: &'a str) -> (&'a [u8], Pieces<'a>)
         ensures bytes { result.0.now ++ result.1 ≡ encode_utf8_all (chars text.now) }
         ensures some { length result.0.now ≡ 0 → result.1 ≡ [] }
@@ -62,7 +62,7 @@ impl<'a> Pieces<'a> {
         (text.as_bytes(), Pieces { way, left })
     }
 
-    /// The next piece; an empty one only at the end, where it stays.
+    /// Returns the next piece, or an empty one at the end.
     pub(crate) fn next_piece(&mut self, heads: Heads) -> &'a [u8]
         ensures bytes { result.now ++ self.new ≡ self.old }
         ensures some { length result.now ≡ 0 → self.new ≡ [] }

@@ -8,8 +8,8 @@ ghost use Rattle.rope_slice.specs.Edge.{line_info, IsInfo-prop};
 
 use rope_text::{LineBreaks, TextInfo};
 
-/// The place of a line: the counts of the text before it, and before the next line or, of the last
-/// one, those of all of the text. And what the chunk in which the line starts has from there on.
+/// The position of a line: the counts of the text before it, and before the next line or, for the
+/// last one, those of all of the text; and the rest of the chunk from the line's start on.
 #[derive(Clone, Copy)]
 pub(crate) struct LinePlace<'a> {
     pub start: TextInfo,
@@ -29,14 +29,14 @@ pub struct Plain<'a> {
 impl<'a> Plain<'a> {
     ghost use Rattle.rope_slice.specs.Plain.{text_of};
 
-    /// The text.
+    /// Returns the text.
     pub(crate) fn as_str(&self) -> &'a str
         ensures { chars result.now ≡ text_of self.now }
     {
         self.text
     }
 
-    /// The counts of the text before a line; past the last line those of all of it.
+    /// Returns the counts of the text before a line; past the last line those of all of it.
     pub(crate) fn before_line(&self, line_idx: usize) -> TextInfo
         ensures { result ≡ line_info self.now.breaks (text_of self.now) line_idx }
     {
@@ -49,8 +49,8 @@ impl<'a> Plain<'a> {
         TextInfo::before_line(self.as_str(), self.info, line_idx, self.breaks)
     }
 
-    /// The counts of the text before a line, and before the next one; past the last line those of
-    /// all of it. And the text from the line on.
+    /// Returns the counts of the text before a line and before the next one, and the text from the
+    /// line on. Past the last line the counts are those of all of the text.
     pub(crate) fn around_line(&self, line_idx: usize) -> LinePlace<'a>
         requires within { line_idx < line_count self.now.breaks (text_of self.now) }
         requires fits { byte_len (text_of self.now) < 2 ^ 63 }

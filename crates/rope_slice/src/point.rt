@@ -1,4 +1,4 @@
-//! Steps from a point of a chunk: over a character, or to the chunk beside it.
+//! Steps from a point of a chunk: over a character, or to the adjacent chunk.
 ghost use Rattle.std.specs.Prelude.{if◌then◌else◌, ◌≡◌, ◌<◌, length, IfSome, IfNone};
 ghost use Rattle.std.specs.Str.{IsCharBoundary};
 ghost use Rattle.rope_slice.specs.Path.{IsBeside, IsLast};
@@ -7,15 +7,15 @@ ghost use Rattle.rope_slice.specs.Point.{IsChunkAt, IsCharBetween};
 use crate::path::Heads;
 use crate::span::Span;
 
-// Where a walk over so many items ends, to the left or to the right.
+// Returns the index where a walk over `count` items ends, to the left or to the right.
 pub(crate) fn end_of(count: usize, is_left: bool) -> usize
     ensures { result ≡ if is_left then 0 else count }
 {
     if is_left { 0 } else { count }
 }
 
-// Goes to the chunk beside a span's own. The span is moved in and out, so that no call is told
-// where the caller's lies.
+// Moves to the chunk adjacent to a span's own. The span is moved in and out, so that no call
+// receives the address of the caller's.
 #[inline(never)]
 fn chunk_beside<'a>(mut span: Span<'a>, is_left: bool) -> (Span<'a>, Option<&'a str>)
     ensures moved { IfSome result.1 (λ chunk. IsBeside is_left span.entry result.0) }
@@ -28,11 +28,10 @@ fn chunk_beside<'a>(mut span: Span<'a>, is_left: bool) -> (Span<'a>, Option<&'a 
     (span, has_moved.then_some(chunk))
 }
 
-// Goes to the chunk to the left, or to the right, if there is one, and answers it, and its end from
-// which it is entered. The work is kept out of the callers, whose steps within a chunk are to stay
-// short. It is given a copy of the span: were it told where the span lies, it could reach the
-// cursor round it too, and a loop over a cursor would read and write the cursor's place in memory
-// at each step.
+// Moves to the chunk to the left, or to the right, if there is one. Returns the chunk and the end
+// from which it is entered. The work is kept out of the callers, so that their steps within a chunk
+// stay short. The callee receives a copy of the span: with its address, it could reach the cursor
+// around it too, and a loop over a cursor would load and store the cursor's position at each step.
 pub(crate) fn step_chunk<'a>(span: &mut Span<'a>, is_left: bool) -> Option<(&'a str, usize)>
     ensures moved { IfSome result (λ found. IsBeside is_left span.old span.new) }
     ensures chunk { IfSome result (λ found. IsChunkAt span.new found.0.now) }
@@ -46,7 +45,7 @@ pub(crate) fn step_chunk<'a>(span: &mut Span<'a>, is_left: bool) -> Option<(&'a 
     Some((chunk, end_of(chunk.len(), !is_left)))
 }
 
-// The character at a byte, and where it ends.
+// Returns the character at a byte, and its end.
 pub(crate) fn char_after(text: &str, at: usize) -> (char, usize)
     requires within { at < length text.now }
     requires cut { IsCharBoundary text.now at }
@@ -63,7 +62,7 @@ pub(crate) fn char_after(text: &str, at: usize) -> (char, usize)
     (c, text.len() - rest.as_str().len())
 }
 
-// The character that ends at a byte, and where it begins.
+// Returns the character that ends at a byte, and its start.
 pub(crate) fn char_before(text: &str, at: usize) -> (char, usize)
     requires some { 0 < at }
     requires cut { IsCharBoundary text.now at }

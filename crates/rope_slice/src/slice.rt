@@ -1,8 +1,9 @@
-//! The slice, its lengths, and slices of it.
+//! Slices, their lengths, and slices of them. No call takes memory. Lengths take constant time; a
+//! slice of a slice costs a few lookups, or a count of the text if it is plain.
 //!
 //! `RopeSlice::from("one\ntwo")` is a slice of a plain text: it has 7 characters, 2 lines and one
-//! chunk. The slice `2..9` of `"hello world"` is `"llo wor"`, and of that the slice `1..4` is `"lo
-//! "`. No call takes memory.
+//! chunk. The slice `2..9` of `"hello world"` is `"llo wor"`, and of that the slice `1..5` is
+//! `"lo w"`.
 ghost use Rattle.std.specs.Prelude.{◌≡◌, ◌≤◌, length, true, ◌↔◌, None, Some, Ok, Err, IfOk, IfErr, IfSome, IsSome};
 ghost use Rattle.std.specs.List.{slice_range};
 ghost use Rattle.std.specs.Str.{chars};
@@ -26,25 +27,24 @@ use rope_text::str_utils::char_to_byte_idx;
 use rope_text::{Error, IndexRange, LineBreaks, MAX_BYTES, Result, TextInfo};
 use rope_tree::Node;
 
-/// The index, or none where it is past the end.
+/// Returns the index, or `None` if it is past the end.
 pub(crate) fn within(idx: usize, len: usize) -> Option<usize>
     ensures { GivesWithin idx len result (λ same. same ≡ idx) }
 {
     (idx <= len).then_some(idx)
 }
 
-/// A part of a rope's text, or a plain text, borrowed for `'a`.
+/// A slice of a rope's text, or of a plain text, borrowed for `'a`.
 ///
 /// It counts its own text: one that ends after the CR of a CR LF has that CR as a line break, and
-/// one that starts at the LF has that LF, where they are breaks of its set. Its chunks are the
-/// rope's, clipped to it, and empty ones dropped; a plain text is one chunk of any length, or none.
-/// Copying a slice takes constant time and no memory.
+/// one that starts at the LF has that LF, if they are breaks of its set. Its chunks are the rope's,
+/// clipped to it, without empty ones; a plain text is one chunk of any length, or none. Copying a
+/// slice takes constant time.
 ///
-/// Which of the two it is says nothing about its text, and only tells a rope that is made of it
-/// whether there are nodes to share.
+/// The variant says nothing about the text; a rope made of the slice shares nodes only of the first.
 #[derive(Clone, Copy)]
 pub enum RopeSlice<'a> {
-    /// One character or more of a rope's text.
+    /// A slice of a rope's text with at least one character.
     InTree(Excerpt<'a>),
     /// A plain text.
     Alone(Plain<'a>),
@@ -54,8 +54,10 @@ impl<'a> RopeSlice<'a> {
     ghost use Rattle.rope_slice.specs.Slice.{content_of, text_of, chunks_of, breaks_of};
     ghost use Rattle.rope_slice.specs.Ranges.{GivesChars, GivesBytes, IsByteSlice};
 
-    /// A slice of a plain text, with this set of line breaks. The text is read once, to be counted;
-    /// takes no memory.
+    /// Returns a slice of a plain text, with the given set of line breaks. Reads the text once, to
+    /// count it.
+    ///
+    /// `RopeSlice::from_str_with("a\rb", LineBreaks::Lf).len_lines()` is 1.
     pub fn from_str_with(text: &'a str, breaks: LineBreaks) -> RopeSlice<'a>
         ensures text { text_of result ≡ chars text.now }
         ensures chunks { chunks_of result ≡ single_chunk (chars text.now) }
@@ -65,8 +67,8 @@ impl<'a> RopeSlice<'a> {
         RopeSlice::Alone(Plain { text, info, breaks })
     }
 
-    /// The whole text of a tree.
-    // Inlined: a call would answer it through memory, in words that are loaded again as vectors.
+    /// Returns the whole text of a tree.
+    // Inlined: a call would return the slice through memory, with a store-forwarding stall.
     #[inline(always)]
     pub fn of_node(node: &'a Node) -> RopeSlice<'a>
         ensures text { text_of result ≡ text node.now }
@@ -81,7 +83,7 @@ impl<'a> RopeSlice<'a> {
         RopeSlice::InTree(Excerpt { node, start, end })
     }
 
-    /// The set of line breaks by which lines are counted. Takes constant time and no memory.
+    /// Returns the set of line breaks by which lines are counted.
     pub fn line_breaks(&self) -> LineBreaks
         ensures { result ≡ breaks_of self.now }
     {
@@ -91,7 +93,7 @@ impl<'a> RopeSlice<'a> {
         }
     }
 
-    /// The counts of the text, of which nothing is read.
+    /// Returns the counts of the text, without reading it.
     pub(crate) fn info(&self) -> TextInfo
         ensures value { result ≡ info_of (breaks_of self.now) (text_of self.now) }
         ensures kept { IsPart (content_of self.now) }
@@ -99,7 +101,7 @@ impl<'a> RopeSlice<'a> {
         match self {
             RopeSlice::InTree(excerpt) => excerpt.info(),
             RopeSlice::Alone(plain) => {
-                // For the proof: `as_bytes` says that a text in memory has at most `isize::MAX`
+                // For the proof: `as_bytes` ensures that a text in memory has at most `isize::MAX`
                 // bytes, as a slice must.
                 let _ = plain.as_str().as_bytes();
                 plain.info
@@ -107,7 +109,7 @@ impl<'a> RopeSlice<'a> {
         }
     }
 
-    /// The length in bytes. Takes constant time and no memory.
+    /// Returns the length in bytes. `RopeSlice::from("é\n").len_bytes()` is 3.
     pub fn len_bytes(&self) -> usize
         ensures value { result ≡ byte_len (text_of self.now) }
         ensures kept { IsPart (content_of self.now) }
@@ -115,21 +117,22 @@ impl<'a> RopeSlice<'a> {
         self.info().bytes
     }
 
-    /// The length in characters. Takes constant time and no memory.
+    /// Returns the length in characters. `RopeSlice::from("é\n").len_chars()` is 2.
     pub fn len_chars(&self) -> usize
         ensures { result ≡ length (text_of self.now) }
     {
         self.info().chars
     }
 
-    /// The number of lines: one more than there are line breaks. Takes constant time and no memory.
+    /// Returns the number of lines: one more than the number of line breaks.
+    /// `RopeSlice::from("é\n").len_lines()` is 2.
     pub fn len_lines(&self) -> usize
         ensures { result ≡ line_count (breaks_of self.now) (text_of self.now) }
     {
         self.info().break_count + 1
     }
 
-    /// The length in UTF-16 code units. Takes constant time and no memory.
+    /// Returns the length in UTF-16 code units. `RopeSlice::from("😀").len_utf16_cu()` is 2.
     pub fn len_utf16_cu(&self) -> usize
         ensures { result ≡ utf16_len (text_of self.now) }
     {
@@ -137,7 +140,7 @@ impl<'a> RopeSlice<'a> {
         info.chars + info.utf16_surrogates
     }
 
-    // The characters from `start` up to `end`: their text, and the chunks clipped to them.
+    // Returns the characters from `start` up to `end`: their text, and the chunks clipped to them.
     pub(crate) fn char_range(&self, start: usize, end: usize) -> RopeSlice<'a>
         requires ordered { start ≤ end }
         requires within { end ≤ length (text_of self.now) }
@@ -170,7 +173,8 @@ impl<'a> RopeSlice<'a> {
         }
     }
 
-    // The bytes from `from` up to `to`; none exactly where one of the two lies inside a character.
+    // Returns the bytes from `from` up to `to`, or `None` exactly if one of the two is inside a
+    // character.
     fn byte_range(&self, from: usize, to: usize) -> Option<RopeSlice<'a>>
         requires ordered { from ≤ to }
         requires within { to ≤ byte_len (text_of self.now) }
@@ -204,11 +208,11 @@ impl<'a> RopeSlice<'a> {
         }
     }
 
-    /// The characters of a range, as a slice that borrows them: their text, the chunks clipped to
-    /// them, and the same set of line breaks. Nothing is copied.
+    /// Returns the characters of a range, as a slice that borrows them: their text, the chunks
+    /// clipped to them, and the same set of line breaks.
     ///
-    /// The range's bounds are at most `len_chars()`, and its start is at most its end. Costs a few
-    /// look-ups, or a count of the text where it is plain; takes no memory.
+    /// The range's bounds are at most `len_chars()`, and its start is at most its end.
+    /// `RopeSlice::from("abcd").slice(1..3)` is `"bc"`.
     #[inline(always)]
     pub fn slice<R: IndexRange>(&self, range: R) -> RopeSlice<'a>
         requires { HasCharRange (text_of self.now) (R.given_start range) (R.given_end range) }
@@ -218,9 +222,8 @@ impl<'a> RopeSlice<'a> {
         self.get_slice(range).unwrap()
     }
 
-    /// As `slice`, or `None` exactly where a bound is past `len_chars()` or the range's start is
-    /// past its end. Costs a few look-ups, or a count of the text where it is plain; takes no
-    /// memory.
+    /// Returns a slice as `slice` does, or `None` exactly if a bound is past `len_chars()` or the
+    /// range's start is past its end.
     #[inline(always)]
     pub fn get_slice<R: IndexRange>(&self, range: R) -> Option<RopeSlice<'a>>
         ensures { GivesChars (content_of self.now) (R.given_start range) (R.given_end range)
@@ -230,14 +233,13 @@ impl<'a> RopeSlice<'a> {
         Some(self.char_range(start, end))
     }
 
-    /// As `byte_slice`, for any range. Costs a few look-ups, or a count of the text where it is
-    /// plain; takes no memory.
+    /// Returns a slice as `byte_slice` does, for any range.
     ///
     /// # Errors
     ///
-    /// First `ByteRangeInvalid`, where both bounds are given and the start is past the end; then
-    /// `ByteRangeOutOfBounds`, where a given bound is past `len_bytes()`; then
-    /// `ByteRangeNotCharBoundary`, where a given bound lies inside a character.
+    /// First `ByteRangeInvalid`, if both bounds are given and the start is past the end; then
+    /// `ByteRangeOutOfBounds`, if a given bound is past `len_bytes()`; then
+    /// `ByteRangeNotCharBoundary`, if a given bound is inside a character.
     #[inline(always)]
     pub fn try_byte_slice<R: IndexRange>(&self, range: R) -> Result<RopeSlice<'a>>
         ensures ok { IfOk result
@@ -261,8 +263,8 @@ impl<'a> RopeSlice<'a> {
         }
     }
 
-    /// As `byte_slice`, or `None` exactly where `try_byte_slice` returns an error. Costs a few
-    /// look-ups, or a count of the text where it is plain; takes no memory.
+    /// Returns a slice as `byte_slice` does, or `None` exactly if `try_byte_slice` returns an
+    /// error.
     #[inline(always)]
     pub fn get_byte_slice<R: IndexRange>(&self, range: R) -> Option<RopeSlice<'a>>
         ensures { GivesBytes (content_of self.now) (R.given_start range) (R.given_end range)
@@ -271,11 +273,10 @@ impl<'a> RopeSlice<'a> {
         self.try_byte_slice(range).ok()
     }
 
-    /// The bytes of a range, as a slice that borrows them, as `slice` does.
+    /// Returns the bytes of a range, as a slice that borrows them.
     ///
-    /// The range's bounds are at most `len_bytes()`, its start is at most its end, and no bound
-    /// lies inside a character. Costs a few look-ups, or a count of the text where it is plain;
-    /// takes no memory.
+    /// The range's bounds are at most `len_bytes()`, its start is at most its end, and no bound is
+    /// inside a character. `RopeSlice::from("éa").byte_slice(2..)` is `"a"`.
     #[inline(always)]
     pub fn byte_slice<R: IndexRange>(&self, range: R) -> RopeSlice<'a>
         requires { HasByteRange (text_of self.now) (R.given_start range) (R.given_end range) }
@@ -291,8 +292,8 @@ impl<'a> From<&'a str> for RopeSlice<'a> {
 
     ghost from_gives = { λ text slice. content_of slice ≡ plain_content Unicode (chars text.now) };
 
-    /// A slice of a plain text, with Unicode's line breaks. The text is read once, to be counted;
-    /// takes no memory.
+    /// Returns a slice of a plain text, with Unicode's line breaks. Reads the text once, to count
+    /// it.
     fn from(text: &'a str) -> RopeSlice<'a>
         ensures content { content_of result ≡ plain_content Unicode (chars text.now) }
         ensures text { text_of result ≡ chars text.now }

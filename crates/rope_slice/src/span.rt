@@ -1,4 +1,4 @@
-//! A chunk of a slice, from which a cursor goes to the chunks beside it. No step takes memory.
+//! A chunk of a slice, from which a cursor moves to the adjacent chunks. No step takes memory.
 ghost use Rattle.std.specs.Prelude.{◌≡◌, ◌+◌, ◌-◌, ◌<◌, ◌≤◌, length, take};
 ghost use Rattle.std.specs.Bool.{OnTrue, OnFalse};
 ghost use Rattle.std.specs.List.{concat};
@@ -19,7 +19,7 @@ use rope_tree::Unit;
 use std::marker::Model;
 
 /// A chunk of a slice, seen as the chunks before it, the chunk, and the chunks after it.
-// A plain text has no way: none is filled or moved for the lines that a screen shows.
+// A plain text has no path: none is filled or moved for the lines of a screen.
 #[derive(Drop)]
 pub(crate) struct Span<'a> {
     chunk: &'a str,
@@ -40,10 +40,10 @@ impl<'a> Model for Span<'a> {
 }
 
 impl<'a> Span<'a> {
-    /// The chunk of a slice that holds a byte or a character; at the end of the text the last
-    /// chunk. With it the bytes, the characters and the line breaks of the text before it. An empty
-    /// slice has no chunk: then it is the empty text.
-    // Inlined, since a call would answer the way through memory.
+    /// Returns the chunk of a slice that contains a byte or a character, and at the end of the text
+    /// the last chunk. Also returns the numbers of bytes, characters and line breaks of the text
+    /// before it. For an empty slice, which has no chunk, the chunk is the empty text.
+    // Inlined, since a call would return the path through memory.
     #[inline(always)]
     pub(crate) fn holding(slice: &RopeSlice<'a>, unit: Unit, idx: usize) -> (Span<'a>, Before)
         requires unit { IsItem unit }
@@ -70,11 +70,11 @@ impl<'a> Span<'a> {
         }
     }
 
-    /// The chunk of a slice that holds a character, and the byte of the chunk at which that
-    /// character starts. At the end of the text it is the last chunk, and its end. An empty slice
-    /// has no chunk: then it is the empty text. The caller has the slice's counts, and passes them
-    /// in.
-    // Inlined, since a call would answer the way through memory. ASCII: the byte index is the
+    /// Returns the chunk of a slice that contains a character, and the byte of the chunk at which
+    /// that character starts. At the end of the text it is the last chunk, and its end. For an
+    /// empty slice, which has no chunk, the chunk is the empty text. The caller passes in the
+    /// slice's counts.
+    // Inlined, since a call would return the path through memory. ASCII: the byte index is the
     // character index, and no byte is read.
     #[inline(always)]
     pub(crate) fn at(slice: &RopeSlice<'a>, info: TextInfo, char_idx: usize) -> (Span<'a>, usize)
@@ -97,10 +97,10 @@ impl<'a> Span<'a> {
         (span, byte)
     }
 
-    /// Returns the chunk of a slice in which a position lies, or which it ends, and the byte of the
-    /// chunk at which it is. The caller has the counts of the text before the position, so no byte
-    /// is read.
-    // Inlined, since a call would answer the way through memory.
+    /// Returns the chunk of a slice that contains a position, or that ends at it, and the byte of
+    /// the chunk at the position. The caller has the counts of the text before the position, so no
+    /// byte is read.
+    // Inlined, since a call would return the path through memory.
     #[inline(always)]
     pub(crate) fn at_counts(slice: &RopeSlice<'a>, before: TextInfo) -> (Span<'a>, usize)
         requires within { before.chars ≤ length (text_of slice.now) }
@@ -117,7 +117,7 @@ impl<'a> Span<'a> {
         (span, before.bytes - front.bytes)
     }
 
-    /// The same chunk, with a way of its own.
+    /// Returns a copy with a path of its own.
     #[inline(always)]
     pub(crate) fn copy(&self) -> Span<'a>
         ensures { result ≡ self.now }
@@ -130,15 +130,15 @@ impl<'a> Span<'a> {
         Span { chunk, way }
     }
 
-    /// The chunk.
+    /// Returns the chunk.
     pub(crate) fn chunk(&self) -> &'a str
         ensures { chars result.now ≡ self.now.here }
     {
         self.chunk
     }
 
-    /// Returns whether the next chunk, or backward the one before, is known at once to have a line
-    /// break. It may have one where this returns false: a caller looks elsewhere.
+    /// Returns whether the next chunk, or backward the previous one, is known at once to have a
+    /// line break. It may have one where this returns false: a caller looks elsewhere.
     #[inline(always)]
     pub(crate) fn has_break_beside(&self, is_backward: bool) -> bool {
         match &self.way {
@@ -147,8 +147,8 @@ impl<'a> Span<'a> {
         }
     }
 
-    /// Goes to the next chunk, or backward to the one before. Answers whether there is one; else it
-    /// stays.
+    /// Moves to the next chunk, or backward to the previous one. Returns false, without a move, if
+    /// there is none.
     // Inlined: a plain text has none, which costs no call.
     #[inline(always)]
     pub(crate) fn step(&mut self, is_backward: bool, heads: Heads) -> bool
@@ -159,7 +159,7 @@ impl<'a> Span<'a> {
         self.way.is_some() && self.step_in_tree(is_backward, heads)
     }
 
-    // The same in a call of its own.
+    // Moves to the adjacent chunk of a tree, in a call of its own.
     #[inline(never)]
     fn step_in_tree(&mut self, is_backward: bool, heads: Heads) -> bool
         ensures moved { OnTrue result (IsBeside is_backward self.old self.new) }
@@ -169,7 +169,8 @@ impl<'a> Span<'a> {
         self.step_inlined(is_backward, heads)
     }
 
-    /// The same without a call, for a cursor over chunks: nearly each of its steps is one.
+    /// Moves to the adjacent chunk without a call, for a cursor over chunks: nearly each of its
+    /// steps is one.
     #[inline(always)]
     pub(crate) fn step_inlined(&mut self, is_backward: bool, heads: Heads) -> bool
         ensures moved { OnTrue result (IsBeside is_backward self.old self.new) }

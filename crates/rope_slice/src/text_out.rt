@@ -13,7 +13,7 @@ use std::alloc::{AllocError, Global};
 use std::borrow::CowStr;
 use std::fmt;
 
-// Puts a chunk behind the text. Its contract speaks of characters, as the chunks of a cursor do.
+// Appends a chunk to the text. The contract is about characters, as the chunks of a cursor are.
 fn push_chunk(text: &mut String, chunk: &str) -> std::result::Result<(), AllocError>
     ensures { OnOk result
         (string_bytes text.new ≡ string_bytes text.old ++ encode_utf8_all (chars chunk.now)) }
@@ -21,7 +21,7 @@ fn push_chunk(text: &mut String, chunk: &str) -> std::result::Result<(), AllocEr
     text.push_str(chunk)
 }
 
-// Writes a chunk. Its contract speaks of characters, as the chunks of a cursor do.
+// Writes a chunk. The contract is about characters, as the chunks of a cursor are.
 fn show_chunk<W: fmt::Write>(chunk: &str, f: &mut fmt::Formatter<W>) -> fmt::Result
     ensures writes { WritesOnOk W.write_str_gives f.old result
         (encode_utf8_all (chars chunk.now)) f.new }
@@ -32,7 +32,10 @@ fn show_chunk<W: fmt::Write>(chunk: &str, f: &mut fmt::Formatter<W>) -> fmt::Res
 }
 
 impl<'a> RopeSlice<'a> {
-    /// A copy of the text as a string. Takes time in proportion to the text, and memory once.
+    /// Returns a copy of the text as a string. Takes time in proportion to the text, and allocates
+    /// once.
+    ///
+    /// `RopeSlice::from("ab").try_to_string(alloc)` is `Ok` of a `String` of `"ab"`.
     ///
     /// # Errors
     ///
@@ -48,12 +51,14 @@ impl<'a> RopeSlice<'a> {
         Ok(text)
     }
 
-    /// The text: borrowed exactly where the slice has at most one chunk, which takes no memory and
-    /// never fails; else a copy.
+    /// Returns the text: borrowed exactly if the slice has at most one chunk, which never fails;
+    /// else a copy.
+    ///
+    /// `RopeSlice::from("ab").try_to_cow(alloc)` is a borrowed text.
     ///
     /// # Errors
     ///
-    /// `OutOfMemory`, only where the slice has more than one chunk.
+    /// `OutOfMemory`, only if the slice has more than one chunk.
     pub fn try_to_cow(&self, alloc: Global) -> Result<CowStr<'a>>
         ensures text { IfOk result (λ cow. chars (cow_str_bytes cow) ≡ text_of self.now) }
         ensures borrowed { IfOk result (λ cow.

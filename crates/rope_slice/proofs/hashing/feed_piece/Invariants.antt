@@ -1,4 +1,4 @@
--- The writes so far and those of what is left are those of all, whatever follows.
+-- The writes so far and those of the rest are those of all, whatever follows.
 use Rattle.std.proofs.Common.{◌++◌, length, take}
 use Rattle.rope_slice.proofs.Feeding.{IsFeeding}
 use Rattle.rope_slice.proofs.hashing.feed_piece.Given as goal

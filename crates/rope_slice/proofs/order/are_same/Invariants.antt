@@ -1,4 +1,4 @@
--- What is passed is the same.
+-- The bytes passed are equal.
 use Rattle.std.proofs.Common.{◌-◌, ◌≤◌}
 use Rattle.rope_slice.specs.Same.{IsSameFrom}
 use Rattle.rope_slice.proofs.order.are_same.Given as goal

@@ -1,4 +1,4 @@
--- What is left compares as the whole.
+-- The rests compare as the wholes.
 use Rattle.std.proofs.Common.{length, ◌++◌}
 use Rattle.rope_slice.proofs.Comparing.{IsComparing}
 use Rattle.rope_slice.proofs.order.order_of_pieces.Given as goal

@@ -3,7 +3,7 @@ use Rattle.rope_slice.proofs.ByteCursors.{IsReady, ready_here, ready_beside, bef
 use Rattle.rope_slice.proofs.bytes.Bytes.step.Goals.{Joined-self-end_of, then-self-end_of+else-end_of-self+in_ok-chunk, else-self-end_of}
 use Rattle.rope_slice.proofs.bytes.Bytes.step.Goals as goal
 
--- it stands beside a byte of its chunk, and shows what it showed
+-- it is adjacent to a byte of its chunk, with unchanged sides
 ready : (c : Joined-self-end_of) → let s = c.if-self-end_of.self-inside in IsReady c.args.is_left s.is_backward c.args.self.now s.span s.chunk.now s.at s.before s.total
 ready c =
     let s = c.self.inside in

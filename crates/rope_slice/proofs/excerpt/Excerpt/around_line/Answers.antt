@@ -114,7 +114,7 @@ returns-clause-end c =
     let end = next_is (goal.at.returns-clause-end c).Else-line-eq0 c.plus.result c.plus.ensures.sum in
     c.counts_to-end.ensures ∙ own_line _ _ _ _ _ c.args.self.now.is_excerpt (c.args.line_idx + 1) (omega arith) end
 
--- what follows in the leaf lies in the chunk there, or the line starts at the end
+-- the rest of the leaf is inside the chunk there, or the line starts at the end
 held_in : (c : After-counts_to-start) → c.line_start_at.result.0 ≡ info_of c.args.self.now.node.now.breaks (take (line_start c.args.self.now.node.now.breaks (text c.args.self.now.node.now) (c.args.self.now.start.break_count + c.args.line_idx)) (text c.args.self.now.node.now)) → IsInChunk (text_of c.args.self.now) (chunks_of c.args.self.now) c.counts_to-start.result.chars (chars c.line_start_at.result.1.now)
 held_in c start =
     let s = c.args.self.now in

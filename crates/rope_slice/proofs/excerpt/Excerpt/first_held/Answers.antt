@@ -18,7 +18,7 @@ starts c =
     let s = c.args.self.now in
     starts_in s.node.now s.start s.end c.leaf_at-found.result.leaf c.leaf_at-found.result.before s.is_low.tree s.is_excerpt c.leaf_at-found.ensures.found
 
--- how many characters of the leaf stand before the excerpt
+-- the number of characters of the leaf before the excerpt
 skipped : After-as_str → ℕ
 skipped c = c.args.self.now.start.chars - c.leaf_at-found.result.before.chars
 

@@ -20,7 +20,7 @@ overflow_sub-found c =
     let within = (found_char c.place-place.result c.args.self.now.node.now c.leaf_at-found.result.leaf c.leaf_at-found.result.before f).0 in
     omega (arith, within, ap (λ x. x.chars) c.leaf_at-found.ensures.inside)
 
--- what the leaf has from the first character on, and how many are asked for
+-- the rest of the leaf from the first character on, and the number of characters requested
 held_is : (c : After-range) → chars c.range_from-held.result.now ≡ drop (c.place-place.result - c.leaf_at-found.result.before.chars) c.leaf_at-found.result.leaf
 held_is c =
     chars_back c.as_str.result.now c.range_from-held.result.now c.leaf_at-found.result.leaf (c.place-place.result - c.leaf_at-found.result.before.chars) c.char_to_byte_idx.result c.as_str.utf8 c.as_str.ensures.chars

@@ -14,7 +14,7 @@ use Rattle.rope_slice.proofs.Edges.{start_found}
 use Rattle.rope_slice.proofs.excerpt.Excerpt.start_at.Goals.{After-byte_to_line_of-lines, After-byte_to_surrogates_of-pairs}
 use Rattle.rope_slice.proofs.excerpt.Excerpt.start_at.Goals as goal
 
--- the character that begins at the place
+-- the character that begins at the position
 here_is : (leaf str : List ℕ) (k n : ℕ) → str ≡ leaf → k ≤ length leaf → n ≡ byte_len (take k leaf) → byte_to_char str n ≡ k
 here_is leaf str k n same within place = ap (λ s. byte_to_char s n) same ∙ ap (byte_to_char leaf) place ∙ byte_to_char-char_to_byte leaf k within
 

@@ -1,4 +1,4 @@
--- The writes so far, and those of the held bytes and of what is ahead, are those of all.
+-- The writes so far, and those of the held bytes and of the rest, are those of all.
 use Rattle.std.proofs.Common.{◌≡◌, ◌<◌, ◌++◌, [], length, take}
 use Rattle.std.specs.Str.{encode_utf8_all}
 use Rattle.rope_slice.specs.Slice.{text_of}

@@ -12,7 +12,7 @@ use Rattle.rope_slice.proofs.path.Path.at.Goals.{After-total_before-front, After
 use Rattle.rope_tree.proofs.Infos.{small_sum}
 use Rattle.rope_slice.proofs.path.Path.at.Goals as goal
 
--- the place is in the child that the search names
+-- the index is in the child that the search returns
 down : (c : After-total_before-front) → Descends (breaks_of c.in-Inner.children.now) c.args.unit c.down.rest c.in-Inner.children.now c.place_of-at.result c.index-children-at.result c.total_before-front.result
 down c =
     descends c.args.unit c.down.rest c.in-Inner.children.now c.in-Inner.sums.now c.place_of-at.result c.index-children-at.result c.total_before-front.result

@@ -82,7 +82,7 @@ returns-then-info-held c =
     let chunks = ap single_chunk (text ∙ e.text_is) ∙ sym e.chunks_are in
     same_content _ (part_between (content_of c.args.self.now) c.args.from.chars c.args.to.chars) text chunks c.requires.breaks_is
 
--- a part that goes on behind the chunk has a character
+-- a slice that continues after the chunk has a character
 some : (c : In-InTree) → c.args.from.chars < c.args.to.chars
 some c = elim (cases_lt c.args.from.chars c.args.to.chars) [
   | inl less ↦ less

@@ -22,7 +22,7 @@ overflow_sub-count c =
     let some = some_in s.node.now s.start s.end s.is_excerpt c.args.idx c.args.unit (rw c.in-InTree.is at c.requires) in
     omega (arith, some, c.count.ensures)
 
--- the place in the tree
+-- the index in the tree
 place_is : (c : After-min-place) → let s = c.in-InTree.excerpt in c.min-place.result ≡ min (count_of c.args.unit s.start + c.args.idx) (count_of c.args.unit s.end - 1)
 place_is c = rw (c.place.ensures.value, c.count.ensures) at c.min-place.ensures
 

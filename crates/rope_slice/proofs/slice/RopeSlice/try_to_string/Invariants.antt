@@ -1,4 +1,4 @@
--- What was copied and what is ahead are the text.
+-- The text copied and the text ahead are the text.
 use Rattle.std.proofs.Common.{◌≡◌, ◌++◌, length}
 use Rattle.rope_text.specs.Sides.{ahead}
 use Rattle.std.specs.Str.{encode_utf8_all}

@@ -1,4 +1,4 @@
--- What was written and what is ahead are the text.
+-- The text written and the text ahead are the text.
 use Rattle.std.proofs.Common.{length}
 use Rattle.rope_text.specs.Sides.{ahead}
 use Rattle.std.specs.Str.{encode_utf8_all}
