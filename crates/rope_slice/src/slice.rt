@@ -41,7 +41,8 @@ pub(crate) fn within(idx: usize, len: usize) -> Option<usize>
 /// clipped to it, without empty ones; a plain text is one chunk of any length, or none. Copying a
 /// slice takes constant time.
 ///
-/// The variant says nothing about the text; a rope made of the slice shares nodes only of the first.
+/// The variant says nothing about the text: it only tells a rope made of the slice whether it can
+/// share nodes.
 #[derive(Clone, Copy)]
 pub enum RopeSlice<'a> {
     /// A slice of a rope's text with at least one character.
