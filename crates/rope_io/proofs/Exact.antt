@@ -1,4 +1,4 @@
--- When bytes are refused.
+-- The bytes that are refused.
 use Rattle.std.proofs.Common.{ℕ, false, List, refl, arith, ⊎_elim, Option, Result, Ok, Err, IsOk, ◌↔◌}
 use Rattle.std.proofs.lemmas.Bool.{false≢true}
 use Rattle.rope_text.specs.Read.{IsRefused}

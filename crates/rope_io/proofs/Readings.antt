@@ -1,4 +1,4 @@
--- A reading under way.
+-- A read in progress.
 use Rattle.std.proofs.Common.{◌≡◌, ℕ, ◌+◌, ◌-◌, ◌<◌, ◌≤◌, ◌^◌, Bool, false, IsTrue, List, [], ◌++◌, length, take, drop, refl, sym, ap, subst, ◌∙◌, append_assoc, arith, zero-add, inl, inr, Option, None, Some}
 use Rattle.std.specs.Io.KnownBytes.{Consumes, Keeps, IsAtEnd}
 use Rattle.std.specs.List.{copy_within}
@@ -24,17 +24,17 @@ use borrow.Rule.Slice.PartMut.{put_mid, post_of}
 pub length-text_front : (bs : List ℕ) → length (text_front bs) ≡ utf8_valid_len bs
 length-text_front bs = length-take-le (utf8_valid_len bs) bs (utf8_valid_len_le bs)
 
--- nothing of the rest is text
+-- no prefix of the rest is text
 pub rest_stays : (bs : List ℕ) → utf8_valid_len (text_rest bs) ≡ 0
 rest_stays bs =
     let e : utf8_valid_len bs ≡ length (text_front bs) + utf8_valid_len (text_rest bs) = ap utf8_valid_len (sym (take-append-drop (utf8_valid_len bs) bs)) ∙ utf8_valid_len-append (text_front bs) (text_rest bs) (IsUtf8-text_front bs) in
     omega (arith, e, length-text_front bs)
 
--- the front of a text and more bytes
+-- the text at the front of a text and more bytes
 pub front_after : (xs ys : List ℕ) → IsUtf8 xs → length (text_front (xs ++ ys)) ≡ length xs + length (text_front ys)
 front_after xs ys u = omega (arith, length-text_front (xs ++ ys), length-text_front ys, utf8_valid_len-append xs ys u)
 
--- bytes that a text of few enough bytes is the front of
+-- a short enough text fits
 pub size_fits : (n : ℕ) → n < 2 ^ 63 → size_error n ≡ None
 size_fits n h = cond-true _ _ _ (lt-ltb n (2 ^ 63) h)
 
@@ -57,7 +57,7 @@ Consumes-more (Some vs) None end xs ys p q = absurd p
 Consumes-more (Some vs) (Some us) None xs ys p q = absurd q
 Consumes-more (Some vs) (Some us) (Some ws) xs ys p q = p ∙ ap (λ zs. xs ++ zs) q ∙ sym (append_assoc xs ys ws)
 
--- a read that failed has given nothing
+-- a failed read gave nothing
 Consumes-kept : (start mid new : Option (List ℕ)) (bs : List ℕ) → Consumes start mid bs → Keeps mid new → Consumes start new bs
 Consumes-kept None mid new bs p q = tt
 Consumes-kept (Some vs) None new bs p q = absurd p
@@ -87,14 +87,14 @@ nothing_read start text e = subst (λ t. HasRead start start t []) (sym e) (reco
 })
 
 module _ (start now : Option (List ℕ)) (text held : List ℕ) (h : HasRead start now text held) where
-  -- the rest of the bytes given is what is held, and their front the text
+  -- the rest of the bytes given is held, and their front is the text
   pub rest_is : text_rest (encode_utf8_all text ++ held) ≡ held
   rest_is = text_rest-append (encode_utf8_all text) held h.utf8 ∙ ap (λ n. drop n held) h.no_text
 
   pub front_fits : Fits (encode_utf8_all text ++ held)
   front_fits = size_fits _ (omega (arith, front_after (encode_utf8_all text) held h.utf8, length-text_front held, h.no_text, h.fits))
 
-  -- where the input ends with something held, and where as much is held as may be, the bytes are refused
+  -- bytes held at the input's end, and a full buffer of held bytes, are refused
   pub refused_full : length held ≡ 1968 → IsRefused (encode_utf8_all text ++ held) (has_ended now)
   refused_full e = inr (omega (arith, ap length rest_is, e))
 
@@ -116,7 +116,7 @@ front_read buf ys filled room count h k =
     subst (λ n. take (n + count) (take filled buf ++ (ys ++ post_of filled room buf)) ≡ take filled buf ++ take count (ys ++ post_of filled room buf)) f (take-append-add (take filled buf) (ys ++ post_of filled room buf) count)
     ∙ ap (λ zs. take filled buf ++ zs) (take-append-le count ys (post_of filled room buf) k)
 
--- the bytes that are held once more were read
+-- the held bytes after one more read
 module _ (start mid new : Option (List ℕ)) (text buf ys : List ℕ) (filled room count : ℕ) (within : filled ≤ length buf) (some : count ≤ length ys)
     (h : HasRead start mid text (take filled buf)) (more : Consumes mid new (take count ys)) where
   pub given_more : Consumes start new (encode_utf8_all text ++ take (filled + count) (put_mid filled room buf ys))
@@ -128,7 +128,7 @@ module _ (start mid new : Option (List ℕ)) (text buf ys : List ℕ) (filled ro
   length_held =
       omega (arith, ap length (front_read buf ys filled room count within some), length-append (take filled buf) (take count ys), length-take-le filled buf within, length-take-le count ys some)
 
-  -- its text is moved away
+  -- the text at their front is moved to the builder
   pub read_on : (text_new rest : List ℕ) → encode_utf8_all text_new ≡ encode_utf8_all text ++ text_front (take (filled + count) (put_mid filled room buf ys))
       → rest ≡ text_rest (take (filled + count) (put_mid filled room buf ys)) → byte_len text_new < 2 ^ 63 → HasRead start new text_new rest
   read_on text_new rest e f fits =
@@ -150,14 +150,14 @@ module _ (start mid new : Option (List ℕ)) (text buf ys : List ℕ) (filled ro
   pub bounded : filled + count ≤ 1968 → length (encode_utf8_all text ++ take (filled + count) (put_mid filled room buf ys)) < 2 ^ 63 + 1968
   bounded b = omega (arith, length-append (encode_utf8_all text) (take (filled + count) (put_mid filled room buf ys)), length_held, h.fits, b)
 
-  -- what is left to be held is less by what was moved
+  -- the number of bytes held after a move
   pub length_on : (text_new rest : List ℕ) → encode_utf8_all text_new ≡ encode_utf8_all text ++ text_front (take (filled + count) (put_mid filled room buf ys))
       → rest ≡ text_rest (take (filled + count) (put_mid filled room buf ys)) → byte_len text_new + length rest ≡ byte_len text + (filled + count)
   length_on text_new rest e f =
       let t : List ℕ = take (filled + count) (put_mid filled room buf ys) in
       omega (arith, ap length e, ap length f, length-append (encode_utf8_all text) (text_front t), ap length (take-append-drop (utf8_valid_len t) t), length-append (text_front t) (text_rest t), length_held)
 
--- a refusal that is passed on as the text's
+-- an error that is passed on as the text's
 pub refusal_answers : {R : Type 0} (text_of : R → List ℕ) (bytes : List ℕ) (left : Option (List ℕ)) (failed : Bool) (r : Result R ReadError) (e : Error)
     → IsErrAnd r (λ y. y ≡ Rope e) → Answers text_of bytes left failed (Err (Rope e)) → Answers text_of bytes left failed r
 refusal_answers text_of bytes left failed (Ok x) e is answers = absurd is

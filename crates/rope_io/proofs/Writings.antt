@@ -1,4 +1,4 @@
--- A writing under way.
+-- A write in progress.
 use Rattle.std.proofs.Common.{◌≡◌, ◌<◌, ℕ, Bool, false, List, [], ◌++◌, arith, Ok, sym, ap, subst, ◌∙◌, append_assoc, Option, None, Some}
 use Rattle.std.specs.Io.KnownBytes.{Appends}
 use Rattle.std.specs.List.{concat}
@@ -16,7 +16,7 @@ pub record NoneFailed (marked : Bool) (failure : Option Failure) (start now : �
   pub none : failure ≡ None
   pub same : now ≡ start
 
--- the bytes but the rest have been appended
+-- all bytes except the rest have been appended
 pub record IsWriting (start now : Option (List ℕ)) (bytes rest : List ℕ) : Type 0 where
   pub done : List ℕ
   pub whole : bytes ≡ done ++ rest
@@ -39,7 +39,7 @@ Appends-more (Some vs) (Some us) (Some ws) xs ys p q = q ∙ ap (λ zs. zs ++ ys
 pub front_all : (old new : Option (List ℕ)) (bs : List ℕ) → Appends old new bs → AppendsFront old new bs
 front_all old new bs p = record { front = bs; back = []; whole = sym (append-nil bs); appended = p }
 
--- a writing of what comes next that stopped on its way
+-- a write of the next bytes that stopped before their end
 pub front_more : (start mid end : Option (List ℕ)) (bytes done next rest : List ℕ) → bytes ≡ done ++ (next ++ rest)
     → Appends start mid done → AppendsFront mid end next → AppendsFront start end bytes
 front_more start mid end bytes done next rest e p q = record {
@@ -49,20 +49,20 @@ front_more start mid end bytes done next rest e p q = record {
   appended = Appends-more start mid end done q.front p q.appended;
 }
 
--- the chunks but those ahead have been written
+-- all chunks except those ahead have been written
 pub record IsWritten (start now : Option (List ℕ)) (text : List ℕ) (ahead : List (List ℕ)) : Type 0 where
   pub before : List ℕ
   pub whole : text ≡ before ++ concat ahead
   pub appended : Appends start now (encode_utf8_all before)
 
--- one more chunk was written whole
+-- one more chunk was written completely
 pub chunk_written : (start mid end : Option (List ℕ)) (before s : List ℕ) → IsUtf8 s → Appends start mid (encode_utf8_all before) → Appends mid end s
     → Appends start end (encode_utf8_all (before ++ chars s))
 chunk_written start mid end before s u p q =
     subst (Appends start end) (sym (encodes-append before (chars s) ∙ ap (λ y. encode_utf8_all before ++ y) (encodes-chars s u)))
     (Appends-more start mid end (encode_utf8_all before) s p q)
 
--- or in part
+-- or only a prefix of it
 pub chunk_begun : (start mid end : Option (List ℕ)) (text before s : List ℕ) (ahead : List (List ℕ)) → IsUtf8 s → text ≡ before ++ (chars s ++ concat ahead)
     → Appends start mid (encode_utf8_all before) → AppendsFront mid end s → AppendsFront start end (encode_utf8_all text)
 chunk_begun start mid end text before s ahead u e p q =
@@ -71,7 +71,7 @@ chunk_begun start mid end text before s ahead u e p q =
     ∙ ap (λ y. encode_utf8_all before ++ y) (encodes-append (chars s) (concat ahead) ∙ ap (λ y. y ++ encode_utf8_all (concat ahead)) (encodes-chars s u)))
     p q
 
--- all of it
+-- all text was written
 pub all_written : (start now : Option (List ℕ)) (text before : List ℕ) (ahead : List (List ℕ)) → ahead ≡ [] → text ≡ before ++ concat ahead
     → Appends start now (encode_utf8_all before) → Appends start now (encode_utf8_all text)
 all_written start now text before ahead none e p =

@@ -1,4 +1,4 @@
--- The texts of errors of reading.
+-- The texts of read errors.
 use Rattle.std.specs.Prelude.{ℕ, List, codes}
 use Rattle.rope_text.specs.ErrorText.{error_text}
 use Rattle.rope_io.specs.declared.error.ReadError.{ReadError}

@@ -1,4 +1,4 @@
--- What a clause reads of a watched device.
+-- The fields of a watched device that clauses read.
 use Rattle.std.specs.Prelude.{ℕ, Bool, false, Option, None}
 use Rattle.rope_io.specs.declared.device.Failure.{Failure}
 use Rattle.rope_io.specs.declared.device.Watched.{Watched}
@@ -11,14 +11,14 @@ watched_inner w = w.inner
 abbrev pub watched_failed : {T : Type 0} → Watched T → Bool
 watched_failed w = w.failed
 
--- how the last call failed
+-- the failure of the last call
 abbrev pub watched_failure : {T : Type 0} → Watched T → Option Failure
 watched_failure w = w.failure
 
--- how many calls have failed
+-- the number of failed calls
 abbrev pub watched_failures : {T : Type 0} → Watched T → ℕ
 watched_failures w = w.failures
 
--- the same device, with no mark
+-- the device without its mark
 abbrev pub unmarked : {T : Type 0} → Watched T → Watched T
 unmarked w = record { inner = w.inner; failed = false; failure = None; failures = w.failures }

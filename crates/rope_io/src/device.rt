@@ -1,4 +1,4 @@
-//! Readers and writers that mark their failures.
+//! Readers and writers that record their failures. No call takes memory of its own.
 ghost use Rattle.std.specs.Prelude.{◌≡◌, ℕ, ◌<◌, ◌⊎◌, Bool, true, false, List, length, OnOk, OnErr, IfOk, Option, None, Some, refl};
 ghost use Rattle.std.specs.Io.{ReadsAtMost, WritesAtMost};
 ghost use Rattle.std.specs.Io.KnownBytes.{ReadConsumes, WriteAppends};
@@ -8,37 +8,37 @@ ghost use Rattle.rope_io.specs.Watching.{watched_inner, watched_failed, watched_
 
 use std::io::{self, Read, Write};
 
-/// How a read or a write failed.
+/// The failure of a read or a write.
 #[derive(Clone, Copy, Debug)]
 pub enum Failure {
-    /// It returned this error.
+    /// The call returned this error.
     Returned(io::Error),
-    /// It was given bytes to write, and took none of them.
+    /// The call was given bytes to write, and took none.
     TookNone,
 }
 
-/// A device that can be asked whether it has failed: it carries a mark. Clauses also know how its
-/// last call failed, and how many have.
+/// A device with a mark that records whether it has failed. Clauses also know the failure of its
+/// last call, and the number of failed calls.
 pub trait Mark {
     /// Whether the mark is set.
     ghost marked: { Self → Bool };
 
-    /// How the last read or write failed: with the error that it returned, or by taking none of
-    /// the bytes that it was given. `None` where it did not fail, and where nothing was read or
-    /// written since the mark was last cleared.
+    /// The failure of the last read or write: the error that it returned, or that it took none of
+    /// its bytes. `None` if it did not fail, or if nothing was read or written since the mark was
+    /// last cleared.
     ghost failure: { Self → Option Failure };
 
-    /// How many reads and writes have failed. It is never cleared, and stops at `u64::MAX`.
+    /// The number of failed reads and writes. It is never cleared, and stops at `u64::MAX`.
     ghost failures: { Self → ℕ };
 
-    /// The same device without the mark, of which no failure is known but for the count.
+    /// The device without its mark and without the last failure; the number of failures stays.
     ghost cleared: { Self → Self };
 
-    /// Takes the mark away, and reads and writes nothing.
+    /// Clears the mark, without a read or a write.
     fn clear(&mut self)
         ensures { self.new ≡ cleared self.old };
 
-    /// Whether the mark is set.
+    /// Returns whether the mark is set.
     fn failed(&self) -> bool
         ensures { result ≡ marked self.now };
 
@@ -49,13 +49,12 @@ pub trait Mark {
     ghost cleared_failures: { (s : Self) → failures (cleared s) ≡ failures s };
 }
 
-/// A reader that marks its failures.
+/// A reader that records its failures.
 pub trait Source: Mark {
-    /// The bytes that it will give from here on, where they are known.
+    /// The bytes that it will give from here on, if known.
     ghost remaining: { Self → Option (List ℕ) };
 
-    /// Reads and answers as `Read::read` does. It sets the mark exactly where it answers an error,
-    /// and else leaves it.
+    /// Reads as `Read::read` does. Sets the mark exactly if it returns an error, else leaves it.
     fn take(&mut self, buf: &mut [u8]) -> io::Result<usize>
         ensures bound { ReadsAtMost result buf.new }
         ensures bytes { ReadConsumes (remaining self.old) (remaining self.new) result buf.new }
@@ -68,13 +67,13 @@ pub trait Source: Mark {
     ghost cleared_remaining: { (s : Self) → remaining (Self.cleared s) ≡ remaining s };
 }
 
-/// A writer that marks its failures.
+/// A writer that records its failures.
 pub trait Sink: Mark {
-    /// The bytes that it holds, where they are known.
+    /// The bytes that it holds, if known.
     ghost contents: { Self → Option (List ℕ) };
 
-    /// Writes and answers as `Write::write` does. It sets the mark exactly where it answers an
-    /// error, or is given bytes and takes none; else it leaves it.
+    /// Writes as `Write::write` does. Sets the mark exactly if it returns an error, or takes none
+    /// of the given bytes; else leaves it.
     fn give(&mut self, buf: &[u8]) -> io::Result<usize>
         ensures bound { WritesAtMost result buf.now }
         ensures bytes { WriteAppends (contents self.old) (contents self.new) result buf.now }
@@ -89,8 +88,8 @@ pub trait Sink: Mark {
     ghost cleared_contents: { (s : Self) → contents (Self.cleared s) ≡ contents s };
 }
 
-/// A reader or a writer, whether it has failed, and what clauses know of its failures. It passes
-/// reads and writes on.
+/// A reader or a writer, whether it has failed, and its failures for clauses. It passes reads and
+/// writes on.
 #[derive(Drop)]
 pub struct Watched<T> {
     inner: T,
@@ -100,7 +99,7 @@ pub struct Watched<T> {
 }
 
 impl<T> Watched<T> {
-    /// Watches a device, without the mark. It takes no memory.
+    /// Returns a device without the mark.
     pub fn new(inner: T) -> Watched<T>
         ensures inner { watched_inner result ≡ inner }
         ensures failed { watched_failed result ≡ false }
@@ -115,14 +114,14 @@ impl<T> Watched<T> {
         }
     }
 
-    /// The device.
+    /// Returns the device.
     pub fn into_inner(self) -> T
         ensures { result ≡ watched_inner self }
     {
         self.inner
     }
 
-    // Marks this failure.
+    // Records this failure.
     fn fail(&mut self, failure: Failure)
         ensures inner { watched_inner self.new ≡ watched_inner self.old }
         ensures failed { watched_failed self.new ≡ true }

@@ -1,4 +1,4 @@
-//! Why no rope was read: the device failed, or its bytes are no text, or a rope refused them.
+//! The reasons why no rope was read: the device failed, its bytes are no text, or the rope failed.
 ghost use Rattle.std.specs.Prelude.{◌≡◌, Some};
 ghost use Rattle.rope_io.specs.ReadErrorText.{read_error_text};
 ghost use Rattle.rope_text.specs.declared.error.Error.TheVariants.{OutOfMemory};
@@ -8,18 +8,18 @@ use rope_text::Error;
 use std::alloc::AllocError;
 use std::{fmt, io};
 
-/// Why no rope was read.
+/// The reason why no rope was read.
 #[derive(Drop)]
 pub enum ReadError {
     /// The reader failed, with this error.
     Read(io::Error),
     /// The bytes are not UTF-8.
     InvalidData,
-    /// The text would be too long, or memory was refused.
+    /// The text would be too long, or an allocation failed.
     Rope(Error),
 }
 
-/// What a call that reads a text returns.
+/// The result of a call that reads a text.
 pub type ReadResult<T> = Result<T, ReadError>;
 
 impl From<Error> for ReadError {

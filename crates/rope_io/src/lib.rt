@@ -1,12 +1,12 @@
-//! Ropes read from devices and written to them: readers and writers that mark their failures, and
+//! Ropes read from devices and written to them: readers and writers that record their failures, and
 //! the two loops.
 //!
 //! Modules, lowest first:
-//! - `device`: readers and writers that mark their failures
-//! - `error`: why no rope was read
-//! - `reading`: a tree of what a reader gives
-//! - `writing`: a text given to a writer
-//! - `laws`: what was written whole is what is read
+//! - `device`: readers and writers that record their failures
+//! - `error`: the reasons why no rope was read
+//! - `reading`: a tree of a reader's bytes
+//! - `writing`: a text written to a writer
+//! - `laws`: a text written completely is read back
 #![tactic(auto)]
 
 mod device;

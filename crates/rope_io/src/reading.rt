@@ -15,11 +15,11 @@ use rope_text::{BUFFER_BYTES, Error, LineBreaks, MAX_TEXT_BYTES, Result, utf8};
 use rope_tree::{Builder, Maker, Node};
 use std::alloc::Global;
 
-/// Puts a text behind those that were passed in. It takes memory, but none for an empty text.
+/// Appends a text to those passed in before. Takes no memory for an empty text.
 ///
 /// # Errors
 ///
-/// First `TooLong`, where all texts would have more than `isize::MAX` bytes; then `OutOfMemory`.
+/// First `TooLong`, if all texts would have more than `isize::MAX` bytes; then `OutOfMemory`.
 pub fn append(builder: &mut Builder, text: &str) -> Result<()>
     ensures ok { OnOk result ((size_error (byte_len builder.old.text + length text.now) ≡ None)
         × (builder.new.text ≡ builder.old.text ++ chars text.now)) }
@@ -37,8 +37,8 @@ pub fn append(builder: &mut Builder, text: &str) -> Result<()>
     Ok(builder.append(text)?)
 }
 
-// Moves the text at the front of the first `filled` bytes to the builder, and what follows it to
-// the front. Answers how many bytes follow it.
+// Moves the text at the front of the first `filled` bytes to the builder, and the rest to the
+// front. Returns the number of bytes of the rest.
 fn settle(builder: &mut Builder, buffer: &mut [u8], filled: usize) -> Result<usize>
     requires { filled ≤ length buffer.old }
     ensures bound { IfOk result (λ rest. rest ≤ filled) }
@@ -57,8 +57,7 @@ fn settle(builder: &mut Builder, buffer: &mut [u8], filled: usize) -> Result<usi
     Ok(filled - decoded)
 }
 
-// Reads to the end, and puts what is text behind what was read. An unfinished character is kept for
-// the next read.
+// Reads to the end, and appends the text. An unfinished character is kept for the next read.
 fn read_texts<S: Source>(source: &mut S, builder: &mut Builder) -> ReadResult<()>
     requires empty { builder.old.text ≡ [] }
     requires clear { S.marked source.old ≡ false }
@@ -90,16 +89,15 @@ fn read_texts<S: Source>(source: &mut S, builder: &mut Builder) -> ReadResult<()
     }
 }
 
-/// Reads a text to the end of the source, and answers its tree with this set of line breaks, which
-/// has at most one leaf for each 981 bytes and one for the rest. The mark is cleared first. It
-/// takes memory.
+/// Reads a text to the end of the source, and returns its tree with the given set of line breaks,
+/// which has at most one leaf for each 981 bytes and one for the rest. Clears the mark first.
 ///
 /// # Errors
 ///
-/// A failed read is answered at once as `Read`, an interrupted one too, and the source is not
-/// called again. Bytes that are not UTF-8 are answered as `InvalidData`, at the end of the source
-/// or once 1,968 bytes have been read from the first wrong one on. A text of more than `isize::MAX`
-/// bytes so far, and a refusal of memory, are answered as `Rope`.
+/// `Read`, at once after a failed read, also an interrupted one; the source is not called again.
+/// `InvalidData` if the bytes are not UTF-8, at the end of the source or once 1,968 bytes have been
+/// read from the first wrong one on. `Rope` if the text so far has more than `isize::MAX` bytes, or
+/// an allocation fails.
 pub fn read_tree<S: Source>(alloc: Global, source: &mut S, breaks: LineBreaks) -> ReadResult<Node>
     ensures answer { Reads (λ node. text node) (S.remaining source.old) (S.remaining source.new)
         (S.marked source.new) result }

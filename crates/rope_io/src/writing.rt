@@ -1,4 +1,4 @@
-//! Texts written whole, chunk by chunk.
+//! Texts written completely, chunk by chunk.
 ghost use Rattle.std.specs.Prelude.{◌≡◌, ◌↔◌, true, false, OnOk, OnErr, IsErr, None};
 ghost use Rattle.std.specs.Io.KnownBytes.{Appends};
 ghost use Rattle.std.specs.Str.{encode_utf8_all};
@@ -10,7 +10,7 @@ use crate::device::Sink;
 use rope_slice::RopeSlice;
 use std::io::{self, ErrorKind};
 
-// Writes all the bytes, in as many writes as it takes.
+// Writes all the bytes, in one or more writes.
 fn write_bytes<S: Sink>(sink: &mut S, bytes: &[u8]) -> io::Result<()>
     requires clear { S.marked sink.old ≡ false }
     requires none { S.failure sink.old ≡ None }
@@ -32,14 +32,13 @@ fn write_bytes<S: Sink>(sink: &mut S, bytes: &[u8]) -> io::Result<()>
     Ok(())
 }
 
-/// Writes the whole text, and flushes nothing. The mark is cleared first. It takes no memory of its
-/// own.
+/// Writes the whole text, without flushing. Clears the mark first. Takes no memory of its own.
 ///
 /// # Errors
 ///
-/// An error of the sink is answered at once, an interrupted write's too, and a write that takes
-/// none of the bytes that are left is an error of the kind `WriteZero`. Then a beginning of the
-/// text has been written, and the sink is not called again.
+/// The sink's error, at once, also an interrupted write's; an error of the kind `WriteZero` if a
+/// write takes none of its bytes. Then a prefix of the text has been written, and the sink is not
+/// called again.
 pub fn write_slice<S: Sink>(slice: &RopeSlice<'_>, sink: &mut S) -> io::Result<()>
     ensures ok { OnOk result
         (Appends (S.contents sink.old) (S.contents sink.new)
