@@ -28,7 +28,7 @@ scalars-concat [] a = refl
 scalars-concat (leaf ∷ leaves) a =
     scalars-append leaf (concat leaves) (All-head IsLeafText leaf leaves a).scalars (scalars-concat leaves (All-tail IsLeafText leaf leaves a))
 
--- what a rope keeps, by its tree
+-- the invariant of a rope, by its tree
 pub content_of : (t : Tree) → IsTree t → of_content.IsRope (content (view_of t))
 content_of t i = record {
   cut = record {
@@ -41,7 +41,7 @@ content_of t i = record {
   fits = i.fits;
 }
 
--- the chunks of a tree lie between those of two full children and those of 24
+-- the number of chunks of a tree is between those of two full children and those of 24
 least_chunks : (t : Tree) → IsTree t → 1 ≤ t.height → 2 * 12 ^ (t.height - 1) ≤ length t.leaves
 least_chunks t i high = omega (arith, i.least_leaves high, mul-le-mul_right (12 ^ (t.height - 1)) (i.at_least_two high))
 

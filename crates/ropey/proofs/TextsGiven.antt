@@ -111,7 +111,7 @@ module _ {S A : Type 0} (steps : S → Option A → S → Type 0) (bytes : A →
         subst (λ o. IsRefusal o e) error is,
       )
 
--- what a `?` passes on
+-- the error that a `?` passes on
 pub passed_on : {A : Type 0} (r : Result A Error) (e : Error) (P : Error → Type 0) → IsErrAnd r (λ y. y ≡ e) → P e → IfErr r P
 passed_on (Ok x) e P is p = tt
 passed_on (Err y) e P is p = subst P (sym is) p

@@ -1,4 +1,4 @@
--- What look-ups and edits that count leave in their counts.
+-- The counts that lookups and edits leave.
 use Rattle.std.specs.Prelude.{◌≡◌, ℕ, ◌+◌, ◌*◌, ◌/◌, ◌<◌, ◌≤◌}
 use Rattle.rope_text.specs.declared.steps.Steps.{Steps}
 
@@ -18,24 +18,26 @@ pub record StayedOut (steps : Steps) : Type 0 where
   pub nodes : steps.nodes ≡ 0
   pub compares : steps.compares ≡ 0
 
--- a look-up at an index of a text that ends at `end`: it goes down inside the text, and stays out at the end
+-- a lookup at an index of a text that ends at `end`: it descends inside the text, and stays out at
+-- the end
 pub record IsLookUpAt (idx end depth : ℕ) (steps : Steps) : Type 0 where
   pub bounds : IsLookUp depth steps
   pub inside : idx < end → WentDown depth steps
   pub at_end : idx ≡ end → StayedOut steps
 
--- the same of a line's number: the first line starts where the text does
+-- a lookup at a line's number: the first line starts where the text does
 pub record IsLineLookUp (line lines depth : ℕ) (steps : Steps) : Type 0 where
   pub bounds : IsLookUp depth steps
   pub inside : 0 < line → line < lines → WentDown depth steps
   pub at_start : line ≡ 0 → StayedOut steps
   pub at_end : line ≡ lines → StayedOut steps
 
--- the nodes that an edit makes at the most, in a rope of this depth; for an append, the greater depth of the two
+-- the maximum number of nodes that an edit makes, in a rope of this depth; for an append, the
+-- greater depth of the two
 abbrev pub insert_nodes : ℕ → ℕ
 insert_nodes depth = 3 * depth + 5
 
--- of a text of any length: two for each 981 of its bytes, and those of the way down
+-- for a text of any length: two for each 981 of its bytes, and those of the path
 abbrev pub long_insert_nodes : ℕ → ℕ → ℕ
 long_insert_nodes bytes depth = 2 * (bytes / 981) + 298 * depth + 603
 
@@ -52,14 +54,15 @@ append_nodes depth = 16 * depth + 11
 abbrev pub no_steps : Steps
 no_steps = record { nodes = 0; compares = 0; made = 0 }
 
--- the counts of an edit of a rope of this depth, refused or not: it made at most so many nodes, and its searches entered
--- at most 7 nodes a level and 5 more, and compared at most 37 totals a level
+-- the counts of an edit of a rope of this depth, also when it fails: it made at most `most` nodes,
+-- and its searches entered at most 7 nodes a level and 5 more, and compared at most 37 totals a
+-- level
 pub record IsEditCount (most depth : ℕ) (steps : Steps) : Type 0 where
   pub made : steps.made ≤ most
   pub nodes : steps.nodes ≤ 7 * depth + 5
   pub compares : steps.compares ≤ 37 * depth
 
--- the same of an insert of a text of any length, whose new tree has a depth of its own
+-- the counts of an insert of a text of any length, whose new tree has a depth of its own
 pub record IsLongInsertCount (bytes depth : ℕ) (steps : Steps) : Type 0 where
   pub made : steps.made ≤ long_insert_nodes bytes depth
   pub nodes : steps.nodes ≤ 37 * depth + 149

@@ -1,4 +1,4 @@
--- The texts that an iterator gives, joined, and the text of a reader's bytes.
+-- The texts that an iterator yields, joined, and the text of a reader's bytes.
 use Rattle.std.specs.Prelude.{◌≡◌, ℕ, List, ◌++◌, map, Option, None, IfSome}
 use Rattle.std.specs.Option.{option_to_list}
 use Rattle.std.specs.List.{concat}
@@ -8,7 +8,7 @@ use Rattle.rope_text.specs.declared.error.Error.{Error}
 use Rattle.rope_text.specs.Text.{byte_len}
 use Rattle.rope_text.specs.Edit.{size_error, IsRefusal}
 
--- the bytes, where they are known, are the text in UTF-8, all of it
+-- the bytes, if known, are exactly the text in UTF-8
 abbrev pub AreUtf8Of : Option (List ℕ) → List ℕ → Type 0
 AreUtf8Of bytes text = IfSome bytes (λ known. encode_utf8_all text ≡ known)
 
@@ -22,8 +22,8 @@ module _ {S A : Type 0} (steps : S → Option A → S → Type 0) (bytes : A →
   YieldsAll from to text = (texts : List A)
       × YieldsThen steps from texts None to × (text ≡ joined_texts bytes texts)
 
-  -- the iterator yields texts that fit in a rope, and then one more text or its end: the error
-  -- refuses that one, for the size of all of them or for memory
+  -- the iterator yields texts that fit in a rope, and then one more text or its end: the error is
+  -- for that one, of the size of all of them or of memory
   abbrev pub StopsRefused : S → S → Error → Type 0
   StopsRefused from to error = (texts : List A) × (last : Option A)
       × YieldsThen steps from texts last to
@@ -37,7 +37,7 @@ module _ {U S A : Type 0} (becomes : U → S → Type 0) (steps : S → Option A
   IsAllOf source text = (from : S) × (to : S)
       × becomes source from × YieldsAll steps bytes from to text
 
-  -- the error refuses a text that the source yields, or the end, after texts that fit in a rope
+  -- the error is for a text that the source yields, or the end, after texts that fit in a rope
   abbrev pub IsRefusedOf : U → Error → Type 0
   IsRefusedOf source error = (from : S) × (to : S)
       × becomes source from × StopsRefused steps bytes from to error

@@ -1,4 +1,4 @@
--- What a rope shows, and what each rope keeps.
+-- The content and the invariant of a rope.
 use Rattle.std.specs.Prelude.{◌≡◌, ℕ, ◌-◌, ◌*◌, ◌^◌, ◌≤◌, List, length}
 use Rattle.rope_text.specs.declared.TheConstants.{MAX_CHILDREN, MAX_HEIGHT, MIN_CHILDREN}
 use Rattle.rope_text.specs.declared.line_breaks.LineBreaks.{LineBreaks}
@@ -6,14 +6,14 @@ use Rattle.rope_text.specs.Content.{Content}
 use Rattle.rope_text.specs.Content as of_content
 use Rattle.rope_tree.specs.Tree.{Tree, text}
 
--- a text, the chunks it is cut into, its set of line breaks, and how many levels its tree has above the chunks
+-- a text, its chunks, its set of line breaks, and the number of levels of its tree above the chunks
 pub record RopeView : Type 0 where
   pub text : List ℕ
   pub chunks : List (List ℕ)
   pub breaks : LineBreaks
   pub depth : ℕ
 
--- its text, as a function
+-- the text of a rope, as a function
 abbrev pub text_of : RopeView → List ℕ
 text_of r = r.text
 
@@ -21,11 +21,13 @@ text_of r = r.text
 abbrev pub content : RopeView → Content
 content r = record { text = r.text; chunks = r.chunks; breaks = r.breaks }
 
--- what a tree shows as a rope: its text, its leaves as chunks, its set of line breaks and its height
+-- the content of a tree as a rope: its text, its leaves as chunks, its set of line breaks and its
+-- height
 abbrev pub view_of : Tree → RopeView
 view_of t = record { text = text t; chunks = t.leaves; breaks = t.breaks; depth = t.height }
 
--- what every rope keeps: its chunks are a rope cutting of its text, and their number bounds its depth on both sides
+-- the invariant of every rope: its chunks are a rope cutting of its text, and their number bounds
+-- its depth on both sides
 pub record IsRope (r : RopeView) : Type 0 where
   pub content : of_content.IsRope (content r)
   pub low : r.depth ≤ MAX_HEIGHT
@@ -37,6 +39,6 @@ pub record IsRope (r : RopeView) : Type 0 where
 abbrev pub HasFewChunks : RopeView → Type 0
 HasFewChunks r = of_content.HasFewChunks (content r)
 
--- a rope as it is built: with this set of line breaks, in few chunks
+-- a new rope: with the given set of line breaks, in few chunks
 abbrev pub IsBuilt : LineBreaks → RopeView → Type 0
 IsBuilt breaks r = (r.breaks ≡ breaks) × IsRope r × HasFewChunks r

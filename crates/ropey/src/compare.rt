@@ -1,6 +1,6 @@
-//! Ropes compared and hashed by their texts, however they are cut. No call takes memory.
+//! Ropes compared and hashed by their texts, independent of their chunks. No call takes memory.
 //!
-//! A rope of `"ab"` made at once equals one made of `"a"` and then `"b"`, and comes before one of
+//! A rope of `"ab"` made at once equals one made of `"a"` and then `"b"`, and is less than one of
 //! `"b"`.
 ghost use Rattle.std.proofs.Common.{rules};
 ghost use Rattle.std.specs.Cmp.Rules.{comparing};
@@ -16,7 +16,9 @@ impl Rope {
     ghost use Rattle.std.specs.Prelude.{◌≡◌, IsTrue, ◌↔◌};
     ghost use Rattle.std.specs.Str.{chars};
 
-    /// Whether the text is this one. Reads both texts up to where they differ; takes no memory.
+    /// Returns whether the text equals `other`. Reads both texts up to the first difference.
+    ///
+    /// With the text `"ab"`, `eq_str("ab")` is true.
     pub fn eq_str(&self, other: &str) -> bool
         ensures { IsTrue result ↔ (self.now.text ≡ chars other.now) }
     {
@@ -24,8 +26,8 @@ impl Rope {
     }
 }
 
-/// Ropes are equal exactly if their texts are, however they are cut and whatever their sets of line
-/// breaks. Reads both texts up to where they differ.
+/// Ropes are equal exactly if their texts are, independent of their chunks and sets of line breaks.
+/// Reads both texts up to the first difference.
 impl PartialEq for Rope {
     ghost use Rattle.std.specs.Prelude.{◌==◌};
     ghost use lib.Pointwise.{pointwise};
@@ -44,8 +46,8 @@ impl Eq for Rope {
     ghost laws = { Prim.search (comparing, rules) };
 }
 
-/// The lexicographic order of the bytes of the texts, however they are cut. Reads both texts up to
-/// where they differ.
+/// The lexicographic order of the bytes of the texts, independent of their chunks. Reads both texts
+/// up to the first difference.
 impl Ord for Rope {
     ghost cmp = { on text_of text_cmp };
 
@@ -74,8 +76,8 @@ impl PartialOrd for Rope {
     }
 }
 
-/// A hasher is given the bytes of the text in blocks of 256, the last one shorter where need be,
-/// and then 0xff, however the rope is cut.
+/// Writes the bytes of the text in blocks of 256, the last one possibly shorter, and then 0xff,
+/// independent of the chunks.
 impl Hash for Rope {
     ghost use Rattle.std.specs.Cmp.Rules.{hashing};
     ghost use Rattle.ropey.specs.Compared.{writes_of};

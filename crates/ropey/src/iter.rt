@@ -1,3 +1,3 @@
-//! Cursors over ropes and slices, which step both ways.
+//! Cursors over ropes and slices, which step in both directions.
 
 pub use rope_slice::{Bytes, Chars, Chunks, Lines};

@@ -1,18 +1,19 @@
 //! Bytes, characters and chunks of a rope by their index, and conversions between indices of bytes,
-//! characters, UTF-16 code units and lines, all counted from 0.
+//! characters, UTF-16 code units and lines. Each call costs one lookup and takes no memory.
 //!
 //! Of `"héllo"`, `byte(1)` is 0xC3 and `char(1)` is `é`. For the text `"é\r\nx"` with Unicode's
-//! line breaks, `byte_to_char(1)` is 0, since byte 1 lies inside the `é`; `char_to_byte(1)` is 2;
-//! `char_to_line(2)` is 0, since the place between CR and LF lies on the first line;
+//! line breaks, `byte_to_char(1)` is 0, since byte 1 is inside the `é`; `char_to_byte(1)` is 2;
+//! `char_to_line(2)` is 0, since the index between CR and LF is on the first line;
 //! `line_to_char(1)` is 3.
 //!
-//! With a chunk come the numbers of bytes, characters and line breaks before it. A rope of
-//! `"one\ntwo"` has one chunk, and `chunk_at_char(5)` is `("one\ntwo", 0, 0, 0)`. A caller that
-//! reads a text around a place takes the chunk there, and goes on with `chunks_at_char`.
+//! The calls for chunks also return the numbers of bytes, characters and line breaks before the
+//! chunk. A rope of `"one\ntwo"` has one chunk, and `chunk_at_char(5)` is `("one\ntwo", 0, 0, 0)`.
+//! A caller that reads the text around an index takes the chunk there, and continues with
+//! `chunks_at_char`.
 //!
-//! The calls that count their steps stand last: the nodes that they enter, and the running totals
-//! that they compare an index with. Each sets the counts to 0 first. In a rope of one chunk,
-//! `byte_counted(0, &mut steps)` leaves `steps.nodes` at 1 and `steps.compares` at 0.
+//! The last calls count their steps: the nodes entered, and the running totals compared with an
+//! index. Each sets the counts to 0 first. In a rope of one chunk, `byte_counted(0, &mut steps)`
+//! leaves `steps.nodes` at 1 and `steps.compares` at 0.
 ghost use Rattle.std.specs.Prelude.{◌≡◌, ◌<◌, ◌≤◌, length, slice_get, Some, ℕ, IfOk};
 ghost use Rattle.std.specs.Str.{encode_utf8_all};
 ghost use Rattle.rope_text.specs.Text.{byte_len, utf16_len};
@@ -34,9 +35,9 @@ use rope_tree::Unit::{Byte, Char, CodeUnit, LineBreak};
 use rope_tree::{Node, byte_at, char_at, convert};
 
 impl Rope {
-    /// The byte `byte_idx`, counted from 0.
+    /// Returns the byte `byte_idx`.
     ///
-    /// The index is below `len_bytes()`. Costs one look-up; takes no memory.
+    /// The index is below `len_bytes()`. With the text `"ab"`, `byte(1)` is `b'b'`.
     pub fn byte(&self, byte_idx: usize) -> u8
         requires { byte_idx < byte_len self.now.text }
         ensures { slice_get (encode_utf8_all self.now.text) byte_idx ≡ Some result }
@@ -44,9 +45,9 @@ impl Rope {
         self.byte_counted(byte_idx, &mut Steps::new())
     }
 
-    /// The character `char_idx`, counted from 0.
+    /// Returns the character `char_idx`.
     ///
-    /// The index is below `len_chars()`. Costs one look-up; takes no memory.
+    /// The index is below `len_chars()`. With the text `"éa"`, `char(1)` is `'a'`.
     pub fn char(&self, char_idx: usize) -> char
         requires { char_idx < length self.now.text }
         ensures { slice_get self.now.text char_idx ≡ Some result }
@@ -54,11 +55,12 @@ impl Rope {
         self.char_counted(char_idx, &mut Steps::new())
     }
 
-    /// The chunk that holds the byte `byte_idx`, and at the end of the text the last chunk. With it
-    /// the numbers of bytes, of characters and of line breaks that end before the chunk; with no
-    /// chunk at all `("", 0, 0, 0)`.
+    /// Returns the chunk that contains the byte `byte_idx`, and at the end of the text the last
+    /// chunk. Also returns the numbers of bytes, characters and line breaks that end before the
+    /// chunk; for an empty rope `("", 0, 0, 0)`.
     ///
-    /// The index is at most `len_bytes()`. Costs one look-up; takes no memory.
+    /// The index is at most `len_bytes()`. With the text `"ab"`, `chunk_at_byte(1)` is
+    /// `("ab", 0, 0, 0)`.
     pub fn chunk_at_byte(&self, byte_idx: usize) -> ChunkAt<'_>
         requires { byte_idx ≤ byte_len self.now.text }
         ensures { ShowsChunk (content self.now)
@@ -67,11 +69,12 @@ impl Rope {
         self.whole().chunk_at_byte(byte_idx)
     }
 
-    /// The chunk that holds the character `char_idx`, and at the end of the text the last chunk.
-    /// With it the numbers of bytes, of characters and of line breaks that end before the chunk;
-    /// with no chunk at all `("", 0, 0, 0)`.
+    /// Returns the chunk that contains the character `char_idx`, and at the end of the text the
+    /// last chunk. Also returns the numbers of bytes, characters and line breaks that end before
+    /// the chunk; for an empty rope `("", 0, 0, 0)`.
     ///
-    /// The index is at most `len_chars()`. Costs one look-up; takes no memory.
+    /// The index is at most `len_chars()`. With the text `"éb"`, `chunk_at_char(1)` is
+    /// `("éb", 0, 0, 0)`.
     pub fn chunk_at_char(&self, char_idx: usize) -> ChunkAt<'_>
         requires { char_idx ≤ length self.now.text }
         ensures { ShowsChunk (content self.now)
@@ -80,11 +83,12 @@ impl Rope {
         self.whole().chunk_at_char(char_idx)
     }
 
-    /// The first chunk by whose end `line_break_idx` line breaks have ended, or else the last
-    /// chunk. With it the numbers of bytes, of characters and of line breaks that end before the
-    /// chunk; with no chunk at all `("", 0, 0, 0)`.
+    /// Returns the first chunk that ends after `line_break_idx` line breaks, or else the last
+    /// chunk. Also returns the numbers of bytes, characters and line breaks that end before the
+    /// chunk; for an empty rope `("", 0, 0, 0)`.
     ///
-    /// The index is at most `len_lines()`. Costs one look-up; takes no memory.
+    /// The index is at most `len_lines()`. With the text `"a\n"`, `chunk_at_line_break(1)` is
+    /// `("a\n", 0, 0, 0)`.
     pub fn chunk_at_line_break(&self, line_break_idx: usize) -> ChunkAt<'_>
         requires { line_break_idx ≤ line_count self.now.breaks self.now.text }
         ensures { ShowsChunk (content self.now)
@@ -93,8 +97,7 @@ impl Rope {
         self.whole().chunk_at_line_break(line_break_idx)
     }
 
-    /// The byte `byte_idx`, counted from 0, or `None` exactly where the index is `len_bytes()` or
-    /// past it. Costs one look-up; takes no memory.
+    /// Returns the byte `byte_idx`, or `None` exactly if the index is `len_bytes()` or more.
     pub fn get_byte(&self, byte_idx: usize) -> Option<u8>
         ensures { result ≡ slice_get (encode_utf8_all self.now.text) byte_idx }
     {
@@ -104,8 +107,7 @@ impl Rope {
         None
     }
 
-    /// The character `char_idx`, counted from 0, or `None` exactly where the index is `len_chars()`
-    /// or past it. Costs one look-up; takes no memory.
+    /// Returns the character `char_idx`, or `None` exactly if the index is `len_chars()` or more.
     pub fn get_char(&self, char_idx: usize) -> Option<char>
         ensures { result ≡ slice_get self.now.text char_idx }
     {
@@ -115,8 +117,8 @@ impl Rope {
         None
     }
 
-    /// As `chunk_at_byte`, or `None` exactly where the index is past `len_bytes()`. Costs one
-    /// look-up; takes no memory.
+    /// Returns a chunk as `chunk_at_byte` does, or `None` exactly if the index is past
+    /// `len_bytes()`.
     pub fn get_chunk_at_byte(&self, byte_idx: usize) -> Option<ChunkAt<'_>>
         ensures { GivesWithin byte_idx (byte_len self.now.text) result
             (ShowsChunk (content self.now) (chunk_index_at_byte self.now.chunks byte_idx)) }
@@ -124,8 +126,8 @@ impl Rope {
         self.whole().try_chunk_at_byte(byte_idx).ok()
     }
 
-    /// As `chunk_at_char`, or `None` exactly where the index is past `len_chars()`. Costs one
-    /// look-up; takes no memory.
+    /// Returns a chunk as `chunk_at_char` does, or `None` exactly if the index is past
+    /// `len_chars()`.
     pub fn get_chunk_at_char(&self, char_idx: usize) -> Option<ChunkAt<'_>>
         ensures { GivesWithin char_idx (length self.now.text) result
             (ShowsChunk (content self.now) (chunk_index_at_char self.now.chunks char_idx)) }
@@ -133,8 +135,8 @@ impl Rope {
         self.whole().get_chunk_at_char(char_idx)
     }
 
-    /// As `chunk_at_line_break`, or `None` exactly where the index is past `len_lines()`. Costs one
-    /// look-up; takes no memory.
+    /// Returns a chunk as `chunk_at_line_break` does, or `None` exactly if the index is past
+    /// `len_lines()`.
     pub fn get_chunk_at_line_break(&self, line_break_idx: usize) -> Option<ChunkAt<'_>>
         ensures { GivesWithin line_break_idx (line_count self.now.breaks self.now.text) result
             (ShowsChunk (content self.now)
@@ -143,10 +145,10 @@ impl Rope {
         self.whole().get_chunk_at_line_break(line_break_idx)
     }
 
-    /// The character, counted from 0, that holds the byte `byte_idx`, also where the byte is inside
+    /// Returns the index of the character that contains the byte `byte_idx`, which may be inside
     /// the character; at the end of the text, the number of characters.
     ///
-    /// The index is at most `len_bytes()`. Costs one look-up; takes no memory.
+    /// The index is at most `len_bytes()`. With the text `"éa"`, `byte_to_char(1)` is 0.
     pub fn byte_to_char(&self, byte_idx: usize) -> usize
         requires { byte_idx ≤ byte_len self.now.text }
         ensures value { result ≡ byte_to_char self.now.text byte_idx }
@@ -155,12 +157,12 @@ impl Rope {
         self.byte_to_char_counted(byte_idx, &mut Steps::new())
     }
 
-    /// As `byte_to_char`, for any index. Costs one look-up; takes no memory.
+    /// Converts as `byte_to_char` does, for any index.
     ///
     /// # Errors
     ///
-    /// `ByteIndexOutOfBounds`, with the index and the number of bytes, exactly where the index is
-    /// past `len_bytes()`.
+    /// `ByteIndexOutOfBounds`, with the index and the number of bytes, exactly if the index is past
+    /// `len_bytes()`.
     pub fn try_byte_to_char(&self, byte_idx: usize) -> Result<usize>
         ensures { result ≡ checked (byte_index_error byte_idx (byte_len self.now.text))
             (byte_to_char self.now.text byte_idx) }
@@ -168,11 +170,11 @@ impl Rope {
         Ok(self.byte_to_char(self.within_bytes(byte_idx)?))
     }
 
-    /// The line, counted from 0, on which the byte `byte_idx` lies: how many line breaks end at or
-    /// before it. A byte inside a break of several bytes, as between CR and LF, lies on the line
-    /// that the break ends.
+    /// Returns the line of the byte `byte_idx`: the number of line breaks that end at or before it.
+    /// A byte inside a break of several bytes, such as between CR and LF, is on the line that the
+    /// break ends.
     ///
-    /// The index is at most `len_bytes()`. Costs one look-up; takes no memory.
+    /// The index is at most `len_bytes()`. With the text `"é\na"`, `byte_to_line(3)` is 1.
     pub fn byte_to_line(&self, byte_idx: usize) -> usize
         requires { byte_idx ≤ byte_len self.now.text }
         ensures { result ≡ byte_to_line self.now.breaks self.now.text byte_idx }
@@ -180,12 +182,12 @@ impl Rope {
         self.byte_to_line_counted(byte_idx, &mut Steps::new())
     }
 
-    /// As `byte_to_line`, for any index. Costs one look-up; takes no memory.
+    /// Converts as `byte_to_line` does, for any index.
     ///
     /// # Errors
     ///
-    /// `ByteIndexOutOfBounds`, with the index and the number of bytes, exactly where the index is
-    /// past `len_bytes()`.
+    /// `ByteIndexOutOfBounds`, with the index and the number of bytes, exactly if the index is past
+    /// `len_bytes()`.
     pub fn try_byte_to_line(&self, byte_idx: usize) -> Result<usize>
         ensures { result ≡ checked (byte_index_error byte_idx (byte_len self.now.text))
             (byte_to_line self.now.breaks self.now.text byte_idx) }
@@ -193,10 +195,10 @@ impl Rope {
         Ok(self.byte_to_line(self.within_bytes(byte_idx)?))
     }
 
-    /// The byte, counted from 0, at which the character `char_idx` starts; at the end of the text,
+    /// Returns the byte offset at which the character `char_idx` begins; at the end of the text,
     /// the number of bytes.
     ///
-    /// The index is at most `len_chars()`. Costs one look-up; takes no memory.
+    /// The index is at most `len_chars()`. With the text `"éa"`, `char_to_byte(1)` is 2.
     pub fn char_to_byte(&self, char_idx: usize) -> usize
         requires { char_idx ≤ length self.now.text }
         ensures { result ≡ char_to_byte self.now.text char_idx }
@@ -204,12 +206,12 @@ impl Rope {
         self.char_to_byte_counted(char_idx, &mut Steps::new())
     }
 
-    /// As `char_to_byte`, for any index. Costs one look-up; takes no memory.
+    /// Converts as `char_to_byte` does, for any index.
     ///
     /// # Errors
     ///
-    /// `CharIndexOutOfBounds`, with the index and the number of characters, exactly where the index
-    /// is past `len_chars()`.
+    /// `CharIndexOutOfBounds`, with the index and the number of characters, exactly if the index is
+    /// past `len_chars()`.
     pub fn try_char_to_byte(&self, char_idx: usize) -> Result<usize>
         ensures { result ≡ checked (char_index_error char_idx (length self.now.text))
             (char_to_byte self.now.text char_idx) }
@@ -217,10 +219,10 @@ impl Rope {
         Ok(self.char_to_byte(self.within_chars(char_idx)?))
     }
 
-    /// The line, counted from 0, on which the character `char_idx` lies: how many line breaks end
-    /// at or before it. The place between CR and LF lies on the line that the pair ends.
+    /// Returns the line of the character `char_idx`: the number of line breaks that end at or
+    /// before it. An index between CR and LF is on the line that the pair ends.
     ///
-    /// The index is at most `len_chars()`. Costs one look-up; takes no memory.
+    /// The index is at most `len_chars()`. With the text `"é\na"`, `char_to_line(2)` is 1.
     pub fn char_to_line(&self, char_idx: usize) -> usize
         requires { char_idx ≤ length self.now.text }
         ensures value { result ≡ char_to_line self.now.breaks self.now.text char_idx }
@@ -229,12 +231,12 @@ impl Rope {
         self.char_to_line_counted(char_idx, &mut Steps::new())
     }
 
-    /// As `char_to_line`, for any index. Costs one look-up; takes no memory.
+    /// Converts as `char_to_line` does, for any index.
     ///
     /// # Errors
     ///
-    /// `CharIndexOutOfBounds`, with the index and the number of characters, exactly where the index
-    /// is past `len_chars()`.
+    /// `CharIndexOutOfBounds`, with the index and the number of characters, exactly if the index is
+    /// past `len_chars()`.
     pub fn try_char_to_line(&self, char_idx: usize) -> Result<usize>
         ensures { result ≡ checked (char_index_error char_idx (length self.now.text))
             (char_to_line self.now.breaks self.now.text char_idx) }
@@ -242,10 +244,10 @@ impl Rope {
         Ok(self.char_to_line(self.within_chars(char_idx)?))
     }
 
-    /// The UTF-16 code unit, counted from 0, at which the character `char_idx` starts; at the end
-    /// of the text, the number of code units.
+    /// Returns the index of the first UTF-16 code unit of the character `char_idx`; at the end of
+    /// the text, the number of code units.
     ///
-    /// The index is at most `len_chars()`. Costs one look-up; takes no memory.
+    /// The index is at most `len_chars()`. With the text `"😀a"`, `char_to_utf16_cu(1)` is 2.
     pub fn char_to_utf16_cu(&self, char_idx: usize) -> usize
         requires { char_idx ≤ length self.now.text }
         ensures { result ≡ char_to_utf16 self.now.text char_idx }
@@ -253,12 +255,12 @@ impl Rope {
         self.char_to_utf16_cu_counted(char_idx, &mut Steps::new())
     }
 
-    /// As `char_to_utf16_cu`, for any index. Costs one look-up; takes no memory.
+    /// Converts as `char_to_utf16_cu` does, for any index.
     ///
     /// # Errors
     ///
-    /// `CharIndexOutOfBounds`, with the index and the number of characters, exactly where the index
-    /// is past `len_chars()`.
+    /// `CharIndexOutOfBounds`, with the index and the number of characters, exactly if the index is
+    /// past `len_chars()`.
     pub fn try_char_to_utf16_cu(&self, char_idx: usize) -> Result<usize>
         ensures { result ≡ checked (char_index_error char_idx (length self.now.text))
             (char_to_utf16 self.now.text char_idx) }
@@ -266,11 +268,11 @@ impl Rope {
         Ok(self.char_to_utf16_cu(self.within_chars(char_idx)?))
     }
 
-    /// The character, counted from 0, that holds the UTF-16 code unit `utf16_cu_idx`, also where
-    /// that is the second half of a surrogate pair; at the end of the text, the number of
+    /// Returns the index of the character that contains the UTF-16 code unit `utf16_cu_idx`, which
+    /// may be the second half of a surrogate pair; at the end of the text, the number of
     /// characters.
     ///
-    /// The index is at most `len_utf16_cu()`. Costs one look-up; takes no memory.
+    /// The index is at most `len_utf16_cu()`. With the text `"😀a"`, `utf16_cu_to_char(1)` is 0.
     pub fn utf16_cu_to_char(&self, utf16_cu_idx: usize) -> usize
         requires { utf16_cu_idx ≤ utf16_len self.now.text }
         ensures { result ≡ utf16_to_char self.now.text utf16_cu_idx }
@@ -278,12 +280,12 @@ impl Rope {
         self.utf16_cu_to_char_counted(utf16_cu_idx, &mut Steps::new())
     }
 
-    /// As `utf16_cu_to_char`, for any index. Costs one look-up; takes no memory.
+    /// Converts as `utf16_cu_to_char` does, for any index.
     ///
     /// # Errors
     ///
-    /// `Utf16IndexOutOfBounds`, with the index and the number of code units, exactly where the
-    /// index is past `len_utf16_cu()`.
+    /// `Utf16IndexOutOfBounds`, with the index and the number of code units, exactly if the index
+    /// is past `len_utf16_cu()`.
     pub fn try_utf16_cu_to_char(&self, utf16_cu_idx: usize) -> Result<usize>
         ensures { result ≡ checked (utf16_index_error utf16_cu_idx (utf16_len self.now.text))
             (utf16_to_char self.now.text utf16_cu_idx) }
@@ -291,10 +293,10 @@ impl Rope {
         Ok(self.utf16_cu_to_char(self.within_code_units(utf16_cu_idx)?))
     }
 
-    /// The byte, counted from 0, at which the line `line_idx` starts; for `len_lines()`, the end of
+    /// Returns the byte offset at which the line `line_idx` starts; for `len_lines()`, the end of
     /// the text.
     ///
-    /// The index is at most `len_lines()`. Costs one look-up; takes no memory.
+    /// The index is at most `len_lines()`. With the text `"é\na"`, `line_to_byte(1)` is 3.
     pub fn line_to_byte(&self, line_idx: usize) -> usize
         requires { line_idx ≤ line_count self.now.breaks self.now.text }
         ensures { result ≡ line_to_byte self.now.breaks self.now.text line_idx }
@@ -302,12 +304,12 @@ impl Rope {
         self.line_to_byte_counted(line_idx, &mut Steps::new())
     }
 
-    /// As `line_to_byte`, for any index. Costs one look-up; takes no memory.
+    /// Converts as `line_to_byte` does, for any index.
     ///
     /// # Errors
     ///
-    /// `LineIndexOutOfBounds`, with the index and the number of lines, exactly where the index is
-    /// past `len_lines()`.
+    /// `LineIndexOutOfBounds`, with the index and the number of lines, exactly if the index is past
+    /// `len_lines()`.
     pub fn try_line_to_byte(&self, line_idx: usize) -> Result<usize>
         ensures { result ≡ checked
             (line_index_error line_idx (line_count self.now.breaks self.now.text))
@@ -316,10 +318,10 @@ impl Rope {
         Ok(self.line_to_byte(self.within_lines(line_idx)?))
     }
 
-    /// The character, counted from 0, at which the line `line_idx` starts; for `len_lines()`, the
-    /// end of the text.
+    /// Returns the index of the first character of the line `line_idx`; for `len_lines()`, the end
+    /// of the text.
     ///
-    /// The index is at most `len_lines()`. Costs one look-up; takes no memory.
+    /// The index is at most `len_lines()`. With the text `"é\na"`, `line_to_char(1)` is 2.
     pub fn line_to_char(&self, line_idx: usize) -> usize
         requires { line_idx ≤ line_count self.now.breaks self.now.text }
         ensures value { result ≡ line_to_char self.now.breaks self.now.text line_idx }
@@ -330,12 +332,12 @@ impl Rope {
         self.line_to_char_counted(line_idx, &mut Steps::new())
     }
 
-    /// As `line_to_char`, for any index. Costs one look-up; takes no memory.
+    /// Converts as `line_to_char` does, for any index.
     ///
     /// # Errors
     ///
-    /// `LineIndexOutOfBounds`, with the index and the number of lines, exactly where the index is
-    /// past `len_lines()`.
+    /// `LineIndexOutOfBounds`, with the index and the number of lines, exactly if the index is past
+    /// `len_lines()`.
     pub fn try_line_to_char(&self, line_idx: usize) -> Result<usize>
         ensures { result ≡ checked
             (line_index_error line_idx (line_count self.now.breaks self.now.text))
@@ -344,7 +346,7 @@ impl Rope {
         Ok(self.line_to_char(self.within_lines(line_idx)?))
     }
 
-    // The byte's index, or its refusal.
+    // Returns the byte index, or its error.
     fn within_bytes(&self, byte_idx: usize) -> Result<usize>
         ensures value { result
             ≡ checked (byte_index_error byte_idx (byte_len self.now.text)) byte_idx }
@@ -357,7 +359,7 @@ impl Rope {
         Ok(byte_idx)
     }
 
-    // The character's index, or its refusal.
+    // Returns the character index, or its error.
     pub(crate) fn within_chars(&self, char_idx: usize) -> Result<usize>
         ensures value { result
             ≡ checked (char_index_error char_idx (length self.now.text)) char_idx }
@@ -371,7 +373,7 @@ impl Rope {
         Ok(char_idx)
     }
 
-    // The code unit's index, or its refusal.
+    // Returns the code unit index, or its error.
     fn within_code_units(&self, utf16_cu_idx: usize) -> Result<usize>
         ensures value { result
             ≡ checked (utf16_index_error utf16_cu_idx (utf16_len self.now.text)) utf16_cu_idx }
@@ -384,7 +386,7 @@ impl Rope {
         Ok(utf16_cu_idx)
     }
 
-    // The line's index, or its refusal.
+    // Returns the line index, or its error.
     fn within_lines(&self, line_idx: usize) -> Result<usize>
         ensures value { result ≡ checked
             (line_index_error line_idx (line_count self.now.breaks self.now.text)) line_idx }
@@ -397,7 +399,7 @@ impl Rope {
         Ok(line_idx)
     }
 
-    // The root of the tree, where the counts begin with 0.
+    // Sets the counts to 0 and returns the root of the tree.
     fn begin(&self, steps: &mut Steps) -> &Node
         ensures text { text result.now ≡ self.now.text }
         ensures breaks { result.now.breaks ≡ self.now.breaks }
@@ -409,9 +411,9 @@ impl Rope {
         &self.root
     }
 
-    /// As `byte_to_char`, under the same condition, and sets `steps` to what it did: at most one
-    /// node a level entered, at most five totals compared in each inner node on the way, none made.
-    /// Takes no memory.
+    /// Converts as `byte_to_char` does, under the same precondition, and sets `steps`: at most one
+    /// node a level entered, at most five totals compared in each inner node on the path, none
+    /// made.
     pub fn byte_to_char_counted(&self, byte_idx: usize, steps: &mut Steps) -> usize
         requires { byte_idx ≤ byte_len self.now.text }
         ensures value { result ≡ byte_to_char self.now.text byte_idx }
@@ -420,9 +422,9 @@ impl Rope {
         convert(self.begin(steps), Byte, Char, byte_idx, steps)
     }
 
-    /// As `byte_to_line`, under the same condition, and sets `steps` to what it did: at most one
-    /// node a level entered, at most five totals compared in each inner node on the way, none made.
-    /// Takes no memory.
+    /// Converts as `byte_to_line` does, under the same precondition, and sets `steps`: at most one
+    /// node a level entered, at most five totals compared in each inner node on the path, none
+    /// made.
     pub fn byte_to_line_counted(&self, byte_idx: usize, steps: &mut Steps) -> usize
         requires { byte_idx ≤ byte_len self.now.text }
         ensures value { result ≡ byte_to_line self.now.breaks self.now.text byte_idx }
@@ -431,9 +433,9 @@ impl Rope {
         convert(self.begin(steps), Byte, LineBreak, byte_idx, steps)
     }
 
-    /// As `char_to_byte`, under the same condition, and sets `steps` to what it did: at most one
-    /// node a level entered, at most five totals compared in each inner node on the way, none made.
-    /// Takes no memory.
+    /// Converts as `char_to_byte` does, under the same precondition, and sets `steps`: at most one
+    /// node a level entered, at most five totals compared in each inner node on the path, none
+    /// made.
     pub fn char_to_byte_counted(&self, char_idx: usize, steps: &mut Steps) -> usize
         requires { char_idx ≤ length self.now.text }
         ensures value { result ≡ char_to_byte self.now.text char_idx }
@@ -442,9 +444,9 @@ impl Rope {
         convert(self.begin(steps), Char, Byte, char_idx, steps)
     }
 
-    /// As `char_to_line`, under the same condition, and sets `steps` to what it did: at most one
-    /// node a level entered, at most five totals compared in each inner node on the way, none made.
-    /// Takes no memory.
+    /// Converts as `char_to_line` does, under the same precondition, and sets `steps`: at most one
+    /// node a level entered, at most five totals compared in each inner node on the path, none
+    /// made.
     pub fn char_to_line_counted(&self, char_idx: usize, steps: &mut Steps) -> usize
         requires { char_idx ≤ length self.now.text }
         ensures value { result ≡ char_to_line self.now.breaks self.now.text char_idx }
@@ -453,9 +455,9 @@ impl Rope {
         convert(self.begin(steps), Char, LineBreak, char_idx, steps)
     }
 
-    /// As `char_to_utf16_cu`, under the same condition, and sets `steps` to what it did: at most
-    /// one node a level entered, at most five totals compared in each inner node on the way, none
-    /// made. Takes no memory.
+    /// Converts as `char_to_utf16_cu` does, under the same precondition, and sets `steps`: at most
+    /// one node a level entered, at most five totals compared in each inner node on the path, none
+    /// made.
     pub fn char_to_utf16_cu_counted(&self, char_idx: usize, steps: &mut Steps) -> usize
         requires { char_idx ≤ length self.now.text }
         ensures value { result ≡ char_to_utf16 self.now.text char_idx }
@@ -464,9 +466,9 @@ impl Rope {
         convert(self.begin(steps), Char, CodeUnit, char_idx, steps)
     }
 
-    /// As `utf16_cu_to_char`, under the same condition, and sets `steps` to what it did: at most
-    /// one node a level entered, at most five totals compared in each inner node on the way, none
-    /// made. Takes no memory.
+    /// Converts as `utf16_cu_to_char` does, under the same precondition, and sets `steps`: at most
+    /// one node a level entered, at most five totals compared in each inner node on the path, none
+    /// made.
     pub fn utf16_cu_to_char_counted(&self, utf16_cu_idx: usize, steps: &mut Steps) -> usize
         requires { utf16_cu_idx ≤ utf16_len self.now.text }
         ensures value { result ≡ utf16_to_char self.now.text utf16_cu_idx }
@@ -475,9 +477,9 @@ impl Rope {
         convert(self.begin(steps), CodeUnit, Char, utf16_cu_idx, steps)
     }
 
-    /// As `line_to_byte`, under the same condition, and sets `steps` to what it did: at most one
-    /// node a level entered, at most five totals compared in each inner node on the way, none made.
-    /// Takes no memory.
+    /// Converts as `line_to_byte` does, under the same precondition, and sets `steps`: at most one
+    /// node a level entered, at most five totals compared in each inner node on the path, none
+    /// made.
     pub fn line_to_byte_counted(&self, line_idx: usize, steps: &mut Steps) -> usize
         requires { line_idx ≤ line_count self.now.breaks self.now.text }
         ensures value { result ≡ line_to_byte self.now.breaks self.now.text line_idx }
@@ -487,9 +489,9 @@ impl Rope {
         convert(self.begin(steps), LineBreak, Byte, line_idx, steps)
     }
 
-    /// As `line_to_char`, under the same condition, and sets `steps` to what it did: at most one
-    /// node a level entered, at most five totals compared in each inner node on the way, none made.
-    /// Takes no memory.
+    /// Converts as `line_to_char` does, under the same precondition, and sets `steps`: at most one
+    /// node a level entered, at most five totals compared in each inner node on the path, none
+    /// made.
     pub fn line_to_char_counted(&self, line_idx: usize, steps: &mut Steps) -> usize
         requires { line_idx ≤ line_count self.now.breaks self.now.text }
         ensures value { result ≡ line_to_char self.now.breaks self.now.text line_idx }
@@ -499,9 +501,8 @@ impl Rope {
         convert(self.begin(steps), LineBreak, Char, line_idx, steps)
     }
 
-    /// As `byte`, under the same condition, and sets `steps` to what it did: exactly one node a
-    /// level entered, one to five totals compared in each inner node on the way, none made. Takes
-    /// no memory.
+    /// Returns the byte as `byte` does, under the same precondition, and sets `steps`: exactly one
+    /// node a level entered, one to five totals compared in each inner node on the path, none made.
     pub fn byte_counted(&self, byte_idx: usize, steps: &mut Steps) -> u8
         requires { byte_idx < byte_len self.now.text }
         ensures value { slice_get (encode_utf8_all self.now.text) byte_idx ≡ Some result }
@@ -511,9 +512,9 @@ impl Rope {
         byte_at(self.begin(steps), byte_idx, steps)
     }
 
-    /// As `char`, under the same condition, and sets `steps` to what it did: exactly one node a
-    /// level entered, one to five totals compared in each inner node on the way, none made. Takes
-    /// no memory.
+    /// Returns the character as `char` does, under the same precondition, and sets `steps`: exactly
+    /// one node a level entered, one to five totals compared in each inner node on the path, none
+    /// made.
     pub fn char_counted(&self, char_idx: usize, steps: &mut Steps) -> char
         requires { char_idx < length self.now.text }
         ensures value { slice_get self.now.text char_idx ≡ Some result }

@@ -1,4 +1,4 @@
-//! The rope: how it is made, cloned and measured.
+//! Making, cloning and measuring ropes. Lengths take constant time and no memory.
 //!
 //! A rope of `"one\ntwo"` has 7 bytes, 7 characters, 7 UTF-16 code units and 2 lines, in one chunk
 //! at depth 0.
@@ -21,14 +21,14 @@ use std::alloc::{AllocError, Global};
 use std::marker::Model;
 
 /// A text of at most `isize::MAX` bytes, cut into chunks of 1 to `MAX_BYTES` bytes, which are the
-/// leaves of a balanced tree. No cut lies inside a character or between CR and LF.
+/// leaves of a balanced tree. No cut is inside a character or between CR and LF.
 pub struct Rope {
     pub(crate) root: Node,
     pub(crate) alloc: Global,
 }
 
-// By hand, for a drop that is derived is proved once more in each crate that drops a rope, with the
-// drop of the tree.
+// Written by hand: a derived drop would be re-proved in each crate that drops a rope, together with
+// the drop of the tree.
 impl Drop for Rope {
     fn drop(self) {
         let Rope { root: _, alloc: _ } = self;
@@ -47,8 +47,8 @@ impl Model for Rope {
 }
 
 /// A clone has its original's text, chunks, set of line breaks and depth. It shares every node with
-/// it until one of the two is edited, which leaves the other as it was. Cloning takes constant
-/// time, and may be refused for memory.
+/// it until one of the two is edited, which leaves the other unchanged. Cloning takes constant
+/// time, and may fail with `AllocError`.
 impl Clone for Rope {
     ghost use Rattle.std.specs.Prelude.{◌≡◌};
 
@@ -63,8 +63,8 @@ impl Clone for Rope {
 }
 
 impl Rope {
-    /// A rope of the empty text, with Unicode's line breaks, in no chunk. Takes memory for one
-    /// node.
+    /// Returns a rope of the empty text, with Unicode's line breaks, in no chunk. Takes memory for
+    /// one node.
     ///
     /// # Errors
     ///
@@ -78,8 +78,10 @@ impl Rope {
         Rope::new_with(alloc, LineBreaks::Unicode)
     }
 
-    /// A rope of a copy of the text, with Unicode's line breaks. It has at most (n + 980) / 981
-    /// chunks for n bytes, and takes time and memory in proportion to the text.
+    /// Returns a rope of a copy of the text, with Unicode's line breaks. It has at most (n + 980) /
+    /// 981 chunks for n bytes, and takes time and memory in proportion to the text.
+    ///
+    /// `Rope::from_str(alloc, "a\nb")?.len_lines()` is 2.
     ///
     /// # Errors
     ///
@@ -92,8 +94,8 @@ impl Rope {
         Rope::from_str_with(alloc, text, LineBreaks::Unicode)
     }
 
-    /// A rope of the empty text, with this set of line breaks, in no chunk. Takes memory for one
-    /// node.
+    /// Returns a rope of the empty text, with the given set of line breaks, in no chunk. Takes
+    /// memory for one node.
     ///
     /// # Errors
     ///
@@ -107,8 +109,10 @@ impl Rope {
         Rope::from_str_with(alloc, "", breaks)
     }
 
-    /// A rope of a copy of the text, with this set of line breaks. It has at most (n + 980) / 981
-    /// chunks for n bytes, and takes time and memory in proportion to the text.
+    /// Returns a rope of a copy of the text, with the given set of line breaks. It has at most (n +
+    /// 980) / 981 chunks for n bytes, and takes time and memory in proportion to the text.
+    ///
+    /// `Rope::from_str_with(alloc, "a\rb", LineBreaks::Lf)?.len_lines()` is 1.
     ///
     /// # Errors
     ///
@@ -122,14 +126,14 @@ impl Rope {
         Ok(Rope { root, alloc })
     }
 
-    /// The set of line breaks by which lines are counted. Takes constant time and no memory.
+    /// Returns the set of line breaks by which lines are counted.
     pub fn line_breaks(&self) -> LineBreaks
         ensures { result ≡ self.now.breaks }
     {
         self.root.line_breaks()
     }
 
-    /// The length in bytes. Takes constant time and no memory.
+    /// Returns the length in bytes. With the text `"é\n"` it is 3.
     pub fn len_bytes(&self) -> usize
         ensures value { result ≡ byte_len self.now.text }
         ensures kept { IsRope self.now }
@@ -137,7 +141,7 @@ impl Rope {
         self.root.info().bytes
     }
 
-    /// The length in characters. Takes constant time and no memory.
+    /// Returns the length in characters. With the text `"é\n"` it is 2.
     pub fn len_chars(&self) -> usize
         ensures value { result ≡ length self.now.text }
         ensures kept { IsRope self.now }
@@ -145,14 +149,15 @@ impl Rope {
         self.root.info().chars
     }
 
-    /// The number of lines: one more than there are line breaks. Takes constant time and no memory.
+    /// Returns the number of lines: one more than the number of line breaks. With the text `"é\n"`
+    /// it is 2.
     pub fn len_lines(&self) -> usize
         ensures { result ≡ line_count self.now.breaks self.now.text }
     {
         self.root.info().break_count + 1
     }
 
-    /// The length in UTF-16 code units. Takes constant time and no memory.
+    /// Returns the length in UTF-16 code units. With the text `"😀"` it is 2.
     pub fn len_utf16_cu(&self) -> usize
         ensures { result ≡ utf16_len self.now.text }
     {
@@ -160,8 +165,8 @@ impl Rope {
         info.chars + info.utf16_surrogates
     }
 
-    /// Returns how many levels the tree has above the chunks: 0 for at most one chunk, never more
-    /// than 18. Takes constant time and no memory.
+    /// Returns the number of levels of the tree above the chunks: 0 for at most one chunk, never
+    /// more than 18.
     pub fn depth(&self) -> usize
         ensures value { result ≡ self.now.depth }
         ensures kept { IsRope self.now }
@@ -169,22 +174,25 @@ impl Rope {
         self.root.height()
     }
 
-    /// The bytes for which the chunks have room: `MAX_BYTES` for each chunk, and `usize::MAX` at
-    /// most. Enters each inner node of the tree once, reads no text and takes no memory.
+    /// Returns the number of bytes for which the chunks have room: `MAX_BYTES` for each chunk, and
+    /// `usize::MAX` at most. Enters each inner node of the tree once, reads no text and takes no
+    /// memory.
+    ///
+    /// With the text `"ab"` it is 984.
     pub fn capacity(&self) -> usize
         ensures { result ≡ min (MAX_BYTES * length self.now.chunks) (2 ^ 64 - 1) }
     {
         leaf_count(&self.root).saturating_mul(MAX_BYTES)
     }
 
-    /// Cuts the same text into as few chunks as `from_str` does: at most (n + 980) / 981 for n
+    /// Re-chunks the text into as few chunks as `from_str` makes: at most (n + 980) / 981 for n
     /// bytes.
     ///
     /// Takes time and memory in proportion to the text.
     ///
     /// # Errors
     ///
-    /// `OutOfMemory`. A refused call leaves the rope as it was.
+    /// `OutOfMemory`, which leaves the rope unchanged.
     pub fn shrink_to_fit(&mut self) -> Result<()>
         ensures text { self.new.text ≡ self.old.text }
         ensures breaks { self.new.breaks ≡ self.old.breaks }
@@ -195,7 +203,7 @@ impl Rope {
     {
         let mut builder = Builder::new(self.alloc, self.line_breaks());
         for chunk in self.chunks() {
-            // For the proof: `as_bytes` says that the chunk is UTF-8, so it has the bytes of its
+            // For the proof: `as_bytes` ensures that the chunk is UTF-8, so it has the bytes of its
             // characters.
             let _ = chunk.as_bytes();
             builder.append(chunk)?;
@@ -204,8 +212,9 @@ impl Rope {
         Ok(())
     }
 
-    /// A cursor over the chunks, before the first, facing forward. Costs one look-up; takes no
-    /// memory.
+    /// Returns a cursor before the first chunk, facing forward. Costs one lookup; takes no memory.
+    ///
+    /// With the text `"ab"`, `chunks().next()` is `Some("ab")`.
     pub fn chunks(&self) -> Chunks<'_>
         ensures cut { result ≡ at_start self.now.chunks }
         ensures few { length self.now.chunks < 2 ^ 63 }

@@ -16,9 +16,8 @@ use std::alloc::Global;
 use std::fmt;
 use std::marker::Model;
 
-/// Makes a rope of texts that are passed in one after the other, with no second copy of the whole
-/// text. Contracts see it as the text so far, the set of line breaks, and the error with which it
-/// was refused, if there was one.
+/// A builder of a rope from consecutive texts, without a second copy of the whole text. Contracts
+/// see it as the text so far, the set of line breaks, and its first error, if there was one.
 #[derive(Drop)]
 pub struct RopeBuilder {
     builder: Builder,
@@ -36,7 +35,7 @@ impl Model for RopeBuilder {
 }
 
 impl RopeBuilder {
-    /// A builder with no text yet, whose rope will have Unicode's line breaks. It always succeeds,
+    /// Returns a builder without text, whose rope will have Unicode's line breaks. Always succeeds,
     /// and takes no memory.
     pub fn new(alloc: Global) -> Result<RopeBuilder>
         ensures ok { IsOk result }
@@ -47,7 +46,7 @@ impl RopeBuilder {
         RopeBuilder::new_with(alloc, LineBreaks::Unicode)
     }
 
-    /// A builder with no text yet, whose rope will have this set of line breaks. It always
+    /// Returns a builder without text, whose rope will have the given set of line breaks. Always
     /// succeeds, and takes no memory.
     pub fn new_with(alloc: Global, breaks: LineBreaks) -> Result<RopeBuilder>
         ensures ok { IsOk result }
@@ -62,16 +61,15 @@ impl RopeBuilder {
         })
     }
 
-    /// Adds a text behind those that were passed in.
+    /// Appends a text to those passed in before.
     ///
-    /// Takes time in proportion to the added text, and memory for full chunks of it; an empty text
-    /// takes none where nothing was refused before.
+    /// Takes time in proportion to the appended text, and memory for its full chunks; an empty text
+    /// takes none unless an earlier call failed.
     ///
     /// # Errors
     ///
-    /// First the error of an earlier refusal; then `TooLong`, where all texts so far would have
-    /// more than `isize::MAX` bytes; then `OutOfMemory`. After a refusal every later call returns
-    /// that error.
+    /// First the error of an earlier call; then `TooLong`, if all texts so far would have more than
+    /// `isize::MAX` bytes; then `OutOfMemory`. After an error every later call returns that error.
     pub fn append(&mut self, text: &str) -> Result<()>
         ensures ok { OnOk result ((text_error self.old (length text.now) ≡ None)
             × (self.new.text ≡ self.old.text ++ chars text.now) × (self.new.failed ≡ None)) }
@@ -88,12 +86,12 @@ impl RopeBuilder {
         appended
     }
 
-    /// The rope of the texts that were passed in, in at most (n + 980) / 981 chunks for n bytes.
+    /// Returns the rope of the texts passed in, in at most (n + 980) / 981 chunks for n bytes.
     /// Takes memory for the last chunks and the nodes above them.
     ///
     /// # Errors
     ///
-    /// First the error of an earlier refusal, then `OutOfMemory`.
+    /// First the error of an earlier call, then `OutOfMemory`.
     pub fn finish(self) -> Result<Rope>
         ensures text { IfOk result (λ rope. rope.text ≡ self.text) }
         ensures kept { IfOk result (IsBuilt self.breaks) }
@@ -109,8 +107,7 @@ impl RopeBuilder {
     }
 }
 
-/// Shows how many bytes were passed in, and the error that refused the builder, if there was one;
-/// no text.
+/// Prints the number of bytes passed in, and the builder's error, if there was one; no text.
 impl fmt::Debug for RopeBuilder {
     fn fmt<W: fmt::Write>(&self, f: &mut fmt::Formatter<W>) -> fmt::Result {
         f.debug_struct("RopeBuilder")

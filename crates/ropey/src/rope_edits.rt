@@ -1,9 +1,9 @@
-//! Ropes edited: texts and characters inserted, a part of the text removed, ropes split and
-//! appended to each other.
+//! Edits of ropes: texts and characters inserted, ranges removed, ropes split and appended to each
+//! other. No edit scans the rope's text, and one that fails leaves the rope unchanged.
 //!
 //! With the text `"held"`, `insert(3, "lo worl")` makes `"hello world"`. From there `remove(5..)`
 //! leaves `"hello"`; `split_off(6)` leaves `"hello "` and returns a rope of `"world"`, and an
-//! `append` of that puts it back.
+//! `append` of that restores it.
 ghost use Rattle.std.specs.Prelude.{true, ◌≡◌, ◌+◌, ◌*◌, ◌<◌, ◌≤◌, ◌^◌, [], ◌∷◌, length, None, Some, IsOk, IfErr, OnOk, max, IfOk};
 ghost use Rattle.std.specs.Str.{chars};
 ghost use Rattle.rope_text.specs.declared.TheConstants.{MAX_SHORT_BYTES};
@@ -23,10 +23,10 @@ use rope_text::{Error, MAX_SHORT_BYTES, MAX_TEXT_BYTES, Result, Steps};
 use rope_tree::{Editor, insert_at};
 use std::mem;
 
-// The calls without `try_` are inlined: each call in between would store the seven words of an
-// answer and load them again, some by one load over two stores, which stalls.
+// The calls without `try_` are inlined: each call in between would store the seven words of a
+// result and load them again, some with a store-forwarding stall.
 impl Rope {
-    // Inserts a text before a character, and counts what that takes.
+    // Inserts a text before a character, and counts the steps.
     #[inline(always)]
     fn insert_by(&mut self, editor: &mut Editor, char_idx: usize, text: &str) -> Result<()>
         requires { char_idx ≤ length self.old.text }
@@ -64,13 +64,13 @@ impl Rope {
         Ok(())
     }
 
-    /// As `insert`, for any index.
+    /// Inserts a text as `insert` does, at any index.
     ///
     /// # Errors
     ///
-    /// First `CharIndexOutOfBounds`, with the index and the number of characters, where the index
-    /// is past `len_chars()`; then `TooLong`, where the text would have more than `isize::MAX`
-    /// bytes; then `OutOfMemory`. A refused call leaves the rope as it was.
+    /// First `CharIndexOutOfBounds`, with the index and the number of characters, if the index is
+    /// past `len_chars()`; then `TooLong`, if the text would have more than `isize::MAX` bytes;
+    /// then `OutOfMemory`.
     pub fn try_insert(&mut self, char_idx: usize, text: &str) -> Result<()>
         ensures ok { OnOk result (IsInsert self.old.text char_idx (chars text.now) self.new.text) }
         ensures refused { IfErr result (IsInsertRefusal self.old.text char_idx (chars text.now)) }
@@ -85,15 +85,15 @@ impl Rope {
     /// Inserts `text` before the character `char_idx`; for `len_chars()`, at the end.
     ///
     /// The index is at most `len_chars()`. An empty text takes no memory and changes nothing. A
-    /// short one goes into the chunk around that place, and takes no memory where the chunk has
-    /// room and nothing on the way down to it is shared with a clone; else nodes on the way down
-    /// are made. A text of more than 981 bytes becomes chunks of its own. The rope's text is not
-    /// walked.
+    /// short one goes into the chunk around the index, and takes no memory if the chunk has room
+    /// and no node on the path to it is shared with a clone; else nodes on the path are made. A
+    /// text of more than 981 bytes becomes chunks of its own.
+    ///
+    /// With the text `"ac"`, `insert(1, "b")` makes `"abc"`.
     ///
     /// # Errors
     ///
-    /// First `TooLong`, where the text would have more than `isize::MAX` bytes; then `OutOfMemory`.
-    /// A refused call leaves the rope as it was.
+    /// First `TooLong`, if the text would have more than `isize::MAX` bytes; then `OutOfMemory`.
     #[inline(always)]
     pub fn insert(&mut self, char_idx: usize, text: &str) -> Result<()>
         requires { char_idx ≤ length self.old.text }
@@ -107,7 +107,7 @@ impl Rope {
     }
 
     /// Inserts `text` as [`insert`](Rope::insert) does, and sets all counts of `steps` to those of
-    /// this call, refused or not. They are 0 where the text is empty or too long; else the root
+    /// this call, also when it fails. They are 0 if the text is empty or too long; else the root
     /// counts as entered. In a rope of depth d a text of at most 981 bytes makes at most 3 d + 5
     /// nodes, enters at most 7 d + 5 and compares at most 37 d totals. A longer text makes at most
     /// two nodes for each 981 bytes and 298 d + 603 more, enters at most 37 d + 149 and compares at
@@ -117,8 +117,7 @@ impl Rope {
     ///
     /// # Errors
     ///
-    /// First `TooLong`, then `OutOfMemory`, as for `insert`. A refused call leaves the rope as it
-    /// was.
+    /// First `TooLong`, then `OutOfMemory`, as for `insert`.
     #[inline(always)]
     pub fn insert_counted(&mut self, char_idx: usize, text: &str, steps: &mut Steps) -> Result<()>
         requires { char_idx ≤ length self.old.text }
@@ -142,13 +141,13 @@ impl Rope {
         inserted
     }
 
-    /// As `insert_char`, for any index.
+    /// Inserts a character as `insert_char` does, at any index.
     ///
     /// # Errors
     ///
-    /// First `CharIndexOutOfBounds`, with the index and the number of characters, where the index
-    /// is past `len_chars()`; then `TooLong`, where the text would have more than `isize::MAX`
-    /// bytes; then `OutOfMemory`. A refused call leaves the rope as it was.
+    /// First `CharIndexOutOfBounds`, with the index and the number of characters, if the index is
+    /// past `len_chars()`; then `TooLong`, if the text would have more than `isize::MAX` bytes;
+    /// then `OutOfMemory`.
     pub fn try_insert_char(&mut self, char_idx: usize, c: char) -> Result<()>
         ensures ok { OnOk result (IsInsert self.old.text char_idx (c ∷ []) self.new.text) }
         ensures refused { IfErr result (IsInsertRefusal self.old.text char_idx (c ∷ [])) }
@@ -160,15 +159,15 @@ impl Rope {
 
     /// Inserts the character `c` before the character `char_idx`; for `len_chars()`, at the end.
     ///
-    /// The index is at most `len_chars()`. The character goes into the chunk around that place, and
-    /// takes no memory where the chunk has room and nothing on the way down to it is shared with a
-    /// clone; else it takes memory for at most 3 d + 5 nodes, where d is the rope's depth. No text
-    /// is walked.
+    /// The index is at most `len_chars()`. The character goes into the chunk around the index, and
+    /// takes no memory if the chunk has room and no node on the path to it is shared with a clone;
+    /// else it takes memory for at most 3 d + 5 nodes, where d is the rope's depth.
+    ///
+    /// With the text `"ac"`, `insert_char(1, 'b')` makes `"abc"`.
     ///
     /// # Errors
     ///
-    /// First `TooLong`, where the text would have more than `isize::MAX` bytes; then `OutOfMemory`.
-    /// A refused call leaves the rope as it was.
+    /// First `TooLong`, if the text would have more than `isize::MAX` bytes; then `OutOfMemory`.
     #[inline(always)]
     pub fn insert_char(&mut self, char_idx: usize, c: char) -> Result<()>
         requires { char_idx ≤ length self.old.text }
@@ -180,15 +179,14 @@ impl Rope {
     }
 
     /// Inserts the character `c` as [`insert_char`](Rope::insert_char) does, and sets all counts of
-    /// `steps` to those of this call, refused or not, within the bounds of
+    /// `steps` to those of this call, also when it fails, within the bounds of
     /// [`insert_counted`](Rope::insert_counted) for a short text.
     ///
     /// The index is at most `len_chars()`.
     ///
     /// # Errors
     ///
-    /// First `TooLong`, then `OutOfMemory`, as for `insert_char`. A refused call leaves the rope as
-    /// it was.
+    /// First `TooLong`, then `OutOfMemory`, as for `insert_char`.
     #[inline(always)]
     pub fn insert_char_counted(&mut self, char_idx: usize, c: char, steps: &mut Steps) -> Result<()>
         requires { char_idx ≤ length self.old.text }
@@ -204,12 +202,12 @@ impl Rope {
         self.insert_counted(char_idx, c.encode_utf8(&mut [0; 4]), steps)
     }
 
-    /// As `split_off`, for any index.
+    /// Splits the rope as `split_off` does, at any index.
     ///
     /// # Errors
     ///
-    /// `CharIndexOutOfBounds`, with the index and the number of characters, exactly where the index
-    /// is past `len_chars()`; else `OutOfMemory`. A refused call leaves the rope as it was.
+    /// `CharIndexOutOfBounds`, with the index and the number of characters, exactly if the index is
+    /// past `len_chars()`; else `OutOfMemory`.
     pub fn try_split_off(&mut self, char_idx: usize) -> Result<Rope>
         ensures ok { IfOk result (λ back. (char_index_error char_idx (length self.old.text) ≡ None)
             × IsCutAt char_idx self.old self.new back) }
@@ -221,15 +219,17 @@ impl Rope {
         self.split_off(char_idx)
     }
 
-    /// Keeps the first `char_idx` characters, and returns the others as a rope with the same set of
-    /// line breaks. The two share what they can of the tree.
+    /// Keeps the first `char_idx` characters, and returns the rest as a rope with the same set of
+    /// line breaks. The two share nodes.
     ///
     /// The index is at most `len_chars()`. Takes memory for at most 12 d + 2 nodes, where d is the
-    /// rope's depth, and walks no text.
+    /// rope's depth.
+    ///
+    /// With the text `"abc"`, `split_off(1)` leaves `"a"` and returns `"bc"`.
     ///
     /// # Errors
     ///
-    /// `OutOfMemory`. A refused call leaves the rope as it was.
+    /// `OutOfMemory`.
     pub fn split_off(&mut self, char_idx: usize) -> Result<Rope>
         requires { char_idx ≤ length self.old.text }
         ensures ok { IfOk result (λ back. IsCutAt char_idx self.old self.new back) }
@@ -240,14 +240,14 @@ impl Rope {
     }
 
     /// Splits the rope as [`split_off`](Rope::split_off) does, and sets all counts of `steps` to
-    /// those of this call, refused or not. In a rope of depth d it makes at most 12 d + 2 nodes,
-    /// enters the root and at most 7 d + 5 nodes in all, and compares at most 37 d totals.
+    /// those of this call, also when it fails. In a rope of depth d it makes at most 12 d + 2
+    /// nodes, enters the root and at most 7 d + 5 nodes in all, and compares at most 37 d totals.
     ///
     /// The index is at most `len_chars()`.
     ///
     /// # Errors
     ///
-    /// `OutOfMemory`. A refused call leaves the rope as it was.
+    /// `OutOfMemory`.
     pub fn split_off_counted(&mut self, char_idx: usize, steps: &mut Steps) -> Result<Rope>
         requires { char_idx ≤ length self.old.text }
         ensures ok { IfOk result (λ back. IsCutAt char_idx self.old self.new back) }
@@ -271,7 +271,7 @@ impl Rope {
         })
     }
 
-    // Removes a range, and counts what that takes.
+    // Removes a range, and counts the steps.
     #[inline(always)]
     fn remove_by<R: IndexRange>(&mut self, editor: &mut Editor, range: R) -> Result<()>
         requires { HasCharRange self.old.text (R.given_start range) (R.given_end range) }
@@ -299,13 +299,13 @@ impl Rope {
         Ok(removed?)
     }
 
-    /// As `remove`, for any range.
+    /// Removes a range as `remove` does, for any range.
     ///
     /// # Errors
     ///
-    /// First `CharRangeOutOfBounds`, with the bounds and the number of characters, where a bound is
-    /// past `len_chars()`; then `CharRangeInvalid`, where the start is past the end; then
-    /// `OutOfMemory`. A refused call leaves the rope as it was.
+    /// First `CharRangeOutOfBounds`, with the bounds and the number of characters, if a bound is
+    /// past `len_chars()`; then `CharRangeInvalid`, if the start is past the end; then
+    /// `OutOfMemory`.
     pub fn try_remove<R: IndexRange>(&mut self, range: R) -> Result<()>
         ensures ok { OnOk result
             (IsRemoval self.old.text (R.given_start range) (R.given_end range) self.new.text) }
@@ -320,17 +320,19 @@ impl Rope {
         self.remove(start..end)
     }
 
-    /// Takes the characters of a range out of the text.
+    /// Removes the characters of a range.
     ///
     /// The range's bounds are at most `len_chars()`, and its start is at most its end. An empty
     /// range takes no memory and changes nothing; any other takes memory for at most 17 d + 12
-    /// nodes, where d is the rope's depth. Where the characters lie in one chunk that keeps enough
-    /// bytes, or in two side by side below one node that do, memory is taken only for copies of
-    /// nodes that are shared with clones: for none where nothing is shared. No text is walked.
+    /// nodes, where d is the rope's depth. If the characters are in one chunk that keeps enough
+    /// bytes, or in two adjacent ones below one node that do, memory is taken only for copies of
+    /// nodes shared with clones: for none if nothing is shared.
+    ///
+    /// With the text `"abc"`, `remove(1..2)` makes `"ac"`.
     ///
     /// # Errors
     ///
-    /// `OutOfMemory`. A refused call leaves the rope as it was.
+    /// `OutOfMemory`.
     #[inline(always)]
     pub fn remove<R: IndexRange>(&mut self, range: R) -> Result<()>
         requires { HasCharRange self.old.text (R.given_start range) (R.given_end range) }
@@ -345,15 +347,15 @@ impl Rope {
     }
 
     /// Removes a range as [`remove`](Rope::remove) does, and sets all counts of `steps` to those of
-    /// this call, refused or not. They are 0 for an empty range; else the root counts as entered.
-    /// In a rope of depth d it makes at most 17 d + 12 nodes, enters at most 7 d + 5 and compares
-    /// at most 37 d totals.
+    /// this call, also when it fails. They are 0 for an empty range; else the root counts as
+    /// entered. In a rope of depth d it makes at most 17 d + 12 nodes, enters at most 7 d + 5 and
+    /// compares at most 37 d totals.
     ///
     /// The range's bounds are at most `len_chars()`, and its start is at most its end.
     ///
     /// # Errors
     ///
-    /// `OutOfMemory`. A refused call leaves the rope as it was.
+    /// `OutOfMemory`.
     #[inline(always)]
     pub fn remove_counted<R: IndexRange>(&mut self, range: R, steps: &mut Steps) -> Result<()>
         requires { HasCharRange self.old.text (R.given_start range) (R.given_end range) }
@@ -375,7 +377,7 @@ impl Rope {
         removed
     }
 
-    // Refuses a rope by its set of line breaks, or by the length that the text would have.
+    // Refuses a rope with another set of line breaks, or one that would make the text too long.
     #[inline(always)]
     fn may_append(&self, other: &Rope) -> Result<()>
         ensures same { OnOk result (other.now.breaks ≡ self.now.breaks) }
@@ -392,18 +394,17 @@ impl Rope {
         Ok(())
     }
 
-    /// Puts the text of another rope behind this one's. The rope shares what it can of the other's
-    /// tree.
+    /// Appends the text of another rope. The rope shares nodes of the other's tree.
     ///
-    /// Where one of the two is empty, it takes no memory, and the rope has the chunks of the other;
+    /// If one of the two is empty, it takes no memory, and the rope has the chunks of the other;
     /// else it takes memory for at most 16 d + 11 nodes, where d is the greater depth of the two.
-    /// No text is walked.
+    ///
+    /// With the text `"a"` and a rope of `"bc"`, it makes `"abc"`.
     ///
     /// # Errors
     ///
-    /// First `LineBreaksDiffer`, where the two have different sets of line breaks, empty or not;
-    /// then `TooLong`, where the text would have more than `isize::MAX` bytes; then `OutOfMemory`.
-    /// A refused call leaves the rope as it was.
+    /// First `LineBreaksDiffer`, if the two have different sets of line breaks, empty or not; then
+    /// `TooLong`, if the text would have more than `isize::MAX` bytes; then `OutOfMemory`.
     pub fn append(&mut self, other: Rope) -> Result<()>
         ensures ok { OnOk result (IsAppend self.old other self.new) }
         ensures refused { IfErr result (IsAppendRefusal self.old other) }
@@ -417,14 +418,13 @@ impl Rope {
     }
 
     /// Appends a rope as [`append`](Rope::append) does, and sets all counts of `steps` to those of
-    /// this call, refused or not. They are 0 where a rope is empty, or refused for its set of line
+    /// this call, also when it fails. They are 0 if a rope is empty, or refused for its set of line
     /// breaks or its length; else the root counts as entered. With d the greater depth of the two,
     /// it makes at most 16 d + 11 nodes, enters at most 7 d + 5 and compares at most 37 d totals.
     ///
     /// # Errors
     ///
-    /// First `LineBreaksDiffer`, then `TooLong`, then `OutOfMemory`, as for `append`. A refused
-    /// call leaves the rope as it was.
+    /// First `LineBreaksDiffer`, then `TooLong`, then `OutOfMemory`, as for `append`.
     pub fn append_counted(&mut self, mut other: Rope, steps: &mut Steps) -> Result<()>
         ensures ok { OnOk result (IsAppend self.old other self.new) }
         ensures refused { IfErr result (IsAppendRefusal self.old other) }

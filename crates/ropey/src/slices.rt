@@ -1,11 +1,12 @@
 //! Slices and lines of a rope, cursors over its bytes, characters, chunks and lines, and ropes of
-//! slices.
+//! slices. No slice and no cursor takes memory; the start of a cursor costs one lookup, and a slice
+//! two.
 //!
 //! With the text `"hello world"`, `slice(6..)` has the text `"world"`, and `byte_slice(..5)` has
 //! `"hello"`.
 //!
-//! A cursor stands between two items. Over the characters of `"abc"`, `chars_at(1)` gives `b` by
-//! `next`, and then `b` again by `prev`. No slice and no cursor takes memory.
+//! A cursor is between two items. Over the characters of `"abc"`, `chars_at(1)` gives `b` by
+//! `next`, and then `b` again by `prev`.
 ghost use Rattle.std.specs.Prelude.{◌≡◌, length, Some, IfOk, IfErr, ◌≤◌, ◌<◌, ◌^◌, MatchOption};
 ghost use Rattle.rope_text.specs.Edit.{byte_range_error};
 ghost use Rattle.rope_text.specs.declared.error.Error.TheVariants.{OutOfMemory};
@@ -29,10 +30,10 @@ use rope_text::{IndexRange, Result, TextInfo};
 use rope_tree::Editor;
 use std::alloc::Global;
 
-// Inlined, as they are in rope_slice: a call would store the slice or the cursor in words, and a
-// caller that moves it would stall on loading it again wider.
+// Inlined, as in rope_slice: a call would store the slice or the cursor by words, and a caller that
+// moves it would have a store-forwarding stall.
 impl Rope {
-    // All of it.
+    // Returns all of the rope.
     #[inline(always)]
     pub(crate) fn whole(&self) -> RopeSlice<'_>
         ensures content { content_of result ≡ content self.now }
@@ -41,11 +42,11 @@ impl Rope {
         RopeSlice::of_node(&self.root)
     }
 
-    /// The characters of a range, as a slice that borrows them: their text, the chunks clipped to
-    /// them, and the same set of line breaks. Nothing is copied.
+    /// Returns the characters of a range, as a slice that borrows them: their text, the chunks
+    /// clipped to them, and the same set of line breaks.
     ///
-    /// The range's bounds are at most `len_chars()`, and its start is at most its end. Costs two
-    /// look-ups; takes no memory.
+    /// The range's bounds are at most `len_chars()`, and its start is at most its end. With the
+    /// text `"abcd"`, `slice(1..3)` is `"bc"`.
     #[inline(always)]
     pub fn slice<R: IndexRange>(&self, range: R) -> RopeSlice<'_>
         requires { HasCharRange self.now.text (R.given_start range) (R.given_end range) }
@@ -55,8 +56,8 @@ impl Rope {
         self.whole().slice(range)
     }
 
-    /// As `slice`, or `None` exactly where a bound is past `len_chars()` or the range's start is
-    /// past its end. Costs two look-ups; takes no memory.
+    /// Returns a slice as `slice` does, or `None` exactly if a bound is past `len_chars()` or the
+    /// range's start is past its end.
     #[inline(always)]
     pub fn get_slice<R: IndexRange>(&self, range: R) -> Option<RopeSlice<'_>>
         ensures { GivesChars (content self.now) (R.given_start range) (R.given_end range) result }
@@ -64,10 +65,10 @@ impl Rope {
         self.whole().get_slice(range)
     }
 
-    /// The bytes of a range, as a slice that borrows them, as `slice` does.
+    /// Returns the bytes of a range, as a slice that borrows them.
     ///
-    /// The range's bounds are at most `len_bytes()`, its start is at most its end, and no bound
-    /// lies inside a character. Costs two look-ups; takes no memory.
+    /// The range's bounds are at most `len_bytes()`, its start is at most its end, and no bound is
+    /// inside a character. With the text `"éa"`, `byte_slice(2..)` is `"a"`.
     #[inline(always)]
     pub fn byte_slice<R: IndexRange>(&self, range: R) -> RopeSlice<'_>
         requires { HasByteRange self.now.text (R.given_start range) (R.given_end range) }
@@ -77,13 +78,13 @@ impl Rope {
         self.whole().byte_slice(range)
     }
 
-    /// As `byte_slice`, for any range. Costs two look-ups; takes no memory.
+    /// Returns a slice as `byte_slice` does, for any range.
     ///
     /// # Errors
     ///
-    /// First `ByteRangeInvalid`, where both bounds are given and the start is past the end; then
-    /// `ByteRangeOutOfBounds`, where a given bound is past `len_bytes()`; then
-    /// `ByteRangeNotCharBoundary`, where a given bound lies inside a character.
+    /// First `ByteRangeInvalid`, if both bounds are given and the start is past the end; then
+    /// `ByteRangeOutOfBounds`, if a given bound is past `len_bytes()`; then
+    /// `ByteRangeNotCharBoundary`, if a given bound is inside a character.
     pub fn try_byte_slice<R: IndexRange>(&self, range: R) -> Result<RopeSlice<'_>>
         ensures ok { IfOk result
             (IsByteSlice (content self.now) (R.given_start range) (R.given_end range)) }
@@ -93,8 +94,8 @@ impl Rope {
         self.whole().try_byte_slice(range)
     }
 
-    /// As `byte_slice`, or `None` exactly where `try_byte_slice` returns an error. Costs two
-    /// look-ups; takes no memory.
+    /// Returns a slice as `byte_slice` does, or `None` exactly if `try_byte_slice` returns an
+    /// error.
     #[inline(always)]
     pub fn get_byte_slice<R: IndexRange>(&self, range: R) -> Option<RopeSlice<'_>>
         ensures { GivesBytes (content self.now) (R.given_start range) (R.given_end range) result }
@@ -102,8 +103,8 @@ impl Rope {
         self.whole().get_byte_slice(range)
     }
 
-    /// A rope of the slice's text, with its set of line breaks. It shares what of a rope's tree
-    /// lies within the slice; a plain text is copied.
+    /// Returns a rope of the slice's text, with its set of line breaks. It shares the nodes of a
+    /// rope's tree that are within the slice; a plain text is copied.
     ///
     /// Takes memory for the nodes along the two cuts, or for all of a plain text.
     ///
@@ -125,8 +126,9 @@ impl Rope {
         }
     }
 
-    /// A cursor over the bytes, before the first, facing forward. Costs one look-up; takes no
-    /// memory.
+    /// Returns a cursor before the first byte, facing forward.
+    ///
+    /// With the text `"ab"`, `bytes().next()` is `Some(b'a')`.
     #[inline(always)]
     pub fn bytes(&self) -> Bytes<'_>
         ensures { result ≡ at_start (encode_utf8_all self.now.text) }
@@ -134,10 +136,11 @@ impl Rope {
         self.whole().bytes()
     }
 
-    /// A cursor over the bytes, before the byte `byte_idx`, counted from 0, facing forward; for
-    /// `len_bytes()` it stands past the last one.
+    /// Returns a cursor before the byte `byte_idx`, facing forward; for `len_bytes()` it is past
+    /// the last byte.
     ///
-    /// The index is at most `len_bytes()`. Costs one look-up; takes no memory.
+    /// The index is at most `len_bytes()`. With the text `"ab"`, `bytes_at(1).next()` is
+    /// `Some(b'b')`.
     #[inline(always)]
     pub fn bytes_at(&self, byte_idx: usize) -> Bytes<'_>
         requires { byte_idx ≤ byte_len self.now.text }
@@ -146,8 +149,9 @@ impl Rope {
         self.whole().bytes_at(byte_idx)
     }
 
-    /// A cursor over the characters, before the first, facing forward. Costs one look-up; takes no
-    /// memory.
+    /// Returns a cursor before the first character, facing forward.
+    ///
+    /// With the text `"éa"`, `chars().next()` is `Some('é')`.
     #[inline(always)]
     pub fn chars(&self) -> Chars<'_>
         ensures { result ≡ at_start self.now.text }
@@ -155,10 +159,11 @@ impl Rope {
         self.whole().chars()
     }
 
-    /// A cursor over the characters, before the character `char_idx`, counted from 0, facing
-    /// forward; for `len_chars()` it stands past the last one.
+    /// Returns a cursor before the character `char_idx`, facing forward; for `len_chars()` it is
+    /// past the last character.
     ///
-    /// The index is at most `len_chars()`. Costs one look-up; takes no memory.
+    /// The index is at most `len_chars()`. With the text `"éa"`, `chars_at(1).next()` is
+    /// `Some('a')`.
     #[inline(always)]
     pub fn chars_at(&self, char_idx: usize) -> Chars<'_>
         requires { char_idx ≤ length self.now.text }
@@ -167,11 +172,12 @@ impl Rope {
         self.whole().chars_at(char_idx)
     }
 
-    /// A cursor over the chunks, before the chunk that holds the byte `byte_idx`, facing forward;
-    /// for `len_bytes()` it stands past the last chunk. With it the numbers of bytes, of characters
-    /// and of line breaks that end before the cursor.
+    /// Returns a cursor before the chunk that contains the byte `byte_idx`, facing forward; for
+    /// `len_bytes()` it is past the last chunk. Also returns the numbers of bytes, characters and
+    /// line breaks that end before the cursor.
     ///
-    /// The index is at most `len_bytes()`. Costs one look-up; takes no memory.
+    /// The index is at most `len_bytes()`. With the text `"ab"`, `chunks_at_byte(2)` returns the
+    /// numbers 2, 2 and 0.
     #[inline(always)]
     pub fn chunks_at_byte(&self, byte_idx: usize) -> ChunksAt<'_>
         requires { byte_idx ≤ byte_len self.now.text }
@@ -181,11 +187,12 @@ impl Rope {
         self.whole().chunks_at_byte(byte_idx)
     }
 
-    /// A cursor over the chunks, before the chunk that holds the character `char_idx`, facing
-    /// forward; for `len_chars()` it stands past the last chunk. With it the numbers of bytes, of
-    /// characters and of line breaks that end before the cursor.
+    /// Returns a cursor before the chunk that contains the character `char_idx`, facing forward;
+    /// for `len_chars()` it is past the last chunk. Also returns the numbers of bytes, characters
+    /// and line breaks that end before the cursor.
     ///
-    /// The index is at most `len_chars()`. Costs one look-up; takes no memory.
+    /// The index is at most `len_chars()`. With the text `"éb"`, `chunks_at_char(2)` returns the
+    /// numbers 3, 2 and 0.
     #[inline(always)]
     pub fn chunks_at_char(&self, char_idx: usize) -> ChunksAt<'_>
         requires { char_idx ≤ length self.now.text }
@@ -195,12 +202,13 @@ impl Rope {
         self.whole().chunks_at_char(char_idx)
     }
 
-    /// A cursor over the chunks, before the first chunk by whose end `line_break_idx` line breaks
-    /// have ended, or else before the last, facing forward; for `len_lines()` it stands past the
-    /// last chunk. With it the numbers of bytes, of characters and of line breaks that end before
-    /// the cursor.
+    /// Returns a cursor before the first chunk that ends after `line_break_idx` line breaks, or
+    /// else before the last, facing forward; for `len_lines()` it is past the last chunk. Also
+    /// returns the numbers of bytes, characters and line breaks that end before the cursor. Costs
+    /// two lookups.
     ///
-    /// The index is at most `len_lines()`. Costs two look-ups; takes no memory.
+    /// The index is at most `len_lines()`. With the text `"a\nb"`, `chunks_at_line_break(2)`
+    /// returns the numbers 3, 3 and 1.
     #[inline(always)]
     pub fn chunks_at_line_break(&self, line_break_idx: usize) -> ChunksAt<'_>
         requires { line_break_idx ≤ line_count self.now.breaks self.now.text }
@@ -210,9 +218,10 @@ impl Rope {
         self.whole().chunks_at_line_break(line_break_idx)
     }
 
-    /// The line `line_idx`, counted from 0, with its line break, as a slice.
+    /// Returns the line `line_idx`, with its line break, as a slice. Costs two lookups, and counts
+    /// the line.
     ///
-    /// The index is below `len_lines()`. Costs two look-ups, and counts the line; takes no memory.
+    /// The index is below `len_lines()`. With the text `"a\nb"`, `line(0)` is `"a\n"`.
     pub fn line(&self, line_idx: usize) -> RopeSlice<'_>
         requires { line_idx < line_count self.now.breaks self.now.text }
         ensures { content_of result ≡ line_of (content self.now) line_idx }
@@ -220,8 +229,9 @@ impl Rope {
         self.whole().line(line_idx)
     }
 
-    /// A cursor over the lines, before the first, facing forward. Costs one look-up; takes no
-    /// memory.
+    /// Returns a cursor before the first line, facing forward.
+    ///
+    /// With the text `"a\nb"`, `lines().next()` is the line `"a\n"`.
     #[inline(always)]
     pub fn lines(&self) -> Lines<'_>
         ensures { result ≡ at_start (lines_of (content self.now)) }
@@ -229,10 +239,11 @@ impl Rope {
         self.whole().lines()
     }
 
-    /// A cursor over the lines, before the line `line_idx`, counted from 0, facing forward; for
-    /// `len_lines()` it stands past the last line.
+    /// Returns a cursor before the line `line_idx`, facing forward; for `len_lines()` it is past
+    /// the last line. Costs two lookups.
     ///
-    /// The index is at most `len_lines()`. Costs two look-ups; takes no memory.
+    /// The index is at most `len_lines()`. With the text `"a\nb"`, `lines_at(1).next()` is the line
+    /// `"b"`.
     #[inline(always)]
     pub fn lines_at(&self, line_idx: usize) -> Lines<'_>
         requires { line_idx ≤ line_count self.now.breaks self.now.text }
@@ -241,8 +252,11 @@ impl Rope {
         self.whole().lines_at(line_idx)
     }
 
-    /// As `lines_at`, with the counts of the text before the line. Costs two look-ups; takes no
-    /// memory.
+    /// Returns a cursor before the line `line_idx`, facing forward, and the counts of the text
+    /// before the line. Costs two lookups.
+    ///
+    /// The index is at most `len_lines()`. With the text `"a\nb"` and line 1 the counts are 2
+    /// bytes, 2 characters, no surrogate pair and 1 line break.
     #[inline(always)]
     pub fn lines_and_counts_at(&self, line_idx: usize) -> (Lines<'_>, TextInfo)
         requires { line_idx ≤ line_count self.now.breaks self.now.text }
@@ -252,8 +266,7 @@ impl Rope {
         self.whole().lines_and_counts_at(line_idx)
     }
 
-    /// As `bytes_at`, or `None` exactly where the index is past `len_bytes()`. Costs one look-up;
-    /// takes no memory.
+    /// Returns a cursor as `bytes_at` does, or `None` exactly if the index is past `len_bytes()`.
     pub fn get_bytes_at(&self, byte_idx: usize) -> Option<Bytes<'_>>
         ensures { GivesWithin byte_idx (byte_len self.now.text) result
             (λ bytes. bytes ≡ at_place (encode_utf8_all self.now.text) byte_idx) }
@@ -261,8 +274,7 @@ impl Rope {
         self.whole().get_bytes_at(byte_idx)
     }
 
-    /// As `chars_at`, or `None` exactly where the index is past `len_chars()`. Costs one look-up;
-    /// takes no memory.
+    /// Returns a cursor as `chars_at` does, or `None` exactly if the index is past `len_chars()`.
     pub fn get_chars_at(&self, char_idx: usize) -> Option<Chars<'_>>
         ensures { GivesWithin char_idx (length self.now.text) result
             (λ chars. chars ≡ at_place self.now.text char_idx) }
@@ -270,8 +282,8 @@ impl Rope {
         self.whole().get_chars_at(char_idx)
     }
 
-    /// As `chunks_at_byte`, or `None` exactly where the index is past `len_bytes()`. Costs one
-    /// look-up; takes no memory.
+    /// Returns a cursor as `chunks_at_byte` does, or `None` exactly if the index is past
+    /// `len_bytes()`.
     pub fn get_chunks_at_byte(&self, byte_idx: usize) -> Option<ChunksAt<'_>>
         ensures { GivesWithin byte_idx (byte_len self.now.text) result
             (StandsBefore (content self.now) (chunk_place_at_byte self.now.chunks byte_idx)) }
@@ -279,8 +291,8 @@ impl Rope {
         self.whole().get_chunks_at_byte(byte_idx)
     }
 
-    /// As `chunks_at_char`, or `None` exactly where the index is past `len_chars()`. Costs one
-    /// look-up; takes no memory.
+    /// Returns a cursor as `chunks_at_char` does, or `None` exactly if the index is past
+    /// `len_chars()`.
     pub fn get_chunks_at_char(&self, char_idx: usize) -> Option<ChunksAt<'_>>
         ensures { GivesWithin char_idx (length self.now.text) result
             (StandsBefore (content self.now) (chunk_place_at_char self.now.chunks char_idx)) }
@@ -288,8 +300,8 @@ impl Rope {
         self.whole().get_chunks_at_char(char_idx)
     }
 
-    /// As `chunks_at_line_break`, or `None` exactly where the index is past `len_lines()`. Costs
-    /// two look-ups; takes no memory.
+    /// Returns a cursor as `chunks_at_line_break` does, or `None` exactly if the index is past
+    /// `len_lines()`. Costs two lookups.
     pub fn get_chunks_at_line_break(&self, line_break_idx: usize) -> Option<ChunksAt<'_>>
         ensures { GivesWithin line_break_idx (line_count self.now.breaks self.now.text) result
             (StandsBefore (content self.now)
@@ -298,8 +310,8 @@ impl Rope {
         self.whole().get_chunks_at_line_break(line_break_idx)
     }
 
-    /// The line `line_idx`, counted from 0, with its line break, or `None` exactly where the index
-    /// is `len_lines()` or past it. Costs two look-ups, and counts the line; takes no memory.
+    /// Returns the line `line_idx`, with its line break, or `None` exactly if the index is
+    /// `len_lines()` or more. Costs two lookups, and counts the line.
     pub fn get_line(&self, line_idx: usize) -> Option<RopeSlice<'_>>
         ensures { MatchOption result (line_count self.now.breaks self.now.text ≤ line_idx)
             (λ slice. (line_idx < line_count self.now.breaks self.now.text)
@@ -308,8 +320,8 @@ impl Rope {
         self.whole().get_line(line_idx)
     }
 
-    /// As `lines_at`, or `None` exactly where the index is past `len_lines()`. Costs two look-ups;
-    /// takes no memory.
+    /// Returns a cursor as `lines_at` does, or `None` exactly if the index is past `len_lines()`.
+    /// Costs two lookups.
     pub fn get_lines_at(&self, line_idx: usize) -> Option<Lines<'_>>
         ensures { GivesWithin line_idx (line_count self.now.breaks self.now.text) result
             (λ lines. lines ≡ at_place (lines_of (content self.now)) line_idx) }

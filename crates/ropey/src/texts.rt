@@ -1,7 +1,7 @@
-//! Ropes of owned texts, and of texts that an iterator gives; and a rope's text, copied, shown or
-//! borrowed.
+//! Ropes of owned texts, and of texts that an iterator yields; and a rope's text, copied, shown or
+//! borrowed. Copies take time in proportion to the text.
 //!
-//! `from_str_iter(alloc, ["one\n", "two"])` returns a rope of `"one\ntwo"`, of which
+//! `from_str_iter(alloc, ["one\n", "two"])` returns a rope of `"one\ntwo"`; its
 //! `try_to_string(alloc)` is that string, and `{rope}` prints it.
 ghost use Rattle.std.specs.Prelude.{◌≡◌, IfOk, IfErr, ◌≤◌, ◌↔◌, length, IsOk};
 ghost use Rattle.std.specs.Str.{chars};
@@ -22,7 +22,7 @@ use std::convert::AsStr;
 use std::fmt;
 
 impl Rope {
-    /// A rope of a copy of the owned text, with Unicode's line breaks, as `from_str` makes it.
+    /// Returns a rope of a copy of the owned text, with Unicode's line breaks, as `from_str` does.
     ///
     /// Takes time and memory in proportion to the text.
     ///
@@ -37,8 +37,8 @@ impl Rope {
         Rope::from_str(alloc, text.as_str())
     }
 
-    /// A rope of a copy of the text, borrowed or owned, with Unicode's line breaks, as `from_str`
-    /// makes it.
+    /// Returns a rope of a copy of the text, borrowed or owned, with Unicode's line breaks, as
+    /// `from_str` does.
     ///
     /// Takes time and memory in proportion to the text.
     ///
@@ -122,7 +122,7 @@ impl Rope {
         from_texts(alloc, iter)
     }
 
-    /// A copy of the text as a string. Takes time in proportion to the text, and memory once.
+    /// Returns a copy of the text as a string. Allocates once.
     ///
     /// # Errors
     ///
@@ -134,8 +134,8 @@ impl Rope {
         self.whole().try_to_string(alloc)
     }
 
-    /// The text as a string, by the rope's own allocator; the rope is gone afterwards, refused or
-    /// not. Takes time in proportion to the text, and memory once.
+    /// Returns the text as a string, by the rope's own allocator, and drops the rope, also when it
+    /// fails. Allocates once.
     ///
     /// # Errors
     ///
@@ -147,12 +147,12 @@ impl Rope {
         self.try_to_string(self.alloc)
     }
 
-    /// The text: borrowed exactly where the rope has at most one chunk, which takes no memory and
-    /// never fails; else a copy.
+    /// Returns the text: borrowed exactly if the rope has at most one chunk, which never fails;
+    /// else a copy.
     ///
     /// # Errors
     ///
-    /// `OutOfMemory`, only where the rope has more than one chunk.
+    /// `OutOfMemory`, only if the rope has more than one chunk.
     pub fn try_to_cow(&self, alloc: Global) -> Result<CowStr<'_>>
         ensures text { IfOk result (λ cow. chars (cow_str_bytes cow) ≡ self.now.text) }
         ensures borrowed { IfOk result (λ cow. IsBorrowedStr cow ↔ (length self.now.chunks ≤ 1)) }
@@ -162,7 +162,7 @@ impl Rope {
         self.whole().try_to_cow(alloc)
     }
 
-    /// The text as an owned string, as `try_into_string` returns it, in as much time and memory.
+    /// Returns the text as an owned string, as `try_into_string` does.
     ///
     /// # Errors
     ///
@@ -189,8 +189,8 @@ fn from_texts<T: AsStr + Drop, I: IntoIterator<Item = T>>(alloc: Global, iter: I
     take_texts(alloc, &mut iter.into_iter())
 }
 
-// Returns a rope of the texts that the iterator still yields. Once a text is refused, no other is
-// taken, so the iterator is left right after it.
+// Returns a rope of the texts that the iterator still yields. After an error no other text is
+// taken, so the iterator is left right after the refused one.
 fn take_texts<T: AsStr + Drop, I: Iterator<Item = T>>(alloc: Global, texts: &mut I) -> Result<Rope>
     requires can { I.can_next texts.old }
     requires ends { IsFinite (I.remaining texts.old) }

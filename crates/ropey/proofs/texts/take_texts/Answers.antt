@@ -1,4 +1,4 @@
--- What was passed in is what the iterator yielded.
+-- The texts passed in are those that the iterator yielded.
 use Rattle.std.proofs.lemmas.Result.{IfOk-weaker, IfErr-weaker}
 use Rattle.ropey.proofs.TextsGiven.{Appended-push, yields_all, passed_on}
 use Rattle.ropey.proofs.TextsGiven.{stops_at_text, stops_at_end}

@@ -1,4 +1,4 @@
--- What was passed in is what the iterator yielded.
+-- The texts passed in are those that the iterator yielded.
 use Rattle.std.specs.Iterator.{IsFinite, size}
 use Rattle.ropey.proofs.TextsGiven.{Appended}
 use Rattle.ropey.proofs.texts.take_texts.Given as goal

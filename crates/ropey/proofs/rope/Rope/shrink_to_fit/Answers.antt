@@ -1,4 +1,4 @@
--- What was passed in and the next chunk are a front of the text; the new tree is a rope.
+-- The texts passed in and the next chunk are a prefix of the text; the new tree is a rope.
 use Rattle.std.proofs.Common.{◌∙◌, ◌++◌, length, ap, sym, arith, subst}
 use Rattle.std.specs.List.{concat}
 use Rattle.std.specs.Str.{chars}

@@ -1,4 +1,4 @@
--- What was passed in and the chunks ahead are the text.
+-- The texts passed in and the chunks ahead are the text.
 use Rattle.std.proofs.Common.{◌≡◌, ◌++◌, length}
 use Rattle.std.specs.List.{concat}
 use Rattle.rope_text.specs.Sides.{ahead}
