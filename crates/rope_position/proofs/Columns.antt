@@ -1,4 +1,4 @@
--- Lines and columns, by counts of fronts of the text.
+-- Lines and columns, by counts of prefixes of the text.
 use Rattle.std.proofs.Common.{◌≡◌, ℕ, ◌+◌, ◌-◌, ◌≤◌, List, Option, Some, None, Result, Ok, length, take, drop, ap, sym, ◌∙◌, arith}
 use Rattle.std.specs.List.{slice_range}
 use Rattle.std.proofs.Math.Seq.{take-add}
@@ -23,13 +23,13 @@ use Rattle.rope_position.specs.declared.encoding.Encoding.TheVariants.{Utf8, Utf
 use Rattle.rope_position.specs.Encodings.{unit_len, position_in}
 use Rattle.rope_position.specs.Positions.{position_at, PositionsReturn}
 
--- the code units before a place are those before an earlier one and those between
+-- the code units before an index are those before an earlier one and those between
 units_between : (text : List ℕ) (a i : ℕ) → a ≤ i → utf16_len (take i text) ≡ utf16_len (take a text) + utf16_len (slice_range text a i)
 units_between text a i l =
     let whole : a + (i - a) ≡ i = omega arith in
     ap (λ k. utf16_len (take k text)) (sym whole) ∙ ap utf16_len (take-add a (i - a) text) ∙ IsMeasure-utf16_len.joined (take a text) (take (i - a) (drop a text))
 
--- a column is what the code units before the line lack of those before the place
+-- a column is the difference of the code units before the index and before the line
 pub column_is : (breaks : LineBreaks) (text : List ℕ) (i : ℕ) → i ≤ length text
     → utf16_len (take i text) ≡ utf16_len (take (line_start breaks text (char_to_line breaks text i)) text) + char_to_column breaks text i
 column_is breaks text i l = units_between text (line_start breaks text (char_to_line breaks text i)) i (line_start_before breaks text i l)
@@ -45,7 +45,7 @@ column-le breaks text i l =
     let front : take (i - start) (line breaks text n) ≡ slice_range text start i = take-take (i - start) (end - start) (drop start text) (omega arith) in
     rw (← front) (size_le_all utf16_len IsMeasure-utf16_len (line breaks text n) (i - start))
 
--- a character of a line lies in the text
+-- a character of a line is in the text
 pub in_text : (breaks : LineBreaks) (text : List ℕ) (l c : ℕ) → position_to_char breaks text l c ≤ length text
 unfolding utf16_to_char
 in_text breaks text l c =
@@ -64,7 +64,7 @@ same_position l m c d e f =
     let at : ℕ → ℕ → Position = λ line column. record { line = line; column = column } in
     ap (λ line. at line c) e ∙ ap (at m) f
 
--- a position that was found by the code units before its line and before its place
+-- a position found by the code units before its line and before its index
 pub position_by : (breaks : LineBreaks) (text : List ℕ) (i line start before all : ℕ) → i ≤ length text → line ≡ char_to_line breaks text i → start ≡ line_start breaks text line
     → before ≡ utf16_len (take start text) → all ≡ utf16_len (take i text)
     → (before ≤ all) × ◌≡◌ {A = Position} (record { line = line; column = all - before }) (position_at breaks text i)
@@ -78,12 +78,12 @@ position_by breaks text i line start before all l line_is start_is before_is all
 pub position_fine : (i len : ℕ) (p q : Position) → i ≤ len → p ≡ q → ◌≡◌ {A = Result Position Error} (Ok p) (checked (char_index_error i len) q)
 position_fine i len p q l e = rw (le-leb i len l) (ap Ok e)
 
--- what is answered where nothing is refused is the value
+-- without an error the result is the value
 pub value_is : (error : Option Error) (value found : ℕ) → ◌≡◌ {A = Result ℕ Error} (Ok found) (checked error value) → found ≡ value
 value_is None value found e = cc
 value_is (Some error) value found e = absurd (cc)
 
--- the code units before a place are those before an earlier one and those between, in any encoding
+-- the code units before an index are those before an earlier one and those between, in any encoding
 encoded_between : (encoding : Encoding) (text : List ℕ) (a i : ℕ) → a ≤ i → unit_len encoding
     (take i text) ≡ unit_len encoding (take a text) + unit_len encoding (slice_range text a i)
 encoded_between Utf8 text a i l =
@@ -96,7 +96,7 @@ encoded_between Utf32 text a i l =
     ap (λ k. length (take k text)) (sym whole) ∙ ap length (take-add a (i - a) text) ∙ length-append
     (take a text) (take (i - a) (drop a text))
 
--- a position in an encoding that was found by the code units before its line and before its place
+-- a position in an encoding found by the code units before its line and before its index
 pub encoded_by : (encoding : Encoding) (breaks : LineBreaks) (text : List ℕ)
     (i line start before all : ℕ) → i ≤ length text → line ≡ char_to_line breaks text i → start ≡
     line_start breaks text line
@@ -119,7 +119,7 @@ pub utf16_within : (text : List ℕ) (unit : ℕ) → utf16_to_char text unit �
 unfolding utf16_to_char
 utf16_within text unit = front-le-length utf16_len IsMeasure-utf16_len text unit
 
--- a part of a line lies in the text
+-- a prefix of a line is in the text
 pub line_within : (breaks : LineBreaks) (text part : List ℕ) (l n : ℕ) → length part ≡ length
     (slice_range (line breaks text l) 0 n) → line_start breaks text l + length part ≤ length text
 line_within breaks text part l n long =

@@ -29,7 +29,7 @@ position_in encoding breaks text i = record {
   column = unit_len encoding (slice_range text (line_start breaks text (char_to_line breaks text i)) i);
 }
 
--- the character at a column of a text: at its end, if the column is past it
+-- the character at a column of a text, or its end if the column is past it
 abbrev pub clamped_column : Encoding → List ℕ → ℕ → ℕ
 clamped_column encoding text column = unit_to_char encoding text (min column (unit_len encoding text))
 

@@ -9,7 +9,7 @@ use Rattle.rope_position.specs.declared.position.Position.{Position}
 abbrev pub position_at : LineBreaks → List ℕ → ℕ → Position
 position_at breaks text i = record { line = char_to_line breaks text i; column = char_to_column breaks text i }
 
--- the position of a character isn't refused, and it is that character's
+-- the position of a character is valid, and converts back to that character
 abbrev pub PositionsReturn : Type 0
 PositionsReturn = (breaks : LineBreaks) (text : List ℕ) (i : ℕ) → i ≤ length text
     → (position_error breaks text (position_at breaks text i).line (position_at breaks text i).column ≡ None)

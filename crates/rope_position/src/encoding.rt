@@ -1,6 +1,6 @@
-//! The encodings in whose code units a position's column can count.
+//! The encodings whose code units a position's column can count.
 
-/// What a position's column counts, as `PositionEncodingKind` of the Language Server Protocol.
+/// The unit of a position's column, as `PositionEncodingKind` of the Language Server Protocol.
 #[derive(Clone, Copy, PartialEq, Eq, Hash, Debug)]
 pub enum Encoding {
     /// The bytes of UTF-8, `utf-8` in the protocol.

@@ -1,4 +1,4 @@
-//! Positions, and the two conversions between them and characters.
+//! Positions, and the conversions between them and characters. No call takes memory.
 //!
 //! In `"one\ntwo"`, `char_to_position(5)` is line 1, column 1, and `position_to_char` of that is 5.
 ghost use Rattle.std.specs.Prelude.{◌≡◌, ◌≤◌, length, None};
@@ -12,38 +12,38 @@ ghost use Rattle.rope_position.specs.Encodings.{position_in, clamped_char};
 use crate::encoding::Encoding;
 use ropey::Result;
 
-/// A position in a text as an editor shows it: a line, and a column in code units. These are of
-/// UTF-16, unless a call takes an [`Encoding`].
+/// A position in a text as an editor shows it: a line, and a column in code units, which are of
+/// UTF-16 unless a call takes an [`Encoding`].
 #[derive(Clone, Copy, PartialEq, Eq, PartialOrd, Ord, Hash, Debug)]
 pub struct Position {
-    /// The line, counted from 0.
+    /// The line, from 0.
     pub line: usize,
-    /// The code units from the start of the line up to the position. The line's break is among
-    /// them, so a position inside a break or after the last line's text has a column too.
+    /// The number of code units from the start of the line up to the position. They include the
+    /// line's break, so a position inside a break or after the last line's text has a column too.
     pub column: usize,
 }
 
-/// Texts whose places have positions: ropes and slices. No call takes memory.
+/// Texts with positions: ropes and slices.
 pub trait Positions {
     ghost shown: { Self → Content };
 
-    /// As `char_to_position`, for any index. Costs a few look-ups; takes no memory.
+    /// Converts as `char_to_position` does, for any index.
     ///
     /// # Errors
     ///
-    /// `CharIndexOutOfBounds`, with the index and the number of characters, exactly where the index
-    /// is past `len_chars()`.
+    /// `CharIndexOutOfBounds`, with the index and the number of characters, exactly if the index is
+    /// past `len_chars()`.
     fn try_char_to_position(&self, char_idx: usize) -> Result<Position>
         ensures { result ≡ checked (char_index_error char_idx (length (shown self.now).text))
             (position_at (shown self.now).breaks (shown self.now).text char_idx) };
 
-    /// As `position_to_char`, for any position. Costs a few look-ups; takes no memory.
+    /// Converts as `position_to_char` does, for any position.
     ///
     /// # Errors
     ///
-    /// First `LineIndexOutOfBounds`, with the line and the number of lines, where there is no such
-    /// line; then `Utf16IndexOutOfBounds`, with the column and the line's number of code units,
-    /// where the column is past them.
+    /// First `LineIndexOutOfBounds`, with the line and the number of lines, if there is no such
+    /// line; then `Utf16IndexOutOfBounds`, with the column and the line's number of code units, if
+    /// the column is past them.
     fn try_position_to_char(&self, position: Position) -> Result<usize>
         ensures { result
             ≡ checked (of_text.position_error (shown self.now).breaks
@@ -51,9 +51,9 @@ pub trait Positions {
             (of_text.position_to_char (shown self.now).breaks
             (shown self.now).text position.line position.column) };
 
-    /// The position of the character `char_idx`, counted from 0, or of the end of the text.
+    /// Returns the position of the character `char_idx`, or of the end of the text.
     ///
-    /// The index is at most `len_chars()`. Costs a few look-ups; takes no memory.
+    /// The index is at most `len_chars()`. In `"é\nab"`, `char_to_position(3)` is line 1, column 1.
     fn char_to_position(&self, char_idx: usize) -> Position
         requires { char_idx ≤ length (shown self.now).text }
         ensures { result ≡ position_at (shown self.now).breaks (shown self.now).text char_idx }
@@ -64,12 +64,12 @@ pub trait Positions {
         }
     }
 
-    /// The last character, counted from 0, of the position's line that begins at the position or
-    /// before it: the one that holds it, also where the column is inside its surrogate pair. At the
-    /// line's end it is where the next line starts, or the end of the text.
+    /// Returns the index of the last character of the position's line that begins at the position
+    /// or before it: the character that contains the position, also if the column is inside its
+    /// surrogate pair. At the line's end it is the start of the next line, or the end of the text.
     ///
-    /// There is such a line, and the column is at most its number of code units. Costs a few
-    /// look-ups; takes no memory.
+    /// There is such a line, and the column is at most its number of code units. In `"é\nab"`, the
+    /// character at line 1, column 1 is 3.
     fn position_to_char(&self, position: Position) -> usize
         requires { of_text.position_error (shown self.now).breaks
             (shown self.now).text position.line position.column
@@ -83,8 +83,8 @@ pub trait Positions {
         }
     }
 
-    /// Returns the position of the character `char_idx`, counted from 0, or of the end of the text,
-    /// with its column in an encoding's code units.
+    /// Returns the position of the character `char_idx`, or of the end of the text, with its column
+    /// in an encoding's code units.
     ///
     /// # Errors
     ///
@@ -94,8 +94,8 @@ pub trait Positions {
         ensures { result ≡ checked (char_index_error char_idx (length (shown self.now).text))
             (position_in encoding (shown self.now).breaks (shown self.now).text char_idx) };
 
-    /// Returns the position of the character `char_idx`, counted from 0, or of the end of the text,
-    /// with its column in an encoding's code units.
+    /// Returns the position of the character `char_idx`, or of the end of the text, with its column
+    /// in an encoding's code units.
     ///
     /// The index is at most `len_chars()`.
     fn char_to_position_in(&self, char_idx: usize, encoding: Encoding) -> Position

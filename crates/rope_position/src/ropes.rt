@@ -3,7 +3,7 @@ use crate::encoding::Encoding;
 use crate::position::{Position, Positions};
 use ropey::{Result, Rope};
 
-// What a slice of the whole text answers, which costs no look-up.
+// Calls the slice of the whole text, which costs no lookup.
 impl Positions for Rope {
     ghost use Rattle.ropey.specs.View.{content};
 

@@ -28,7 +28,7 @@ impl<'a> Positions for RopeSlice<'a> {
         if position.line >= lines {
             return Err(Error::LineIndexOutOfBounds(position.line, lines));
         }
-        // as many characters as a `usize` counts, so the sum fits
+        // the number of characters fits a `usize`, so the sum fits
         let _ = self.len_chars();
         let line = self.line(position.line);
         match line.try_utf16_cu_to_char(position.column) {
