@@ -1,4 +1,4 @@
--- Edits of one rope of a list, as its contents show it.
+-- Edits of one rope of a list, by contents.
 use Rattle.std.proofs.Common.{◌≡◌, ℕ, ◌<◌, List, [], ◌∷◌, ◌++◌, length, take, drop, get_or, slice_set, map, Option, Some, None, MatchOption, Bool, true, Result, Ok, Err, IsOk, OnOk, OnErr, IfErr, refl, ap, sym, subst, ◌∙◌, inl, inr, arith}
 use Rattle.std.proofs.lemmas.List.{map-set, map-append, length-map, length-set, set-get_or, get_or_default}
 use Rattle.std.proofs.Math.ListN.{get_or-map}
@@ -44,7 +44,7 @@ edit_of result old r rope after error idle text e ok refusal same still breaks_a
     (edits_by result (map content old) r (content rope) (content after) error idle text (read_at old r rope e) ok refusal (same_content result rope after same)
     (λ z fine. let s = still z fine in (s.0, ap content s.1)) breaks_are kept.content)
 
--- a rope more
+-- one more rope
 pushed : (old new : List RopeView) (rope : RopeView) → new ≡ old ++ rope ∷ [] → map content new ≡ map content old ++ content rope ∷ []
 pushed old new rope e = ap (map content) e ∙ map-append content old (rope ∷ [])
 
@@ -59,13 +59,13 @@ clone_of old new r rope clone reply h e same reply_is new_is =
     of_content _ old (map content new) r rope reply h e
     (inl (made old reply reply_is, pushed old new clone new_is ∙ ap (λ c. map content old ++ content c ∷ []) same))
 
--- memory for a clone is refused
+-- a clone that runs out of memory
 pub unmade_of : (old : List RopeView) (r : ℕ) (rope : RopeView) → r < length old → rope ≡ get_or old r rope
     → OfRope r (λ cloned. OrNoMemory (AddsSame cloned (map content old) (Refused OutOfMemory) (map content old)) (map content old) (Refused OutOfMemory) (map content old))
     (map content old) (Refused OutOfMemory) (map content old)
 unmade_of old r rope h e = of_content _ old (map content old) r rope (Refused OutOfMemory) h e (inr (refl, refl))
 
--- one of the ropes is cut, and its back added
+-- one of the ropes is split, and its back added
 pub cut_of : (old new : List RopeView) (r i : ℕ) (rope front back : RopeView) (reply : Reply) → r < length old → rope ≡ get_or old r rope
     → char_index_error i (length rope.text) ≡ None → front.text ≡ take i rope.text → back.text ≡ drop i rope.text → front.breaks ≡ rope.breaks → back.breaks ≡ rope.breaks
     → IsRope front → IsRope back → reply ≡ Made (length (slice_set old r front)) → new ≡ slice_set old r front ++ back ∷ []
@@ -81,7 +81,7 @@ cut_of old new r i rope front back reply h e fine f b fs bs k l reply_is new_is 
       pushed (slice_set old r front) new back new_is ∙ ap (λ cs. cs ++ content back ∷ []) (map-set content old r front),
     )))
 
--- a cut is refused
+-- a split fails
 pub uncut_of : (old : List RopeView) (r i : ℕ) (rope after : RopeView) (error : Error) → r < length old → rope ≡ get_or old r rope
     → IsRefusal (char_index_error i (length rope.text)) error → after ≡ rope → Cuts r i (map content old) (Refused error) (map content (slice_set old r after))
 uncut_of old r i rope after error h e refusal same =
@@ -89,7 +89,7 @@ uncut_of old r i rope after error h e refusal same =
     of_content _ old _ r rope (Refused error) h e
     (unless_refused (char_index_error i (length rope.text)) error _ (map content old) _ refusal back (λ fine memory. inr (ap Refused memory, back)))
 
--- the text of one of the ropes is put behind that of another, as the result of the rope's own append says
+-- the text of one of the ropes is appended to another, by the result of the rope's own append
 pub join_of : {T : Type 0} (result : Result T Error) (old : List RopeView) (r s : ℕ) (rope other after : RopeView)
     → r < length old → rope ≡ get_or old r rope → s < length old → other ≡ get_or old s other
     → OnOk result ((append_error rope.breaks other.breaks rope.text other.text ≡ None) × (after.text ≡ rope.text ++ other.text))
@@ -110,7 +110,7 @@ join_of result old r s rope other after h e j f ok refusal same right left k l b
     breaks_are kept.content in
     rw (map-set content old r after) (of_content _ old _ r rope _ h e (of_content _ old _ s other _ j f joined))
 
--- a join is refused by what its ropes say, or where they say nothing when out of memory
+-- a join fails by its ropes' contents, or else for lack of memory
 pub unjoined_of : (old : List RopeView) (r s : ℕ) (rope other : RopeView) (found : Option Error) (error : Error) → r < length old → rope ≡ get_or old r rope → s < length old → other ≡ get_or old s other
     → found ≡ append_error rope.breaks other.breaks rope.text other.text → IsRefusal found error → Joins r s (map content old) (Refused error) (map content old)
 unjoined_of old r s rope other found error h e j f is refusal =
@@ -126,11 +126,11 @@ shrink_of result old r rope after h e text_is breaks_are kept few memory same =
     (of_content _ old _ r rope _ h e
     (shrinks_by result (map content old) r (content rope) (content after) (read_at old r rope e) text_is breaks_are kept.content few memory (same_content result rope after same)))
 
--- a rope that was read where another was is that one
+-- a rope read at the same index is the same rope
 pub same_place : (old : List RopeView) (r : ℕ) (a b : RopeView) → r < length old → a ≡ get_or old r a → b ≡ get_or old r b → a ≡ b
 same_place old r a b h e f = e ∙ get_or_default old r a b h ∙ sym f
 
--- a rope of a part of one of the ropes is added, as it was asked for
+-- a rope of a slice of one of the ropes is added, as requested
 pub copied_of : (old new : List RopeView) (r : ℕ) (range : Option (ℕ × ℕ)) (rope copy : RopeView) (part : Content) (reply : Reply) → r < length old → rope ≡ get_or old r rope
     → part_of (content rope) range ≡ Some part → copy.text ≡ part.text → copy.breaks ≡ part.breaks → IsRope copy → reply ≡ Made (length old) → new ≡ old ++ copy ∷ []
     → Copies r range (map content old) reply (map content new)
@@ -139,7 +139,7 @@ copied_of old new r range rope copy part reply h e found t b k reply_is new_is =
     (subst (λ f. MatchOption f (Unchanged NoSlice (map content old) reply (map content new)) (λ p. OrNoMemory (Adds p.text p.breaks Any (map content old) reply (map content new)) (map content old) reply (map content new))) (sym found)
     (inl (content copy, is_rope_of part.text part.breaks (content copy) t b k.content, tt, made old reply reply_is, pushed old new copy new_is)))
 
--- memory for it is refused
+-- a copy that runs out of memory
 pub uncopied_of : (old : List RopeView) (r : ℕ) (range : Option (ℕ × ℕ)) (rope : RopeView) (part : Content) (error : Error) → r < length old → rope ≡ get_or old r rope
     → part_of (content rope) range ≡ Some part → error ≡ OutOfMemory → Copies r range (map content old) (Refused error) (map content old)
 uncopied_of old r range rope part error h e found memory =
@@ -157,7 +157,7 @@ some_chunk : (chunk : List ℕ) → IsChunkSize (byte_len chunk) → 0 < length 
 some_chunk [] size = absurd (omega arith)
 some_chunk (c ∷ chunk) size = omega arith
 
--- the slice of all of a rope shows what the rope shows
+-- the slice of all of a rope has the rope's content
 pub whole_slice : (rope slice : Content) → of_content_specs.IsRope rope → IsSlice rope 0 (length rope.text) slice → slice ≡ rope
 whole_slice rope slice kept s =
     same_content_by slice rope

@@ -1,4 +1,4 @@
--- Runs go on, and every rope that they make or change keeps what a rope keeps.
+-- Runs continue, and every rope that they make or change has the invariant of ropes.
 use Rattle.std.proofs.Common.{◌≡◌, ℕ, ◌+◌, ◌<◌, zero, suc, ◌==◌, ◌⊎◌, Bool, true, false, MatchBool, List, [], ◌∷◌, ◌++◌, length, take, get_or, slice_get, slice_set, MatchOption, Option, Some, None, All, refl, sym, ap, subst, ◌∙◌, inl, inr, arith, append_assoc, length-append}
 use Rattle.std.proofs.lemmas.List.{take_more}
 use Rattle.std.proofs.lemmas.List.Elements.{All-append, All-set, All-get_or}
@@ -25,7 +25,7 @@ Runs-push old mid new [] (r' ∷ rs) c r p q = absurd p
 Runs-push old mid new (c' ∷ cs) [] c r p q = absurd p
 Runs-push old mid new (c' ∷ cs) (r' ∷ rs) c r p q = (p.0, p.1, Runs-push p.0 mid new cs rs c r p.2 q)
 
--- a run under way, after as many commands as it has replies
+-- a run in progress, after as many commands as replies
 pub record IsRunning (old : List Content) (commands : List Command) (before after : List Reply) (new : List Content) (done : ℕ) : Type 0 where
   pub added : List Reply
   pub appended : after ≡ before ++ added
@@ -43,7 +43,7 @@ running_more old mid new commands before after done command reply l e r s = reco
       (Runs-push old mid new (take done commands) r.added command reply r.run s);
 }
 
--- ---- every rope of a run keeps what a rope keeps
+-- ---- every rope of a run has the invariant of ropes
 
 -- the one element of a list
 one : (x : Content) → IsRope x → All IsRope (x ∷ [])
@@ -62,7 +62,7 @@ found old r A Q k m = elim (slice_get_cases old r).1 [
   | inr past ↦ inl (rw past.1 at m)
 ]
 
--- it is refused and nothing changes, or else P
+-- it fails and nothing changes, or else P
 allowed : (error : Option Error) (P : Type 0) (old new : List Content) (reply : Reply) → Unless error P old reply new → (new ≡ old) ⊎ P
 allowed None P old new reply m = inr m
 allowed (Some e) P old new reply m = inl m.1
@@ -141,7 +141,7 @@ clones_keep : (old new : List Content) (rope : Content) (reply : Reply) → All 
 clones_keep old new rope reply k p (inl s) = rw s.1 (added_keep old rope k p)
 clones_keep old new rope reply k p (inr s) = rw s.1 k
 
--- there is no such part of a rope, and nothing changes, or there is one
+-- there is no such slice of a rope, and nothing changes, or there is one
 parted : (rope : Content) (range : Option (ℕ × ℕ)) (P : Content → Type 0) (old new : List Content) (reply : Reply) → OfPart rope range P old reply new → (new ≡ old) ⊎ ((part : Content) × P part)
 parted rope range P old new reply h = go (part_of rope range) h
   where

@@ -1,4 +1,4 @@
--- Steps of code, as those of the cursor that a walk speaks of.
+-- Steps of code, as those of the cursor of a walk.
 use Rattle.std.proofs.Common.{◌≡◌, ℕ, ◌==◌, ◌≤◌, List, ◌∷◌, length, take, Bool, true, false, cond, MatchBool, Option, ap, sym, subst, ◌∙◌, arith}
 use Rattle.std.specs.Option.{option_map}
 use Rattle.std.proofs.lemmas.List.{take-append-drop, length-take-le}
@@ -32,13 +32,13 @@ module _ {A X : Type 0} (shows : Item → X → Type 0) (view : A → X) where
   gives_prev s t r item step shown moves items g =
       (subst (ShowsOption shows item) (item_back view s t r step) shown, subst (λ c. Gives shows c moves items) (cursor_back view s t r step) g)
 
--- the cursor at a place
+-- the cursor at an index
 pub cursor_at : {X : Type 0} (items : List X) (p : ℕ) → p ≤ length items → ◌≡◌ {A = Cursor X} (cursor_of (at_place items p)) (record { items = items; place = p; forward = true })
 cursor_at {X} items p l =
     let of : List X → ℕ → Cursor X = λ items place. record { items = items; place = place; forward = true } in
     ap (λ whole. of whole (length (take p items))) (take-append-drop p items) ∙ ap (of items) (length-take-le p items l)
 
--- a walk from a place inside
+-- a walk from an index in bounds
 pub walks_from : {X : Type 0} (shows : Item → X → Type 0) (inside : Bool) (items : List X) (p : ℕ) (s : Sides X) (moves : List Move) (r : Reply)
     → inside ≡ true → p ≤ length items → s ≡ at_place items p → IsWalkReply shows (cursor_of s) moves r → Walks shows inside items p moves r
 walks_from {X} shows inside items p s moves r is l at g =

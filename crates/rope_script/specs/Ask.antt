@@ -1,4 +1,4 @@
--- What each query is replied, of the part that is asked.
+-- The reply to each query of a slice.
 use Rattle.std.specs.Prelude.{◌≡◌, ℕ, Bool, List, length, map, nat_le, nat_lt, slice_get, MatchOption, MatchBool, Option, Some, None}
 use Rattle.std.specs.Str.{chars, encode_utf8_all}
 use Rattle.std.specs.String.{string_bytes}
@@ -27,7 +27,7 @@ use Rattle.rope_script.specs.declared.script.Reply.TheVariants as reply
 use Rattle.rope_script.specs.Part.{part_of}
 use Rattle.rope_script.specs.Walk.{IsByteItem, IsCharItem, IsTextItem, IsLineItem, Walks}
 
--- what an index is by a conversion, and why it is refused
+-- the converted index, and its error
 abbrev pub conversion : Content → Conv → ℕ → ℕ
 conversion c ByteToChar i = byte_to_char c.text i
 conversion c ByteToLine i = byte_to_line c.breaks c.text i
@@ -48,13 +48,13 @@ conversion_error c Utf16ToChar i = utf16_index_error i (utf16_len c.text)
 conversion_error c LineToByte i = line_index_error i (line_count c.breaks c.text)
 conversion_error c LineToChar i = line_index_error i (line_count c.breaks c.text)
 
--- whether an index looks a chunk up: whether it is at most the length
+-- whether an index is valid for a chunk lookup: at most the length
 abbrev pub is_inside : Content → At → ℕ → Bool
 is_inside c at.Byte i = nat_le i (byte_len c.text)
 is_inside c at.Char i = nat_le i (length c.text)
 is_inside c at.LineBreak i = nat_le i (line_count c.breaks c.text)
 
--- which chunk an index looks up, and where a cursor over the chunks starts for it
+-- the chunk that an index looks up, and the start of a cursor over the chunks for it
 abbrev pub chunk_index : Content → At → ℕ → ℕ
 chunk_index c at.Byte i = chunk_index_at_byte c.chunks i
 chunk_index c at.Char i = chunk_index_at_char c.chunks i
@@ -65,7 +65,7 @@ chunk_place c at.Byte i = chunk_place_at_byte c.chunks i
 chunk_place c at.Char i = chunk_place_at_char c.chunks i
 chunk_place c at.LineBreak i = chunk_place_at_line_break c.breaks c.chunks i
 
--- the refusal, if there is one, and else this reply
+-- the error, if there is one, else this reply
 abbrev pub refusal_or : Option Error → Reply → Reply
 refusal_or (Some error) r = reply.Refused error
 refusal_or None r = r
@@ -80,25 +80,26 @@ abbrev pub IsTextsReply : Reply → List (List ℕ) → Type 0
 IsTextsReply (reply.Texts v) texts = map (λ s. chars (string_bytes s)) v.items ≡ texts
 IsTextsReply _ texts = ⊥
 
--- the reply has this chunk, and what lies before it
+-- the reply has this chunk, and the counts before it
 abbrev pub IsChunkReply : Reply → FoundChunk → Type 0
 IsChunkReply (reply.Chunk s bytes characters count) found = IsFoundChunk found (chars (string_bytes s)) bytes characters count
 IsChunkReply _ found = ⊥
 
--- how the part is ordered against another, of the ropes that there are: first the rope is looked for, and then its part
+-- the order of the slice against another one of these ropes: first the rope is looked up, then its
+-- slice
 abbrev pub Compares : List Content → Content → ℕ → Option (ℕ × ℕ) → Reply → Type 0
 Compares ropes c other range r =
     MatchOption (slice_get ropes other) (r ≡ reply.NoRope)
     (λ rope. MatchOption (part_of rope range) (r ≡ reply.NoSlice) (λ part. r ≡ reply.Order (text_cmp c.text part.text)))
 
--- what a cursor gives that starts at an index and does these moves
+-- the reply to a cursor that starts at an index and makes these moves
 abbrev pub AnswersWalk : Content → units.Unit → ℕ → List Move → Reply → Type 0
 AnswersWalk c unit.Bytes i moves r = Walks IsByteItem (nat_le i (byte_len c.text)) (encode_utf8_all c.text) i moves r
 AnswersWalk c unit.Chars i moves r = Walks IsCharItem (nat_le i (length c.text)) c.text i moves r
 AnswersWalk c unit.Lines i moves r = Walks IsLineItem (nat_le i (line_count c.breaks c.text)) (lines_of c) i moves r
 AnswersWalk c (unit.Chunks at) i moves r = Walks IsTextItem (is_inside c at i) c.chunks (chunk_place c at i) moves r
 
--- of these ropes a part may be replied so to a query
+-- the reply to a query of a slice, given these ropes
 abbrev pub Answers : List Content → Content → Query → Reply → Type 0
 Answers ropes c query.Lens r = r ≡ reply.Lens (byte_len c.text) (length c.text) (line_count c.breaks c.text) (utf16_len c.text)
 Answers ropes c query.Show r = IsTextReply r c.text

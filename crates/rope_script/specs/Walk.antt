@@ -1,4 +1,4 @@
--- What a cursor gives that does some moves.
+-- The items of a cursor that makes some moves.
 use Rattle.std.specs.Prelude.{◌≡◌, ℕ, Bool, true, List, [], ◌∷◌, ⊤, MatchBool, Option, Some, None}
 use Rattle.std.specs.List.{AllZip}
 use Rattle.std.specs.Str.{chars}
@@ -12,7 +12,7 @@ use Rattle.rope_script.specs.declared.script.Item.TheVariants as item
 use Rattle.rope_script.specs.declared.script.Reply.{Reply}
 use Rattle.rope_script.specs.declared.script.Reply.TheVariants as reply
 
--- what each step of a cursor gives, in order; a turn gives nothing
+-- the result of each step of a cursor, in order; a reversal has none
 abbrev pub walk : {X : Type 0} → Cursor X → List Move → List (Option X)
 walk c [] = []
 walk c (Next ∷ moves) = next_item c ∷ walk (after_next c) moves
@@ -37,23 +37,23 @@ abbrev pub IsLineItem : Item → Content → Type 0
 IsLineItem item line = IsTextItem item line.text
 
 module _ {X : Type 0} (shows : Item → X → Type 0) where
-  -- both are nothing, or the item shows the value
+  -- both are none, or the item shows the value
   abbrev pub ShowsOption : Option Item → Option X → Type 0
   ShowsOption None None = ⊤
   ShowsOption (Some item) (Some value) = shows item value
   ShowsOption None (Some value) = ⊥
   ShowsOption (Some item) None = ⊥
 
-  -- the items are what a cursor gives that does these moves
+  -- the items are the results of a cursor that makes these moves
   abbrev pub Gives : Cursor X → List Move → List (Option Item) → Type 0
   Gives c moves items = AllZip ShowsOption items (walk c moves)
 
-  -- the reply has what a cursor gives that does these moves
+  -- the reply has the results of a cursor that makes these moves
   abbrev pub IsWalkReply : Cursor X → List Move → Reply → Type 0
   IsWalkReply c moves (reply.Walk v) = Gives c moves v.items
   IsWalkReply c moves _ = ⊥
 
-  -- the walk of a list from a place, facing forward, if the start is inside
+  -- the walk of a list from an index, facing forward, if the start is in bounds
   abbrev pub Walks : Bool → List X → ℕ → List Move → Reply → Type 0
   Walks is_inside items place moves r =
       MatchBool is_inside (IsWalkReply (record { items = items; place = place; forward = true }) moves r) (r ≡ reply.Absent)

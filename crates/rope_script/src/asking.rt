@@ -1,4 +1,4 @@
-//! What is asked of ropes and their parts. A rope is asked as the part that is all of it.
+//! Queries of ropes and their slices. A query of a rope is one of the slice of all of it.
 ghost use Rattle.std.specs.Prelude.{◌≡◌, ℕ, true, false, nat_lt, length, slice_get, Option, None, Some, IfErr, IfOk, MatchOption, MatchBool, map};
 ghost use Rattle.std.specs.Str.{chars, encode_utf8_all};
 ghost use Rattle.rope_text.specs.declared.error.Error.{Error};
@@ -25,14 +25,14 @@ use rope_position::{Position, Positions};
 use ropey::{Result, Rope, RopeSlice};
 use std::alloc::Global;
 
-/// A part of a rope, or none where the range is not in it.
+/// Returns a slice of a rope, or `None` if the range is out of bounds.
 pub(crate) fn part_of(rope: &Rope, range: Option<(usize, usize)>) -> Option<RopeSlice<'_>>
     ensures { MatchOption result (of_parts.part_of (content rope.now) range ≡ None)
         (λ part. of_parts.part_of (content rope.now) range ≡ Some (content_of part)) }
 {
     match range {
         None => {
-            // says that no chunk is empty, so that all of them are those of the slice
+            // ensures that no chunk is empty, so that all of them are those of the slice
             let _ = rope.len_bytes();
             Some(rope.slice(..))
         }
@@ -40,7 +40,7 @@ pub(crate) fn part_of(rope: &Rope, range: Option<(usize, usize)>) -> Option<Rope
     }
 }
 
-/// Asks a part of a rope.
+/// Runs a query of a slice of a rope.
 pub(crate) fn ask(
     alloc: Global,
     ropes: &[Rope],
@@ -61,7 +61,7 @@ pub(crate) fn ask(
     }
 }
 
-/// Answers a query of a part.
+/// Returns the reply to a query of a slice.
 fn answer(alloc: Global, ropes: &[Rope], part: &RopeSlice<'_>, query: &Query) -> Result<Reply>
     ensures answer { IfOk result (Answers (map content ropes.now) (content_of part.now) query.now) }
     ensures memory { IfErr result (λ e. e ≡ OutOfMemory) }
@@ -83,7 +83,7 @@ fn answer(alloc: Global, ropes: &[Rope], part: &RopeSlice<'_>, query: &Query) ->
     }
 }
 
-/// The lengths of a part.
+/// Returns the lengths of a slice.
 fn lens(part: &RopeSlice<'_>) -> Reply
     ensures { result
         ≡ Reply.Lens (byte_len (text_of part.now)) (length (text_of part.now))
@@ -97,7 +97,7 @@ fn lens(part: &RopeSlice<'_>) -> Reply
     )
 }
 
-/// The reply to a number that may be refused.
+/// Returns the reply for a number or an error.
 fn number_reply(number: Result<usize>) -> Reply
     ensures { (error : Option Error) (value : ℕ) → number ≡ checked error value
         → result ≡ refusal_or error (Reply.Number value) }
@@ -108,7 +108,7 @@ fn number_reply(number: Result<usize>) -> Reply
     }
 }
 
-/// An index of a part, converted.
+/// Converts an index of a slice.
 fn convert(part: &RopeSlice<'_>, conv: Conv, index: usize) -> Result<usize>
     ensures { result ≡ checked (conversion_error (content_of part.now) conv index) (conversion
         (content_of part.now) conv index) }
@@ -125,7 +125,7 @@ fn convert(part: &RopeSlice<'_>, conv: Conv, index: usize) -> Result<usize>
     }
 }
 
-/// A byte of a part.
+/// Returns a byte of a slice.
 fn byte(part: &RopeSlice<'_>, byte_idx: usize) -> Reply
     ensures { MatchOption (slice_get (encode_utf8_all (text_of part.now)) byte_idx)
         (result ≡ Reply.Absent) (λ byte. result ≡ Reply.Byte byte) }
@@ -136,7 +136,7 @@ fn byte(part: &RopeSlice<'_>, byte_idx: usize) -> Reply
     }
 }
 
-/// A character of a part.
+/// Returns a character of a slice.
 fn character(part: &RopeSlice<'_>, char_idx: usize) -> Reply
     ensures { MatchOption (slice_get (text_of part.now) char_idx) (result ≡ Reply.Absent)
         (λ character. result ≡ Reply.Char character) }
@@ -147,7 +147,7 @@ fn character(part: &RopeSlice<'_>, char_idx: usize) -> Reply
     }
 }
 
-/// A line of a part.
+/// Returns a line of a slice.
 fn line(alloc: Global, part: &RopeSlice<'_>, line_idx: usize) -> Result<Reply>
     ensures line { IfOk result
         (λ reply. MatchBool (nat_lt line_idx (line_count (breaks_of part.now) (text_of part.now)))
@@ -161,8 +161,8 @@ fn line(alloc: Global, part: &RopeSlice<'_>, line_idx: usize) -> Result<Reply>
     }
 }
 
-/// The chunk of a part that an index looks up, with what lies before it, or none where the index is
-/// past the end.
+/// Looks up the chunk of a slice at an index, with the counts before it. Returns `None` if the
+/// index is past the end.
 fn find_chunk<'a>(
     part: &RopeSlice<'a>,
     at: At,
@@ -181,7 +181,7 @@ fn find_chunk<'a>(
     }
 }
 
-/// The chunk of a part that an index looks up.
+/// Returns the chunk of a slice that an index looks up.
 fn chunk_at(alloc: Global, part: &RopeSlice<'_>, at: At, index: usize) -> Result<Reply>
     ensures chunk { IfOk result (λ reply. MatchBool (is_inside (content_of part.now) at index)
         (IsChunkReply reply (found_chunk (breaks_of part.now) (chunks_of part.now) (chunk_index
@@ -197,7 +197,7 @@ fn chunk_at(alloc: Global, part: &RopeSlice<'_>, at: At, index: usize) -> Result
     }
 }
 
-/// How a part is ordered against a part of one of the ropes.
+/// Compares a slice with a slice of one of the ropes.
 fn compare(
     ropes: &[Rope],
     part: &RopeSlice<'_>,
@@ -215,7 +215,7 @@ fn compare(
     }
 }
 
-/// The position of a character of a part.
+/// Returns the position of a character of a slice.
 fn to_position(part: &RopeSlice<'_>, char_idx: usize) -> Reply
     ensures { result
         ≡ refusal_or (char_index_error char_idx (length (text_of part.now)))
@@ -228,7 +228,7 @@ fn to_position(part: &RopeSlice<'_>, char_idx: usize) -> Reply
     }
 }
 
-/// The character of a part at a position.
+/// Returns the character of a slice at a position.
 fn from_position(part: &RopeSlice<'_>, line: usize, column: usize) -> Reply
     ensures { result
         ≡ refusal_or (position_error (breaks_of part.now) (text_of part.now) line column)

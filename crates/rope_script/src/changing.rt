@@ -31,7 +31,7 @@ pub(crate) fn insert_char(ropes: &mut Vec<Rope>, rope: usize, char_idx: usize, c
     reply_to_edit(ropes[rope].try_insert_char(char_idx, c))
 }
 
-/// A range by its two bounds, each `None` where it is open.
+/// A range by its two bounds, each `None` if it is open.
 #[derive(Clone, Copy)]
 struct Bounds {
     start: Option<usize>,
@@ -68,8 +68,8 @@ pub(crate) fn remove(
     reply_to_edit(ropes[rope].try_remove(Bounds { start, end }))
 }
 
-/// Puts the text of one rope behind that of another. What their line breaks or their lengths forbid
-/// is refused before a clone is made, so that this takes no memory.
+/// Appends the text of one rope to another. Checks line breaks and lengths before it makes a clone,
+/// so that an error takes no memory.
 pub(crate) fn join(ropes: &mut Vec<Rope>, rope: usize, other: usize) -> Reply
     ensures { Joins rope other (map content ropes.old.items) result (map content ropes.new.items) }
 {
@@ -85,7 +85,7 @@ pub(crate) fn join(ropes: &mut Vec<Rope>, rope: usize, other: usize) -> Reply
     }
 }
 
-/// Why the text of a second rope may not stand behind that of the first.
+/// Returns the error of an append of the second rope to the first, except `OutOfMemory`.
 fn join_error(rope: &Rope, other: &Rope) -> Option<Error>
     ensures error { result
         ≡ append_error rope.now.breaks other.now.breaks rope.now.text other.now.text }
@@ -113,7 +113,7 @@ pub(crate) fn shrink(ropes: &mut Vec<Rope>, rope: usize) -> Reply
     reply_to_edit(ropes[rope].shrink_to_fit())
 }
 
-/// The reply to an edit that was done or refused.
+/// Returns the reply to an edit that was done or failed.
 fn reply_to_edit(edit: Result<()>) -> Reply
     ensures { result ≡ edit_reply edit }
 {

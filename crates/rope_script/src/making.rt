@@ -1,4 +1,4 @@
-//! Ropes that are made: empty, of a text, of another rope.
+//! Making ropes: empty, of a text, of another rope.
 ghost use Rattle.std.specs.Prelude.{◌≡◌, ◌<◌, ◌++◌, ◌∷◌, [], length, OnErr, IfErr, IfOk, vec_len, vec_capacity, map};
 ghost use Rattle.std.specs.Str.{chars};
 ghost use Rattle.rope_text.specs.declared.error.Error.TheVariants.{OutOfMemory};
@@ -29,7 +29,7 @@ pub(crate) fn make_empty(alloc: Global, ropes: &mut Vec<Rope>) -> Result<Reply>
     }
 }
 
-/// Adds a rope of this text with these line breaks.
+/// Adds a rope of the text with the given line breaks.
 pub(crate) fn make_text(
     alloc: Global,
     ropes: &mut Vec<Rope>,
@@ -72,7 +72,7 @@ pub(crate) fn make_clone(ropes: &mut Vec<Rope>, rope: usize) -> Result<Reply>
     }
 }
 
-/// Adds a rope of a part of a rope.
+/// Adds a rope of a slice of a rope.
 pub(crate) fn copy(
     alloc: Global,
     ropes: &mut Vec<Rope>,
@@ -98,7 +98,7 @@ pub(crate) fn copy(
     }
 }
 
-/// Cuts a rope in two.
+/// Splits a rope in two.
 pub(crate) fn cut(ropes: &mut Vec<Rope>, rope: usize, char_idx: usize) -> Result<Reply>
     ensures step { IfOk result (λ reply. Cuts rope char_idx (map content ropes.old.items) reply
         (map content ropes.new.items)) }

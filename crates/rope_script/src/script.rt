@@ -1,5 +1,5 @@
-//! What a session of ropes may be asked, and what it replies: commands that make and change ropes,
-//! queries that read them, and a reply for each.
+//! The commands of a session of ropes, which make and change ropes, its queries, which read them,
+//! and their replies.
 use ropey::{Error, LineBreaks};
 use std::cmp::Ordering;
 
@@ -7,63 +7,63 @@ use std::cmp::Ordering;
 /// whole rope.
 pub type Part = (usize, Option<(usize, usize)>);
 
-/// What a session may be asked to do.
+/// A command of a session.
 ///
 /// Ropes are numbered from 0, in the order in which they were made, and each has its set of line
-/// breaks. A command that names a rope which does not exist is replied [`Reply::NoRope`], before
-/// anything else is tested. Indices count characters.
+/// breaks. The reply to a command for a rope that does not exist is [`Reply::NoRope`], before any
+/// other test. Indices count characters.
 #[derive(Drop)]
 pub enum Command {
     /// Makes an empty rope with Unicode's line breaks.
     New,
-    /// Makes a rope of this text with Unicode's line breaks.
+    /// Makes a rope of the text with Unicode's line breaks.
     Text(String),
-    /// Makes a rope of this text with these line breaks.
+    /// Makes a rope of the text with the given line breaks.
     TextWith(LineBreaks, String),
-    /// Makes a clone of a rope, in the same chunks.
+    /// Clones a rope, with the same chunks.
     Clone(usize),
-    /// Makes a rope of a part of a rope, with its line breaks.
+    /// Makes a rope of a slice of a rope, with its line breaks.
     Copy(Part),
-    /// In a rope, before the character of this index, inserts a text.
+    /// Inserts a text into a rope before a character.
     Insert(usize, usize, String),
-    /// In a rope, before the character of this index, inserts a character.
+    /// Inserts a character into a rope before a character.
     InsertChar(usize, usize, char),
-    /// From a rope, removes the characters from a start up to an end, each `None` where it is open.
+    /// Removes from a rope the characters from a start up to an end, each `None` if it is open.
     Remove(usize, Option<usize>, Option<usize>),
-    /// Leaves a rope so many characters, and makes a rope of those behind them.
+    /// Keeps the first characters of a rope, and makes a rope of the rest.
     Cut(usize, usize),
-    /// Puts the text of a second rope behind that of the first. The second stays as it is, and it
-    /// may be the first. Ropes with different line breaks are not joined, also where one is empty.
+    /// Appends the text of a second rope to the first. The second is unchanged, and may be the
+    /// first. Ropes with different line breaks are not joined, even if one is empty.
     Join(usize, usize),
     /// Re-chunks the text of a rope, into at most one chunk for each 981 bytes and one for the
     /// rest.
     Shrink(usize),
-    /// Asks a rope, or its characters from a start up to an end.
+    /// Queries a rope, or its characters from a start up to an end.
     Ask(usize, Option<(usize, usize)>, Query),
 }
 
 /// A conversion of an index.
 #[derive(Clone, Copy, PartialEq, Eq, Debug)]
 pub enum Conv {
-    /// A byte's character.
+    /// From a byte to its character.
     ByteToChar,
-    /// A byte's line.
+    /// From a byte to its line.
     ByteToLine,
-    /// A character's byte.
+    /// From a character to its byte.
     CharToByte,
-    /// A character's line.
+    /// From a character to its line.
     CharToLine,
-    /// A character's code unit of UTF-16.
+    /// From a character to its UTF-16 code unit.
     CharToUtf16,
-    /// The character of a code unit of UTF-16.
+    /// From a UTF-16 code unit to its character.
     Utf16ToChar,
-    /// The byte at which a line starts.
+    /// From a line to its first byte.
     LineToByte,
-    /// The character at which a line starts.
+    /// From a line to its first character.
     LineToChar,
 }
 
-/// What the index counts by which a chunk is looked up.
+/// The unit of an index that looks up a chunk.
 #[derive(Clone, Copy, PartialEq, Eq, Debug)]
 pub enum At {
     /// Bytes.
@@ -74,31 +74,31 @@ pub enum At {
     LineBreak,
 }
 
-/// What a cursor steps through.
+/// The items of a cursor.
 #[derive(Clone, Copy, PartialEq, Eq, Debug)]
 pub enum Unit {
-    /// Bytes, from the one of an index on.
+    /// Bytes, from an index on.
     Bytes,
-    /// Characters, from the one of an index on.
+    /// Characters, from an index on.
     Chars,
-    /// Lines, from the one of an index on.
+    /// Lines, from an index on.
     Lines,
-    /// Chunks, from the one that an index looks up on.
+    /// Chunks, from the one that an index looks up.
     Chunks(At),
 }
 
-/// What a cursor is asked to do.
+/// A move of a cursor.
 #[derive(Clone, Copy, PartialEq, Eq, Debug)]
 pub enum Move {
-    /// Gives the next item.
+    /// Returns the next item.
     Next,
-    /// Gives the item before.
+    /// Returns the previous item.
     Prev,
-    /// Turns round.
+    /// Reverses the direction.
     Reverse,
 }
 
-/// What a rope, or a part of one, may be asked. Its indices count from its own start.
+/// A query of a rope, or of a slice of one, whose indices begin at its own start.
 #[derive(Drop)]
 pub enum Query {
     /// Its lengths.
@@ -109,27 +109,27 @@ pub enum Query {
     Chunks,
     /// Its line breaks.
     Breaks,
-    /// What an index is by a conversion.
+    /// An index in another unit.
     Convert(Conv, usize),
-    /// The byte of an index.
+    /// The byte at an index.
     Byte(usize),
-    /// The character of an index.
+    /// The character at an index.
     Char(usize),
-    /// The line of an index, with its break.
+    /// The line at an index, with its break.
     Line(usize),
     /// The chunk that an index looks up.
     ChunkAt(At, usize),
-    /// What a cursor gives that starts at an index and does these moves.
+    /// The results of a cursor that starts at an index and makes these moves.
     Walk(Unit, usize, Vec<Move>),
-    /// How it is ordered against another part.
+    /// Its order against another slice.
     Compare(Part),
-    /// The position of a character: its line, and its column in code units of UTF-16.
+    /// The position of a character: its line, and its column in UTF-16 code units.
     ToPosition(usize),
     /// The character at a line and a column.
     FromPosition(usize, usize),
 }
 
-/// What a cursor gave.
+/// The result of a cursor's step.
 #[derive(Drop)]
 pub enum Item {
     /// A byte.
@@ -140,22 +140,22 @@ pub enum Item {
     Text(String),
 }
 
-/// What a command is replied.
+/// The reply to a command.
 #[derive(Drop)]
 pub enum Reply {
     /// An edit was done.
     Done,
-    /// A rope was made, and has this number.
+    /// A rope was made, with this number.
     Made(usize),
-    /// There is no rope of the number that the command named, and nothing has changed.
+    /// There is no rope with the command's number. Nothing has changed.
     NoRope,
-    /// The range is none of the rope's, and nothing has changed.
+    /// The range is not within the rope. Nothing has changed.
     NoSlice,
     /// There is no such byte, character, line or chunk, or no such start of a cursor.
     Absent,
-    /// What was asked for was not done or has no answer, and this is why. Nothing has changed.
+    /// The command failed with this error. Nothing has changed.
     Refused(Error),
-    /// How many bytes, characters, lines and UTF-16 code units there are.
+    /// The numbers of bytes, characters, lines and UTF-16 code units.
     Lens(usize, usize, usize, usize),
     /// A converted index, or the character at a position.
     Number(usize),
@@ -171,10 +171,10 @@ pub enum Reply {
     Breaks(LineBreaks),
     /// A chunk, and the bytes, characters and line breaks before it.
     Chunk(String, usize, usize, usize),
-    /// For each step of a cursor what it gave, in order, and `None` where it gave nothing.
+    /// The result of each step of a cursor, in order, `None` at an end.
     Walk(Vec<Option<Item>>),
-    /// How the asked part is ordered against the other.
+    /// The order of the slice against the other.
     Order(Ordering),
-    /// A line, and a column in code units of UTF-16.
+    /// A line, and a column in UTF-16 code units.
     Position(usize, usize),
 }

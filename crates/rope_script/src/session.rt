@@ -30,7 +30,7 @@ impl Model for Session {
 }
 
 impl Session {
-    /// A session with no rope. It takes no memory.
+    /// Returns a session without ropes. Takes no memory.
     pub fn new(alloc: Global) -> Session
         ensures { result ≡ [] }
     {
@@ -40,14 +40,14 @@ impl Session {
         }
     }
 
-    /// Does the commands in order, and adds one reply for each to `replies`.
+    /// Runs the commands in order, and appends a reply for each to `replies`.
     ///
-    /// A command that is refused is replied so, and the run goes on.
+    /// The run continues after a command that fails, which has its own reply.
     ///
     /// # Errors
     ///
-    /// `OutOfMemory` alone, where the list of replies, the list of ropes or the texts of a reply
-    /// could not grow. The command that met it has done nothing, and those before it are done.
+    /// `OutOfMemory` alone, if the list of replies, the list of ropes or the texts of a reply could
+    /// not grow. The command that failed so has done nothing, and those before it are done.
     pub fn run(&mut self, commands: &[Command], replies: &mut Vec<Reply>) -> Result<()>
         ensures run { Ran self.old commands.now replies.old.items replies.new.items self.new }
         ensures all { OnOk result
@@ -64,7 +64,7 @@ impl Session {
         Ok(())
     }
 
-    /// Does one command, and answers its reply. A refusal for memory has done nothing.
+    /// Runs one command and returns its reply. Does nothing when it runs out of memory.
     fn step(&mut self, command: &Command) -> Result<Reply>
         ensures step { IfOk result (λ reply. Step self.old command.now reply self.new) }
         ensures err { OnErr result (self.new ≡ self.old) }
@@ -74,7 +74,7 @@ impl Session {
     }
 }
 
-/// Does one command on ropes, and answers its reply. A refusal for memory has done nothing.
+/// Runs one command on ropes and returns its reply. Does nothing when it runs out of memory.
 fn run_command(alloc: Global, ropes: &mut Vec<Rope>, command: &Command) -> Result<Reply>
     ensures step { IfOk result (λ reply. Step (map content ropes.old.items) command.now reply
         (map content ropes.new.items)) }

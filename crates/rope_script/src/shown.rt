@@ -1,4 +1,4 @@
-//! Texts that replies have: copies, for which memory may be refused.
+//! The texts of replies: copies, which may run out of memory.
 ghost use Rattle.std.specs.Prelude.{◌≡◌, ◌∷◌, [], IfErr, IfOk, MatchOption, map};
 ghost use Rattle.std.specs.Str.{chars};
 ghost use Rattle.std.specs.String.{string_bytes};
@@ -10,7 +10,7 @@ use ropey::iter::Chunks;
 use ropey::{Result, RopeSlice};
 use std::alloc::Global;
 
-/// The chunks of a part, each copied.
+/// Returns copies of the chunks of a slice.
 pub(crate) fn chunk_texts(alloc: Global, part: &RopeSlice<'_>) -> Result<Vec<String>>
     ensures texts { IfOk result
         (λ texts. map (λ s. chars (string_bytes s)) texts.items ≡ chunks_of part.now) }
@@ -24,7 +24,7 @@ pub(crate) fn chunk_texts(alloc: Global, part: &RopeSlice<'_>) -> Result<Vec<Str
     Ok(texts)
 }
 
-/// A copy of the next chunk, if there is one.
+/// Returns a copy of the next chunk, if there is one.
 fn copy_next(alloc: Global, chunks: &mut Chunks<'_>) -> Result<Option<String>>
     ensures next { IfOk result
         (λ next. MatchOption next (ahead chunks.old ≡ [])
@@ -37,7 +37,7 @@ fn copy_next(alloc: Global, chunks: &mut Chunks<'_>) -> Result<Option<String>>
     }
 }
 
-/// A copy of a text.
+/// Returns a copy of a text.
 pub(crate) fn copy_of(alloc: Global, text: &str) -> Result<String>
     ensures text { IfOk result (λ copy. chars (string_bytes copy) ≡ chars text.now) }
     ensures memory { IfErr result (λ e. e ≡ OutOfMemory) }

@@ -1,4 +1,4 @@
-//! Cursors of every kind, as one trait: what each step gives is an item of a reply.
+//! Cursors of every kind, as one trait whose steps return items of replies.
 ghost use Rattle.std.specs.Prelude.{◌≡◌, List, [], ◌∷◌, Option, IfErr, IfOk};
 ghost use Rattle.rope_text.specs.declared.error.Error.TheVariants.{OutOfMemory};
 ghost use Rattle.rope_script.specs.declared.script.Item as items;
@@ -10,25 +10,25 @@ use ropey::Result;
 use ropey::iter::{Bytes, Chars, Chunks, Lines};
 use std::alloc::Global;
 
-/// A cursor that is led by moves.
+/// A cursor that makes moves.
 pub(crate) trait Walker {
     ghost gives: { Self → List moves.Move → List (Option items.Item) → Type 0 };
 
-    /// The next item, or none at the end, where it stays.
+    /// Returns the next item, or `None` at the end.
     fn next_item(&mut self, alloc: Global) -> Result<Option<Item>>
         ensures item { IfOk result
             (λ item. (moves : List moves.Move) (items : List (Option items.Item))
             → gives self.new moves items → gives self.old (Move.Next ∷ moves) (item ∷ items)) }
         ensures memory { IfErr result (λ e. e ≡ OutOfMemory) };
 
-    /// The item before, or none at the start, where it stays.
+    /// Returns the previous item, or `None` at the start.
     fn prev_item(&mut self, alloc: Global) -> Result<Option<Item>>
         ensures item { IfOk result
             (λ item. (moves : List moves.Move) (items : List (Option items.Item))
             → gives self.new moves items → gives self.old (Move.Prev ∷ moves) (item ∷ items)) }
         ensures memory { IfErr result (λ e. e ≡ OutOfMemory) };
 
-    /// Turns it round.
+    /// Reverses the direction.
     fn turn(&mut self)
         ensures { (moves : List moves.Move) (items : List (Option items.Item))
             → gives self.new moves items → gives self.old (Move.Reverse ∷ moves) items };

@@ -1,4 +1,4 @@
-//! Walks of cursors over a part.
+//! Walks of cursors over a slice.
 ghost use Rattle.std.specs.Prelude.{◌≡◌, true, false, nat_le, length, IfErr, IfOk, MatchOption};
 ghost use Rattle.std.specs.Str.{encode_utf8_all};
 ghost use Rattle.rope_text.specs.declared.error.Error.TheVariants.{OutOfMemory};
@@ -16,7 +16,7 @@ use ropey::iter::Chunks;
 use ropey::{Result, RopeSlice};
 use std::alloc::Global;
 
-/// What a cursor gives that starts at an index and does these moves.
+/// Returns the results of a cursor that starts at an index and makes these moves.
 pub(crate) fn walk(
     alloc: Global,
     part: &RopeSlice<'_>,
@@ -88,8 +88,8 @@ fn walk_chunks(
     }
 }
 
-/// A cursor over the chunks, before the one that an index looks up, or none where the index is past
-/// the end.
+/// Returns a cursor before the chunk that an index looks up, or `None` if the index is past the
+/// end.
 fn chunks_from<'a>(part: &RopeSlice<'a>, at: At, index: usize) -> Option<Chunks<'a>>
     ensures { MatchOption result (is_inside (content_of part.now) at index ≡ false)
         (λ chunks. (is_inside (content_of part.now) at index ≡ true)
@@ -107,7 +107,7 @@ fn chunks_from<'a>(part: &RopeSlice<'a>, at: At, index: usize) -> Option<Chunks<
     }
 }
 
-/// What a cursor gives that does these moves.
+/// Returns the results of a cursor that makes these moves.
 fn items<W: Walker>(alloc: Global, walker: &mut W, moves: &[Move]) -> Result<Vec<Option<Item>>>
     ensures items { IfOk result (λ given. W.gives walker.old moves.now given.items) }
     ensures memory { IfErr result (λ e. e ≡ OutOfMemory) }
