@@ -1,4 +1,4 @@
--- Bytes that are put after one another.
+-- Bytes put one after another.
 use Rattle.std.proofs.Common.{◌≡◌, ℕ, List, [], ◌∷◌, ◌++◌, Option, Some, None, Result, Ok, Err, OnOk, ◌+◌, ◌<◌, get_or, length, take, refl, sym, ap, subst, ◌∙◌, append_assoc}
 use Rattle.std.specs.Io.KnownBytes.{Appends}
 use Rattle.std.proofs.lemmas.List.{append-nil, take_more}
@@ -50,7 +50,7 @@ PutsRun-both r s t o p q a b c x y = record {
   put = subst (Puts o q a c) (sym (flat_map-append reply_line x.replies y.replies)) (Puts-both o p q a b c (reply_lines x.replies) (reply_lines y.replies) x.put y.put);
 }
 
--- what was gathered is written behind a run
+-- the buffered bytes are written after a run
 pub PutsRun-on : (r s : List Content) (o p q : Option (List ℕ)) (a b c : List ℕ) → PutsRun r s o p a b → Puts p q b c [] → PutsRun r s o q a c
 PutsRun-on r s o p q a b c x y = record {
   commands = x.commands;
@@ -59,11 +59,11 @@ PutsRun-on r s o p q a b c x y = record {
   put = subst (Puts o q a c) (append-nil (reply_lines x.replies)) (Puts-both o p q a b c (reply_lines x.replies) [] x.put y);
 }
 
--- nothing was written behind a run
+-- nothing was written after a run
 pub PutsRun-kept : (r s : List Content) (o p q : Option (List ℕ)) (a b c : List ℕ) → PutsRun r s o p a b → q ≡ p → c ≡ b → PutsRun r s o q a c
 PutsRun-kept r s o p q a b c x e f = subst (λ z. PutsRun r s o z a c) (sym e) (subst (λ z. PutsRun r s o p a z) (sym f) x)
 
--- one command was run, and what was written for its replies was put
+-- one command was run, and the lines of its replies were put
 pub PutsRun-ran : (r s : List Content) (o p : Option (List ℕ)) (a b : List ℕ) (commands : List Command) (replies : List Reply) (bytes : List ℕ)
     → Ran r commands [] replies s → bytes ≡ reply_lines replies → Puts o p a b bytes → PutsRun r s o p a b
 PutsRun-ran r s o p a b commands replies bytes ran is put = record {
@@ -73,18 +73,18 @@ PutsRun-ran r s o p a b commands replies bytes ran is put = record {
   put = subst (Puts o p a b) (is ∙ ap reply_lines ran.appended) put;
 }
 
--- what was gathered is written, and then a long reply
+-- the buffered bytes are written, and then a long reply
 pub Puts-written : {E : Type 0} (r : Result (Unit {0}) E) (o p q : Option (List ℕ)) (before after reply : List ℕ) → Appends o p before → after ≡ [] → OnOk r (Appends p q reply) → OnOk r (Puts o q before after reply)
 Puts-written (Ok v) o p q before after reply x e y = record { out = before ++ reply; appended = Appends-both o p q before reply x y; joined = ap (λ zs. (before ++ reply) ++ zs) e ∙ append-nil (before ++ reply) }
 Puts-written (Err v) o p q before after reply x e y = tt
 
--- the line of one reply more
+-- the line of one more reply
 pub reply_lines-next : (replies : List Reply) (i : ℕ) (reply : Reply) → i < length replies → reply ≡ get_or replies i reply
     → reply_lines (take i replies) ++ reply_line reply ≡ reply_lines (take (i + 1) replies)
 reply_lines-next replies i reply h e =
     sym (flat_map-push reply_line (take i replies) reply) ∙ ap reply_lines (sym (take_more replies i reply h ∙ ap (λ y. take i replies ++ y ∷ []) (sym e)))
 
--- what was gathered last is written too
+-- the last buffered bytes are written too
 pub WritesReplies-flushed : (left : List Content) (o p q : Option (List ℕ)) (after : List ℕ) → PutsRun [] left o p [] after → Appends p q after → WritesReplies o q
 WritesReplies-flushed left o p q after x f = record {
   commands = x.commands;

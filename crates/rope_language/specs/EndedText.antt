@@ -1,10 +1,10 @@
--- The texts of how runs ended.
+-- The texts of the outcomes of runs.
 use Rattle.std.specs.Prelude.{ℕ, List, [], ◌++◌, codes}
 use Rattle.std.specs.Fmt.{decimal}
 use Rattle.rope_language.specs.declared.ended.Ended.{Ended}
 use Rattle.rope_language.specs.declared.ended.Ended.TheVariants.{Done, BadLine, OutOfMemory, Failed}
 
--- what is said of how a run ended: nothing where its input did
+-- the text of an outcome: empty if the input ended
 abbrev pub ended_text : Ended → List ℕ
 ended_text Done = []
 ended_text (BadLine number) = codes "bad line " ++ decimal number

@@ -1,4 +1,4 @@
--- A reply as the line that is written for it, in UTF-8.
+-- The line of a reply, in UTF-8.
 use Rattle.std.specs.Prelude.{ℕ, Bool, false, ◌==◌, ◌||◌, List, [], ◌∷◌, ◌++◌, length, nat_lt, codes, encode_utf8, Option, Some, None, if◌then◌else◌}
 use Rattle.std.specs.List.{flat_map}
 use Rattle.std.specs.Fmt.{decimal, digits}
@@ -18,7 +18,8 @@ use Rattle.rope_script.specs.declared.script.Item.TheVariants as item
 abbrev pub is_control : ℕ → Bool
 is_control c = nat_lt c 0x20 || c == 0x7f || c == 0x85 || c == 0x2028 || c == 0x2029
 
--- a character of a quoted text: LF, CR, a backslash and a quotation mark by a backslash and a sign, a control by its number, and any other as itself
+-- a character of a quoted text: LF, CR, a backslash and a quotation mark as a backslash and a
+-- letter or sign, a control as its number, and any other as itself
 abbrev pub quoted_char : ℕ → List ℕ
 quoted_char c =
     if c == 10 then codes "\\n"
@@ -44,7 +45,7 @@ order_word Less = codes "less"
 order_word Equal = codes "equal"
 order_word Greater = codes "greater"
 
--- what a step of a cursor gave
+-- the word for the result of a cursor's step
 abbrev pub item_words : Option Item → List ℕ
 item_words None = codes "-"
 item_words (Some (item.Byte b)) = decimal b
@@ -72,7 +73,7 @@ reply_words (Walk v) = decimal (length v.items) ++ flat_map (λ found. codes " "
 reply_words (Order order) = order_word order
 reply_words (Position line column) = decimal line ++ (codes " " ++ decimal column)
 
--- its line, the LF with it
+-- the line of a reply, with its LF
 abbrev pub reply_line : Reply → List ℕ
 reply_line reply = reply_words reply ++ 10 ∷ []
 

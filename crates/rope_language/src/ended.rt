@@ -1,4 +1,4 @@
-//! How a run over lines ended: the status of its program, and what is said of it.
+//! The outcome of a run over lines: the program's exit status, and a text.
 //!
 //! `Ended::BadLine(2)` prints `bad line 2`, and its status is 2.
 ghost use Rattle.std.specs.Prelude.{◌≡◌, ℕ, Some};
@@ -6,23 +6,23 @@ ghost use Rattle.rope_language.specs.EndedText.{ended_text};
 
 use std::fmt;
 
-/// How a run over lines ended.
+/// The outcome of a run over lines.
 ///
-/// `Display` prints what went wrong, and nothing where the input ended.
+/// `Display` prints the error, and nothing if the input ended.
 #[derive(Clone, Copy, Debug, PartialEq, Eq)]
 pub enum Ended {
     /// The input ended.
     Done,
-    /// This line, counted from 1, is not of the language.
+    /// The line with this number, from 1, is not a command.
     BadLine(u64),
-    /// Memory was refused for a line, a command or a reply.
+    /// An allocation failed for a line, a command or a reply.
     OutOfMemory,
     /// A read or a write failed.
     Failed,
 }
 
 impl Ended {
-    /// The status of a program whose run ended so.
+    /// Returns the exit status of a program with this outcome.
     pub fn status(self) -> u8
         ensures done { self ≡ Ended.Done → result ≡ 0 }
         ensures bad_line { (number : ℕ) → self ≡ Ended.BadLine number → result ≡ 2 }

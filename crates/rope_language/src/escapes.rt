@@ -1,33 +1,33 @@
-//! Texts as the lines of the language write them.
+//! Texts with escapes, as lines have them.
 use std::alloc::{AllocError, Global};
 
-/// How far an escape has come.
+/// The state of an escape.
 #[derive(Clone, Copy)]
 enum Escape {
     /// No escape has begun.
     Outside,
-    /// A backslash.
+    /// A backslash was read.
     Backslash,
-    /// A backslash and `u`.
+    /// A backslash and `u` were read.
     Unicode,
-    /// A backslash, `u{`, and so many hexadecimal digits of this value.
+    /// A backslash, `u{`, and a number of hexadecimal digits with this value were read.
     Digits(u32, u8),
 }
 
-/// What a character of a line makes.
+/// The result of a character of a line.
 enum Made {
     /// A character of the text. No escape is open after it.
     Character(char),
-    /// A part of an escape.
+    /// An escape that continues.
     Part(Escape),
 }
 
-/// The most hexadecimal digits that an escape has.
+/// The maximum number of hexadecimal digits of an escape.
 const MAX_DIGITS: u8 = 6;
 
-/// The text that a TEXT stands for, or `None` where a backslash is misused: `\n`, `\r`, `\\` and
-/// `\u{H}`, with 1 to 6 hexadecimal digits of a Unicode scalar value, are LF, CR, a backslash and
-/// that character.
+/// Returns the text that a TEXT stands for, or `None` if a backslash is misused: `\n`, `\r`, `\\`
+/// and `\u{H}`, with 1 to 6 hexadecimal digits of a Unicode scalar value, are LF, CR, a backslash
+/// and that character.
 pub(crate) fn unescape(alloc: Global, written: &str) -> Result<Option<String>, AllocError> {
     let mut text = String::new(alloc);
     let mut escape = Escape::Outside;
@@ -47,7 +47,7 @@ pub(crate) fn unescape(alloc: Global, written: &str) -> Result<Option<String>, A
     }
 }
 
-/// What the next character makes, or `None` where it may not stand there.
+/// Returns the result of the next character, or `None` if it is not allowed there.
 fn read(escape: Escape, c: char) -> Option<Made> {
     match (escape, c) {
         (Escape::Outside, '\\') => Some(Made::Part(Escape::Backslash)),
@@ -62,7 +62,7 @@ fn read(escape: Escape, c: char) -> Option<Made> {
     }
 }
 
-/// What a character makes after so many hexadecimal digits of this value.
+/// Returns the result of a character after `count` hexadecimal digits with this value.
 fn read_digit(value: u32, count: u8, c: char) -> Option<Made> {
     if c == '}' {
         if count == 0 {

@@ -1,27 +1,27 @@
-//! Commands as lines of text.
+//! The parser of command lines.
 use crate::escapes::unescape;
 use crate::words::{bound, conversion, line_breaks, moves, number, only_char, part, place, unit};
 use rope_script::{At, Command, Part, Query, Unit};
 use std::alloc::{AllocError, Global};
 
-/// The command of a line without its end, or `None` where the line is bad.
+/// Parses a line, without its end, as a command. Returns `None` if the line is bad.
 ///
-/// A line is words, each parted from the next by one space:
+/// A line is words, separated by single spaces:
 ///
 /// - `new`, `text TEXT`, `textb SET TEXT`, `clone ROPE`, `copy PART` make ropes;
 /// - `ins ROPE INDEX TEXT`, `insc ROPE INDEX CHAR`, `del ROPE BOUND BOUND`, `cut ROPE INDEX`,
 ///   `join ROPE ROPE`, `fit ROPE` edit them;
 /// - `len PART`, `show PART`, `chunks PART`, `breaks PART`, `byte PART INDEX`, `char PART INDEX`,
-///   `line PART INDEX`, `cmp PART PART`, `c2p PART INDEX`, `p2c PART LINE COLUMN` ask;
-/// - so do the conversions `b2c`, `b2l`, `c2b`, `c2l`, `c2u`, `u2c`, `l2b`, `l2c`, as `b2c PART
-///   INDEX`, of bytes, characters, lines and code units of UTF-16;
+///   `line PART INDEX`, `cmp PART PART`, `c2p PART INDEX`, `p2c PART LINE COLUMN` are queries;
+/// - so are the conversions `b2c`, `b2l`, `c2b`, `c2l`, `c2u`, `u2c`, `l2b`, `l2c`, as
+///   `b2c PART INDEX`, of bytes, characters, lines and UTF-16 code units;
 /// - and `chunk PART b INDEX`, where `c` and `l` stand for characters and line breaks, and
 ///   `walk PART UNIT INDEX MOVES`.
 ///
 /// A PART is `ROPE`, or `ROPE:START..END` for a range of characters. A SET is `lf`, `crlf` or
 /// `unicode`. A TEXT is the rest of the line and may be empty; a CHAR is a TEXT of one character. A
-/// BOUND is a number, or `-` where it is open. A UNIT is `bytes`, `chars`, `lines`, `chunks-b`,
-/// `chunks-c` or `chunks-l`; MOVES are one letter or more of `n`, `p` and `r`.
+/// BOUND is a number, or `-` if it is open. A UNIT is `bytes`, `chars`, `lines`, `chunks-b`,
+/// `chunks-c` or `chunks-l`; MOVES are one or more letters of `n`, `p` and `r`.
 pub(crate) fn parse(alloc: Global, line: &str) -> Result<Option<Command>, AllocError> {
     let Some((name, words)) = line.split_once(' ') else {
         return Ok(lone(line));
@@ -42,7 +42,7 @@ pub(crate) fn parse(alloc: Global, line: &str) -> Result<Option<Command>, AllocE
     }
 }
 
-/// The command that is one word.
+/// Parses a command of one word.
 fn lone(word: &str) -> Option<Command> {
     match word {
         "new" => Some(Command::New),
@@ -50,7 +50,7 @@ fn lone(word: &str) -> Option<Command> {
     }
 }
 
-/// `TEXT`, of a rope to be made.
+/// Parses `TEXT`, of a rope to make.
 fn make(alloc: Global, words: &str) -> Result<Option<Command>, AllocError> {
     match unescape(alloc, words)? {
         Some(text) => Ok(Some(Command::Text(text))),
@@ -58,7 +58,7 @@ fn make(alloc: Global, words: &str) -> Result<Option<Command>, AllocError> {
     }
 }
 
-/// `SET TEXT`, of a rope to be made.
+/// Parses `SET TEXT`, of a rope to make.
 fn make_with(alloc: Global, words: &str) -> Result<Option<Command>, AllocError> {
     let Some((word, text)) = words.split_once(' ') else {
         return Ok(None);
@@ -72,17 +72,17 @@ fn make_with(alloc: Global, words: &str) -> Result<Option<Command>, AllocError> 
     }
 }
 
-/// `ROPE`, of a clone.
+/// Parses `ROPE`, of a clone.
 fn clone(words: &str) -> Option<Command> {
     Some(Command::Clone(number(words)?))
 }
 
-/// `PART`, of a copy.
+/// Parses `PART`, of a copy.
 fn copy(words: &str) -> Option<Command> {
     Some(Command::Copy(part(words)?))
 }
 
-/// `ROPE INDEX TEXT`, of an insert.
+/// Parses `ROPE INDEX TEXT`, of an insert.
 fn insert(alloc: Global, words: &str) -> Result<Option<Command>, AllocError> {
     let Some((rope, char_idx, text)) = place(words) else {
         return Ok(None);
@@ -93,7 +93,7 @@ fn insert(alloc: Global, words: &str) -> Result<Option<Command>, AllocError> {
     }
 }
 
-/// `ROPE INDEX CHAR`, of an insert.
+/// Parses `ROPE INDEX CHAR`, of an insert.
 fn insert_char(alloc: Global, words: &str) -> Result<Option<Command>, AllocError> {
     let Some((rope, char_idx, text)) = place(words) else {
         return Ok(None);
@@ -107,31 +107,31 @@ fn insert_char(alloc: Global, words: &str) -> Result<Option<Command>, AllocError
     }
 }
 
-/// `ROPE BOUND BOUND`, of a removal.
+/// Parses `ROPE BOUND BOUND`, of a removal.
 fn remove(words: &str) -> Option<Command> {
     let (rope, bounds) = words.split_once(' ')?;
     let (start, end) = bounds.split_once(' ')?;
     Some(Command::Remove(number(rope)?, bound(start)?, bound(end)?))
 }
 
-/// `ROPE INDEX`, of a cut.
+/// Parses `ROPE INDEX`, of a split.
 fn cut(words: &str) -> Option<Command> {
     let (rope, char_idx) = words.split_once(' ')?;
     Some(Command::Cut(number(rope)?, number(char_idx)?))
 }
 
-/// `ROPE ROPE`, of ropes to be joined.
+/// Parses `ROPE ROPE`, of an append.
 fn join(words: &str) -> Option<Command> {
     let (rope, other) = words.split_once(' ')?;
     Some(Command::Join(number(rope)?, number(other)?))
 }
 
-/// `ROPE`, of a rope whose text is to be re-chunked.
+/// Parses `ROPE`, of a rope to re-chunk.
 fn shrink(words: &str) -> Option<Command> {
     Some(Command::Shrink(number(words)?))
 }
 
-/// `PART UNIT INDEX MOVES`, of a walk.
+/// Parses `PART UNIT INDEX MOVES`, of a walk.
 fn walk(alloc: Global, words: &str) -> Result<Option<Command>, AllocError> {
     let Some((asked, unit, index, letters)) = walk_start(words) else {
         return Ok(None);
@@ -145,7 +145,7 @@ fn walk(alloc: Global, words: &str) -> Result<Option<Command>, AllocError> {
     }
 }
 
-/// `PART UNIT INDEX`, and what follows one more space.
+/// Parses `PART UNIT INDEX`, and returns the text after one more space too.
 fn walk_start(words: &str) -> Option<(Part, Unit, usize, &str)> {
     let (asked, words) = words.split_once(' ')?;
     let (name, words) = words.split_once(' ')?;
@@ -153,7 +153,7 @@ fn walk_start(words: &str) -> Option<(Part, Unit, usize, &str)> {
     Some((part(asked)?, unit(name)?, number(index)?, letters))
 }
 
-/// `PART`, and what is asked of it.
+/// Parses `PART` and its query.
 fn ask(name: &str, words: &str) -> Option<Command> {
     let (asked, query) = match words.split_once(' ') {
         None => (words, query(name)?),
@@ -163,7 +163,7 @@ fn ask(name: &str, words: &str) -> Option<Command> {
     Some(Command::Ask(rope, range, query))
 }
 
-/// A query that is one word.
+/// Parses a query of one word.
 fn query(name: &str) -> Option<Query> {
     match name {
         "len" => Some(Query::Lens),
@@ -174,7 +174,7 @@ fn query(name: &str) -> Option<Query> {
     }
 }
 
-/// A query with what follows the part that is asked.
+/// Parses a query with the words after its `PART`.
 fn query_with(name: &str, words: &str) -> Option<Query> {
     match name {
         "byte" => Some(Query::Byte(number(words)?)),
@@ -188,7 +188,7 @@ fn query_with(name: &str, words: &str) -> Option<Query> {
     }
 }
 
-/// `UNIT INDEX`, of a chunk.
+/// Parses `UNIT INDEX`, of a chunk.
 fn chunk(words: &str) -> Option<Query> {
     let (unit, index) = words.split_once(' ')?;
     let at = match unit {
@@ -200,7 +200,7 @@ fn chunk(words: &str) -> Option<Query> {
     Some(Query::ChunkAt(at, number(index)?))
 }
 
-/// `LINE COLUMN`, of a position.
+/// Parses `LINE COLUMN`, of a position.
 fn from_position(words: &str) -> Option<Query> {
     let (line, column) = words.split_once(' ')?;
     Some(Query::FromPosition(number(line)?, number(column)?))

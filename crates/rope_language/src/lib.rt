@@ -1,12 +1,12 @@
-//! The language of lines for commands and replies, and sessions that are led by it.
+//! The language of command and reply lines, and sessions driven by it.
 //!
 //! Modules, lowest first:
 //! - `words`: words of lines
-//! - `language`: commands as lines
-//! - `escapes`: texts as lines write them
+//! - `language`: the parser of command lines
+//! - `escapes`: texts with escapes
 //! - `replies`: replies as lines
-//! - `output`: replies gathered before they are written
-//! - `ended`: how a run ended, as a status and a text
+//! - `output`: a buffer of replies
+//! - `ended`: the outcome of a run, as a status and a text
 //! - `service`: lines in, replies out
 #![tactic(auto)]
 

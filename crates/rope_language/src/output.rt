@@ -1,4 +1,4 @@
-//! Replies that are gathered before they are written.
+//! A buffer of replies.
 ghost use Rattle.std.specs.Prelude.{◌≡◌, ◌+◌, ◌≤◌, ◌++◌, [], length, OnOk};
 ghost use Rattle.std.specs.Io.KnownBytes.{Appends};
 ghost use Rattle.rope_language.specs.Serving.{Puts};
@@ -7,10 +7,10 @@ ghost use Rattle.rope_language.specs.declared.output.TheConstants.{OUTPUT_BYTES}
 use std::io::{self, Write};
 use std::marker::Model;
 
-/// How many bytes are gathered before they are written.
+/// The size of the buffer in bytes.
 const OUTPUT_BYTES: usize = 8192;
 
-/// What is gathered and not written yet.
+/// The replies that are not written yet.
 #[derive(Drop)]
 pub(crate) struct Output {
     buffer: [u8; OUTPUT_BYTES],
@@ -31,7 +31,7 @@ impl Model for Output {
 }
 
 impl Output {
-    /// Nothing is gathered.
+    /// Returns an empty buffer.
     pub(crate) fn new() -> Output
         ensures { result ≡ [] }
     {
@@ -42,7 +42,7 @@ impl Output {
         }
     }
 
-    /// Takes a reply. Where there is no room for it, what was gathered is written first.
+    /// Puts a reply into the buffer. If there is no room for it, the buffer is written first.
     pub(crate) fn put<W: Write>(&mut self, writer: &mut W, reply: &[u8]) -> io::Result<()>
         ensures { OnOk result
             (Puts (W.contents writer.old) (W.contents writer.new) self.old self.new reply.now) }
@@ -59,7 +59,7 @@ impl Output {
         writer.write_all(reply)
     }
 
-    /// Adds a reply for which there is room.
+    /// Adds a reply that fits.
     fn gather(&mut self, reply: &[u8])
         requires { length self.old + length reply.now ≤ OUTPUT_BYTES }
         ensures { self.new ≡ self.old ++ reply.now }
@@ -70,7 +70,7 @@ impl Output {
         self.is_flushed = false;
     }
 
-    /// Writes what was gathered, once: after an error nothing of it is written again.
+    /// Writes the buffer, once: after an error it is not written again.
     fn write_gathered<W: Write>(&mut self, writer: &mut W) -> io::Result<()>
         ensures ok { OnOk result
             (Appends (W.contents writer.old) (W.contents writer.new) self.old) }
@@ -83,8 +83,7 @@ impl Output {
         result
     }
 
-    /// Writes what was gathered, and flushes the writer, unless no reply was put since it was
-    /// flushed.
+    /// Writes the buffer and flushes the writer, unless no reply was put since it was flushed.
     pub(crate) fn flush<W: Write>(&mut self, writer: &mut W) -> io::Result<()>
         ensures written { OnOk result
             (Appends (W.contents writer.old) (W.contents writer.new) self.old) }

@@ -13,7 +13,7 @@ use std::alloc::{AllocError, Global};
 use std::cmp::Ordering;
 use std::fmt::Write as _;
 
-/// The lines of replies, in order.
+/// Returns the lines of replies, in order.
 pub(crate) fn lines_of(alloc: Global, replies: &[Reply]) -> Result<String, AllocError>
     ensures { IfOk result (λ lines. string_bytes lines ≡ reply_lines replies.now) }
 {
@@ -24,7 +24,7 @@ pub(crate) fn lines_of(alloc: Global, replies: &[Reply]) -> Result<String, Alloc
     Ok(lines)
 }
 
-/// Adds the line of a reply, its LF with it.
+/// Appends the line of a reply, with its LF.
 fn write_reply(out: &mut String, reply: &Reply) -> Result<(), AllocError>
     ensures { OnOk result (string_bytes out.new ≡ string_bytes out.old ++ reply_line reply.now) }
 {
@@ -32,7 +32,7 @@ fn write_reply(out: &mut String, reply: &Reply) -> Result<(), AllocError>
     out.push('\n')
 }
 
-/// Adds the words of a reply.
+/// Appends the words of a reply.
 fn write_words(out: &mut String, reply: &Reply) -> Result<(), AllocError>
     ensures { OnOk result (string_bytes out.new ≡ string_bytes out.old ++ reply_words reply.now) }
 {
@@ -60,7 +60,7 @@ fn write_words(out: &mut String, reply: &Reply) -> Result<(), AllocError>
     }
 }
 
-/// The word that names a set of line breaks.
+/// Returns the word that names a set of line breaks.
 fn breaks_word(break_count: LineBreaks) -> &'static str
     ensures { result.now ≡ words.breaks_word break_count }
 {
@@ -71,7 +71,7 @@ fn breaks_word(break_count: LineBreaks) -> &'static str
     }
 }
 
-/// The word for an order.
+/// Returns the word for an order.
 fn order_word(order: Ordering) -> &'static str
     ensures { result.now ≡ words.order_word order }
 {
@@ -82,7 +82,7 @@ fn order_word(order: Ordering) -> &'static str
     }
 }
 
-/// How many texts there are, and each of them quoted.
+/// Appends the number of texts, and each of them quoted.
 fn write_texts(out: &mut String, texts: &[String]) -> Result<(), AllocError>
     ensures { OnOk result
         (string_bytes out.new
@@ -99,7 +99,7 @@ fn write_texts(out: &mut String, texts: &[String]) -> Result<(), AllocError>
     Ok(())
 }
 
-/// How many items there are, and each of them.
+/// Appends the number of items, and each of them.
 fn write_items(out: &mut String, items: &[Option<Item>]) -> Result<(), AllocError>
     ensures { OnOk result
         (string_bytes out.new
@@ -116,7 +116,7 @@ fn write_items(out: &mut String, items: &[Option<Item>]) -> Result<(), AllocErro
     Ok(())
 }
 
-/// An item of a walk, or a sign that there is none.
+/// Appends an item of a walk, or a sign that there is none.
 fn write_item(out: &mut String, item: &Option<Item>) -> Result<(), AllocError>
     ensures { OnOk result (string_bytes out.new ≡ string_bytes out.old ++ item_words item.now) }
 {
@@ -128,7 +128,7 @@ fn write_item(out: &mut String, item: &Option<Item>) -> Result<(), AllocError>
     }
 }
 
-/// A character between quotation marks.
+/// Appends a character between quotation marks.
 fn quote_alone(out: &mut String, c: char) -> Result<(), AllocError>
     ensures { OnOk result (string_bytes out.new ≡ string_bytes out.old ++ quoted (c ∷ [])) }
 {
@@ -137,7 +137,7 @@ fn quote_alone(out: &mut String, c: char) -> Result<(), AllocError>
     out.push('"')
 }
 
-/// A text between quotation marks, in one line.
+/// Appends a text between quotation marks, in one line.
 fn quote(out: &mut String, text: &str) -> Result<(), AllocError>
     ensures { OnOk result (string_bytes out.new ≡ string_bytes out.old ++ quoted (chars text.now)) }
 {
@@ -148,8 +148,8 @@ fn quote(out: &mut String, text: &str) -> Result<(), AllocError>
     out.push('"')
 }
 
-/// A character of a quoted text: itself, unless it ends a line, has no form of its own, or means
-/// something between quotation marks.
+/// Appends a character of a quoted text: itself, unless it ends a line, is a control, or has a
+/// meaning between quotation marks.
 fn quote_char(out: &mut String, c: char) -> Result<(), AllocError>
     ensures { OnOk result (string_bytes out.new ≡ string_bytes out.old ++ quoted_char c) }
 {

@@ -13,7 +13,7 @@ use rope_text::utf8;
 use std::alloc::{AllocError, Global};
 use std::io::{self, Read, Write};
 
-/// Why a line was not answered.
+/// The reason why a line has no reply.
 #[derive(Clone, Copy)]
 enum Fault {
     BadLine,
@@ -45,13 +45,13 @@ impl From<io::Error> for Fault {
 
 /// Reads lines to the reader's end, runs each on one session, and writes its reply.
 ///
-/// A line ends with LF, and the last one may lack it. The first line that is not of the language
-/// ends the run, and so does a refusal of memory for a line or its reply, and a read or a write
-/// that failed. The replies to the lines before it are written and flushed, unless it is a write
-/// that failed. A line past number `u64::MAX` is a bad line of that number.
+/// A line ends with LF, which the last one may lack. The run ends at the first bad line, at an
+/// allocation that fails for a line or its reply, and at a read or a write that fails. The replies
+/// to the lines before are written and flushed, unless a write failed. A line past number
+/// `u64::MAX` is a bad line of that number.
 ///
-/// Before each read all replies so far are written and flushed, so whoever waits for a reply before
-/// the next line is sent gets it.
+/// All replies are written and flushed before each read, so a client may wait for a reply before it
+/// sends its next line.
 pub fn serve<R: Read, W: Write>(alloc: Global, reader: &mut R, writer: &mut W) -> Ended
     ensures done { result ≡ Ended.Done → IsAtEnd (R.remaining reader.new) }
     ensures written { result ≢ Ended.Failed
@@ -65,7 +65,7 @@ pub fn serve<R: Read, W: Write>(alloc: Global, reader: &mut R, writer: &mut W) -
     }
 }
 
-/// How a run ends at the fault of a line of this number.
+/// Returns the outcome for a fault in the line of this number.
 fn end_of(fault: Fault, number: u64) -> Ended
     ensures unfinished { result ≢ Ended.Done }
     ensures failed { result ≢ Ended.Failed → fault ≢ Fault.Failed }
@@ -77,7 +77,7 @@ fn end_of(fault: Fault, number: u64) -> Ended
     }
 }
 
-/// Answers each line, up to the first that it cannot answer.
+/// Replies to each line, up to the first fault.
 fn answer_lines<R: Read, W: Write>(
     alloc: Global,
     reader: &mut R,
@@ -104,7 +104,7 @@ fn answer_lines<R: Read, W: Write>(
     )
 }
 
-/// Answers each line on this session. `line` is room for one.
+/// Replies to each line on this session. `line` is a buffer for one.
 fn answer_with<R: Read, W: Write>(
     alloc: Global,
     session: &mut Session,
@@ -135,7 +135,7 @@ fn answer_with<R: Read, W: Write>(
     }
 }
 
-/// Answers one line.
+/// Replies to one line.
 fn answer<W: Write>(
     alloc: Global,
     session: &mut Session,
@@ -165,10 +165,10 @@ fn answer<W: Write>(
     }
 }
 
-/// How many bytes are read at once.
+/// The number of bytes of a read.
 const INPUT_BYTES: usize = 4096;
 
-/// What was read and is in no line yet.
+/// The bytes read that belong to no line yet.
 #[derive(Drop)]
 struct Input {
     buffer: [u8; INPUT_BYTES],
@@ -187,10 +187,10 @@ impl Input {
         }
     }
 
-    /// Reads the next line, without its LF. There is none at the end of the input.
+    /// Reads the next line, without its LF. Returns none at the end of the input.
     ///
-    /// A read may wait for one who waits for the replies, so these are written and flushed before
-    /// it.
+    /// A read may wait for a client that waits for the replies, so these are written and flushed
+    /// before it.
     fn next_line<R: Read, W: Write>(
         &mut self,
         reader: &mut R,
@@ -217,7 +217,7 @@ impl Input {
         Err(Fault::OutOfMemory)
     }
 
-    /// Adds what was read of a line to it, and answers whether that is all of the line.
+    /// Appends the bytes read to the line, and returns whether the line is complete.
     fn take_line(&mut self, line: &mut Vec<u8>) -> Result<bool, AllocError> {
         let held = &self.buffer[self.start..self.end];
         match held.iter().position(|byte| *byte == b'\n') {
@@ -234,7 +234,7 @@ impl Input {
         }
     }
 
-    /// Reads once, and answers whether any bytes came.
+    /// Reads once, and returns whether any bytes came.
     fn fill<R: Read>(&mut self, reader: &mut R) -> Result<bool, Fault>
         ensures end { IfOk result (λ found. found ≡ false → IsAtEnd (R.remaining reader.new)) }
     {

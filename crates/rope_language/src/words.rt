@@ -1,4 +1,4 @@
-//! Words of lines, and what they stand for.
+//! Words of lines, and their values.
 ghost use Rattle.std.specs.Prelude.{◌≡◌, IfSome};
 ghost use Rattle.rope_language.specs.ReplyLine.{breaks_word};
 
@@ -6,7 +6,7 @@ use rope_script::{At, Conv, Move, Part, Unit};
 use ropey::LineBreaks;
 use std::alloc::{AllocError, Global};
 
-/// The value of a word of decimal digits alone, where a `usize` holds it.
+/// Returns the value of a word of decimal digits alone, if it fits a `usize`.
 pub(crate) fn number(word: &str) -> Option<usize> {
     if word.starts_with('+') {
         return None;
@@ -14,7 +14,7 @@ pub(crate) fn number(word: &str) -> Option<usize> {
     word.parse().ok()
 }
 
-/// A rope, or a range of its characters.
+/// Parses a rope, or a range of its characters.
 pub(crate) fn part(word: &str) -> Option<Part> {
     let Some((rope, range)) = word.split_once(':') else {
         return Some((number(word)?, None));
@@ -23,7 +23,7 @@ pub(crate) fn part(word: &str) -> Option<Part> {
     Some((number(rope)?, Some((number(start)?, number(end)?))))
 }
 
-/// The bound that a word stands for, `None` inside where it is open.
+/// Parses a bound, `None` inside if it is open.
 pub(crate) fn bound(word: &str) -> Option<Option<usize>> {
     match word {
         "-" => Some(None),
@@ -31,14 +31,14 @@ pub(crate) fn bound(word: &str) -> Option<Option<usize>> {
     }
 }
 
-/// `ROPE INDEX`, and what follows one more space.
+/// Parses `ROPE INDEX`, and returns the text after one more space too.
 pub(crate) fn place(words: &str) -> Option<(usize, usize, &str)> {
     let (rope, words) = words.split_once(' ')?;
     let (char_idx, rest) = words.split_once(' ')?;
     Some((number(rope)?, number(char_idx)?, rest))
 }
 
-/// The set of line breaks that a word names.
+/// Returns the set of line breaks that a word names.
 pub(crate) fn line_breaks(word: &str) -> Option<LineBreaks>
     ensures { IfSome result (λ breaks. word.now ≡ breaks_word breaks) }
 {
@@ -50,7 +50,7 @@ pub(crate) fn line_breaks(word: &str) -> Option<LineBreaks>
     }
 }
 
-/// The conversion that a word names.
+/// Returns the conversion that a word names.
 pub(crate) fn conversion(word: &str) -> Option<Conv> {
     match word {
         "b2c" => Some(Conv::ByteToChar),
@@ -65,7 +65,7 @@ pub(crate) fn conversion(word: &str) -> Option<Conv> {
     }
 }
 
-/// What the cursor steps through, by the word that names it.
+/// Returns the unit of a cursor that a word names.
 pub(crate) fn unit(word: &str) -> Option<Unit> {
     match word {
         "bytes" => Some(Unit::Bytes),
@@ -78,7 +78,7 @@ pub(crate) fn unit(word: &str) -> Option<Unit> {
     }
 }
 
-/// The moves of a word of one letter or more.
+/// Returns the moves of a word of one or more letters.
 pub(crate) fn moves(alloc: Global, word: &str) -> Result<Option<Vec<Move>>, AllocError> {
     let mut moves = Vec::new(alloc);
     for letter in word.chars() {
@@ -95,7 +95,7 @@ pub(crate) fn moves(alloc: Global, word: &str) -> Result<Option<Vec<Move>>, Allo
     Ok(Some(moves))
 }
 
-/// The character of a text that has one character.
+/// Returns the character of a text that has one character.
 pub(crate) fn only_char(text: &str) -> Option<char> {
     let mut chars = text.chars();
     let c = chars.next()?;
