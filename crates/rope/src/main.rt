@@ -1,17 +1,17 @@
 //! Reads commands from standard input, one a line, and writes one reply line for each.
 //!
-//! The status is 0 where the input ended, 2 after a bad line, 3 where memory was refused, and 4
-//! where a read or a write failed. Standard error says which.
+//! The exit status is 0 if the input ended, 2 after a bad line, 3 out of memory, and 4 if a read or
+//! a write failed. Standard error has the reason.
 #![tactic(auto)]
 
 use rope_language::{Ended, serve};
 use std::io;
 use std::process::ExitCode;
 
-/// Says on standard error how the run ended, where that wasn't well.
+/// Prints the outcome of the run on standard error, unless the input ended.
 fn tell(rt: &impl Eprint, ended: Ended) {
     if ended != Ended::Done {
-        // What cannot be told here is still told by the status.
+        // A failed print is ignored: the status tells the outcome.
         let _ = eprintln!(rt; "{ended}");
     }
 }
