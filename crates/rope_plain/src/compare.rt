@@ -9,16 +9,16 @@ use std::alloc::Global;
 /// Each set of line breaks.
 pub const SETS: [LineBreaks; 3] = [LineBreaks::Lf, LineBreaks::CrLf, LineBreaks::Unicode];
 
-/// How many bytes each chunk but the last has at least in a rope that was made of a text.
+/// The minimum number of bytes of each chunk but the last in a rope that was made of a text.
 const FRESH_BYTES: usize = 981;
 
-/// How many bytes two neighbouring chunks have at least in any rope.
+/// The minimum number of bytes of two adjacent chunks in any rope.
 const PAIR_BYTES: usize = 492;
 
-/// How many bytes a chunk has at least in the mean: half of what two neighbours have.
+/// The minimum mean number of bytes of a chunk: half of that of two adjacent ones.
 const MEAN_BYTES: usize = 246;
 
-/// A rope's bytes, characters, lines and code units.
+/// Returns a rope's bytes, characters, lines and code units.
 pub fn lens(rope: &Rope) -> [usize; 4] {
     [
         rope.len_bytes(),
@@ -28,20 +28,19 @@ pub fn lens(rope: &Rope) -> [usize; 4] {
     ]
 }
 
-/// The rope has the text, its lengths by the set of line breaks, and its chunks are cut by the
-/// rules.
+/// Fails unless the rope has the text, its lengths by the set of line breaks, and valid chunks.
 pub fn compare(rope: &Rope, text: &[char], breaks: LineBreaks) -> Result<(), Failure> {
     compare_lengths(rope, text, breaks)?;
     compare_chunks(rope)?;
     compare_text(rope, text)
 }
 
-/// The rope has Unicode's line breaks, the text, and chunks that are cut by the rules.
+/// Fails unless the rope has Unicode's line breaks, the text, and valid chunks.
 pub fn compare_unicode(rope: &Rope, text: &[char]) -> Result<(), Failure> {
     compare(rope, text, LineBreaks::Unicode)
 }
 
-/// The set of line breaks, and the lengths.
+/// Fails unless the rope has the set of line breaks and the lengths.
 fn compare_lengths(rope: &Rope, text: &[char], breaks: LineBreaks) -> Result<(), Failure> {
     let end = plain_text::place_of(text, text.len(), breaks);
     same!(rope.line_breaks(), breaks);
@@ -50,7 +49,8 @@ fn compare_lengths(rope: &Rope, text: &[char], breaks: LineBreaks) -> Result<(),
     Ok(())
 }
 
-/// Each chunk has 1 to `MAX_BYTES` bytes, and none ends in a CR whose LF begins the next.
+/// Fails unless each chunk has 1 to `MAX_BYTES` bytes, and none ends in a CR whose LF begins the
+/// next.
 fn compare_chunks(rope: &Rope) -> Result<(), Failure> {
     let mut after_cr = false;
     for (i, chunk) in rope.chunks().enumerate() {
@@ -66,7 +66,7 @@ fn compare_chunks(rope: &Rope) -> Result<(), Failure> {
     Ok(())
 }
 
-/// The chunks are the text.
+/// Fails unless the chunks are the text.
 fn compare_text(rope: &Rope, text: &[char]) -> Result<(), Failure> {
     let mut place: usize = 0;
     for chunk in rope.chunks() {
@@ -84,7 +84,7 @@ fn compare_text(rope: &Rope, text: &[char]) -> Result<(), Failure> {
     Ok(())
 }
 
-/// Another character than the text has there.
+/// Returns the failure of a character that differs from the text's.
 fn other_char(place: usize, c: char, text: &[char]) -> Failure {
     match text.get(place) {
         Some(wanted) => Failure::new(format_args!("character {place} is {c:?}, not {wanted:?}")),
@@ -92,7 +92,8 @@ fn other_char(place: usize, c: char, text: &[char]) -> Failure {
     }
 }
 
-/// A rope made of a text: at most one chunk for each `FRESH_BYTES` bytes, and one for the rest.
+/// Fails unless a rope made of a text has at most one chunk for each `FRESH_BYTES` bytes, and one
+/// for the rest.
 pub fn expect_few_chunks(rope: &Rope) -> Result<(), Failure> {
     let bytes = rope.len_bytes();
     let chunks = rope.chunks().count();
@@ -102,8 +103,8 @@ pub fn expect_few_chunks(rope: &Rope) -> Result<(), Failure> {
     Ok(())
 }
 
-/// Any rope: at most one chunk for each `MEAN_BYTES` bytes and one for the rest, and no two
-/// neighbours with fewer than `PAIR_BYTES`.
+/// Fails unless the rope has at most one chunk for each `MEAN_BYTES` bytes and one for the rest,
+/// and no two adjacent ones with fewer than `PAIR_BYTES`.
 pub fn expect_no_short_chunks(rope: &Rope) -> Result<(), Failure> {
     let mut before = PAIR_BYTES;
     for chunk in rope.chunks() {
@@ -121,7 +122,7 @@ pub fn expect_no_short_chunks(rope: &Rope) -> Result<(), Failure> {
     Ok(())
 }
 
-/// Two characters in a row lie in one chunk.
+/// Fails unless a character and the next one are in one chunk.
 pub fn expect_together(rope: &Rope, first: usize) -> Result<(), Failure> {
     let (chunk, start) = chunk_of(rope, first);
     if first.saturating_add(1) < start.saturating_add(chunk.chars().count()) {
@@ -130,13 +131,13 @@ pub fn expect_together(rope: &Rope, first: usize) -> Result<(), Failure> {
     Err(Failure::new(format_args!("a chunk ends behind character {first}")))
 }
 
-/// The rope has Unicode's line breaks and this text, in chunks that are cut by the rules.
+/// Fails unless the rope has Unicode's line breaks and this text, in valid chunks.
 pub fn expect_text(alloc: Global, rope: &Rope, text: &str) -> Result<(), Failure> {
     let plain = chars_of(alloc, text)?;
     compare_unicode(rope, &plain)
 }
 
-/// The chunk in which a character lies, or the last one, and the characters before it.
+/// Returns the chunk of a character, or the last one, and the number of characters before it.
 pub fn chunk_of(rope: &Rope, char_idx: usize) -> (&str, usize) {
     let mut found = ("", 0);
     let mut start: usize = 0;

@@ -1,29 +1,28 @@
-//! Why a test failed, in one line: where it was, what was asked, what was found and what was
-//! wanted.
+//! The reason why a test failed, in one line: where, the call, the result and the expected result.
 use ropey::Error;
 use ropey::io::ReadError;
 use std::alloc::{AllocError, AllocFailed};
 use std::fmt::{self, Debug, Display, Formatter, InlineText, Write};
 use std::io;
 
-/// How many bytes a line has at most; a longer one is cut.
+/// The maximum number of bytes of a line; a longer one is cut.
 const MAX_LINE: usize = 480;
 
-/// Why a test failed, in one line.
+/// The reason why a test failed, in one line.
 #[derive(Drop)]
 pub struct Failure {
     line: InlineText<{ MAX_LINE }>,
 }
 
 impl Failure {
-    /// A failure for this reason.
+    /// Returns a failure with this reason.
     pub fn new<D: Display + Drop>(reason: D) -> Failure {
         Failure {
             line: InlineText::new().and(reason, MAX_LINE),
         }
     }
 
-    /// The failure behind the place where it was: a set of line breaks, a round, a seed, a command.
+    /// Prepends the context of a failure: a set of line breaks, a round, a seed, a command.
     pub fn within<D: Display + Drop>(self, place: D) -> Failure {
         Failure::new(format_args!("{place}: {}", self.line.as_str()))
     }
@@ -65,7 +64,7 @@ impl From<ReadError> for Failure {
     }
 }
 
-/// The same outcome; a failure tells this place too.
+/// Returns the outcome, with the context prepended to a failure.
 pub fn within<D: Display + Drop>(place: D, outcome: Result<(), Failure>) -> Result<(), Failure> {
     match outcome {
         Ok(()) => Ok(()),
@@ -73,7 +72,7 @@ pub fn within<D: Display + Drop>(place: D, outcome: Result<(), Failure>) -> Resu
     }
 }
 
-/// Fails unless what was found is what was wanted; `what` says what was asked.
+/// Fails unless `found` is `wanted`; `what` names the call.
 pub fn expect_same<T: PartialEq + Debug>(what: &str, found: &T, wanted: &T) -> Result<(), Failure> {
     if *found == *wanted {
         return Ok(());
@@ -81,9 +80,9 @@ pub fn expect_same<T: PartialEq + Debug>(what: &str, found: &T, wanted: &T) -> R
     Err(Failure::new(format_args!("{what} is {found:?}, not {wanted:?}")))
 }
 
-/// Ends a function with a failure unless what was found is what was wanted.
-/// It is an `if let`, since that is proved sooner than a `?`. Code behind it doesn't know that the
-/// values are equal; where a call needs that, write `holds!(a == b)`.
+/// Returns a failure from the enclosing function unless the result is the expected one. It is an
+/// `if let`, which is proved sooner than a `?`. Code after it doesn't know that the values are
+/// equal; where a call needs that, write `holds!(a == b)`.
 #[macro_export]
 macro_rules! same {
     ($found:expr, $wanted:expr $(,)?) => {
@@ -95,7 +94,7 @@ macro_rules! same {
     };
 }
 
-/// Ends a function with a failure unless a condition holds.
+/// Returns a failure from the enclosing function unless a condition holds.
 #[macro_export]
 macro_rules! holds {
     ($condition:expr $(,)?) => {
@@ -108,7 +107,7 @@ macro_rules! holds {
     };
 }
 
-/// The value of an option; ends a function with a failure where there is none.
+/// The value of an option; returns a failure from the enclosing function if there is none.
 #[macro_export]
 macro_rules! some {
     ($option:expr $(,)?) => {

@@ -1,7 +1,7 @@
-//! What cursors give in all, item by item.
+//! Sums over the items of cursors.
 use ropey::iter::{Bytes, Chars, Chunks, Lines};
 
-/// The bytes of all chunks that a cursor still gives.
+/// Returns the number of bytes of all chunks that a cursor still gives.
 pub fn bytes_of_chunks(chunks: Chunks<'_>) -> usize {
     let mut bytes: usize = 0;
     for chunk in chunks {
@@ -10,7 +10,7 @@ pub fn bytes_of_chunks(chunks: Chunks<'_>) -> usize {
     bytes
 }
 
-/// The bytes of all lines that a cursor still gives.
+/// Returns the number of bytes of all lines that a cursor still gives.
 pub fn bytes_of_lines(lines: Lines<'_>) -> usize {
     let mut bytes: usize = 0;
     for line in lines {
@@ -19,7 +19,7 @@ pub fn bytes_of_lines(lines: Lines<'_>) -> usize {
     bytes
 }
 
-/// How many of the bytes that a cursor still gives are this one.
+/// Returns the number of bytes that a cursor still gives and that equal `wanted`.
 pub fn count_byte(bytes: Bytes<'_>, wanted: u8) -> usize {
     let mut count: usize = 0;
     for byte in bytes {
@@ -30,7 +30,7 @@ pub fn count_byte(bytes: Bytes<'_>, wanted: u8) -> usize {
     count
 }
 
-/// How many of the characters that a cursor still gives are this one.
+/// Returns the number of characters that a cursor still gives and that equal `wanted`.
 pub fn count_char(chars: Chars<'_>, wanted: char) -> usize {
     let mut count: usize = 0;
     for c in chars {

@@ -1,9 +1,9 @@
 //! The model that tests share, written from the rules alone: it cites no definition of the crates
-//! that it is compared with. Nothing of it is proved but that it is safe and ends.
+//! that it is compared with. It is only proved to be safe and to end.
 //!
 //! Texts are lists of characters, whose counts and conversions scan all of them. Ropes and slices
-//! are such lists with the ends of their chunks, and cursors are places among items. `failure` has
-//! the line in which a test tells why it failed. The benchmark draws its numbers from here too.
+//! are such lists with the ends of their chunks, and cursors are indices among items. `failure` has
+//! the line that explains a failed test. The benchmark draws its numbers from here too.
 #![tactic(auto)]
 
 pub mod compare;

@@ -1,19 +1,19 @@
-//! Numbers that look random, and are the same in every run.
+//! Pseudorandom numbers, equal in every run.
 ghost use Rattle.std.specs.Prelude.{◌≡◌};
 
-/// A row of numbers by a xorshift of 64 bits: the same row each time from one start.
+/// A pseudorandom sequence by a xorshift of 64 bits, determined by its start.
 #[derive(Drop)]
 pub struct Numbers {
     state: u64,
 }
 
 impl Numbers {
-    /// A row that begins at a number other than 0.
+    /// Returns a sequence that begins at a number other than 0.
     pub fn new(start: u64) -> Numbers {
         Numbers { state: start }
     }
 
-    /// The next number of the row.
+    /// Returns the next number of the sequence.
     pub fn draw(&mut self) -> u64
         ensures { result ≡ self.new.state }
     {
@@ -25,12 +25,12 @@ impl Numbers {
         x
     }
 
-    /// The next number without its last eight bits.
+    /// Returns the next number without its last eight bits.
     pub fn take(&mut self) -> usize {
         (self.draw() >> 8) as usize
     }
 
-    /// The next number, brought into the range from 0 to `most` by its remainder.
+    /// Returns the next number, reduced to the range from 0 to `most` by its remainder.
     pub fn up_to(&mut self, most: usize) -> usize {
         let number = self.take();
         match most.checked_add(1) {

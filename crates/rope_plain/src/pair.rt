@@ -1,4 +1,4 @@
-//! A rope beside the list of characters that it has to have, and edits of both.
+//! A rope with the list of characters that it must have, and edits of both.
 use crate::compare::compare;
 use crate::failure::Failure;
 use crate::numbers::Numbers;
@@ -6,7 +6,7 @@ use crate::texts::{chars_of, inserted, part_from, take_out};
 use ropey::{Error, LineBreaks, Rope};
 use std::alloc::{AllocError, Global};
 
-/// A rope, and the list of characters that it has to have.
+/// A rope, and the list of characters that it must have.
 #[derive(Drop)]
 pub struct Pair {
     pub rope: Rope,
@@ -14,7 +14,7 @@ pub struct Pair {
 }
 
 impl Pair {
-    /// A rope of a text that goes by a set of line breaks.
+    /// Returns a rope of a text, with a set of line breaks.
     pub fn new(alloc: Global, text: &str, breaks: LineBreaks) -> Result<Pair, Error> {
         Ok(Pair {
             rope: Rope::from_str_with(alloc, text, breaks)?,
@@ -22,26 +22,26 @@ impl Pair {
         })
     }
 
-    /// A clone of the rope, and a copy of the list.
+    /// Returns a clone of the rope with a copy of the list.
     pub fn copy(&self) -> Result<Pair, Error> {
         let plain = self.plain.clone()?;
         let rope = self.rope.clone()?;
         Ok(Pair { rope, plain })
     }
 
-    /// A place before a character or at the end.
+    /// Draws an index of a character or the end.
     pub fn place(&self, numbers: &mut Numbers) -> usize {
         numbers.up_to(self.plain.len())
     }
 
-    /// Puts a text in before a character.
+    /// Inserts a text before a character.
     pub fn insert(&mut self, alloc: Global, char_idx: usize, text: &str) -> Result<(), Error> {
         self.rope.try_insert(char_idx, text)?;
         self.plain = inserted(alloc, &self.plain, char_idx, text)?;
         Ok(())
     }
 
-    /// Puts a character in before another.
+    /// Inserts a character before another.
     pub fn insert_char(&mut self, alloc: Global, char_idx: usize, c: char) -> Result<(), Error> {
         self.rope.try_insert_char(char_idx, c)?;
         let mut bytes = [0; 4];
@@ -49,13 +49,13 @@ impl Pair {
         Ok(())
     }
 
-    /// Takes the characters from `start` up to `end` out.
+    /// Removes the characters from `start` up to `end`.
     pub fn remove(&mut self, alloc: Global, start: usize, end: usize) -> Result<(), Error> {
         self.rope.try_remove(start..end)?;
         Ok(take_out(alloc, &mut self.plain, start, end)?)
     }
 
-    /// Leaves the front, and answers the back.
+    /// Keeps the front, and returns the back.
     pub fn split_off(&mut self, alloc: Global, char_idx: usize) -> Result<Pair, Error> {
         let plain = part_from(alloc, &self.plain, char_idx)?;
         self.plain.truncate(char_idx);
@@ -63,7 +63,7 @@ impl Pair {
         Ok(Pair { rope, plain })
     }
 
-    /// Puts another behind it.
+    /// Appends another pair.
     pub fn append(&mut self, other: Pair) -> Result<(), Error> {
         let Pair { rope, plain } = other;
         let appended = self.rope.append(rope);
@@ -71,12 +71,12 @@ impl Pair {
         appended
     }
 
-    /// The rope is its list, by this set of line breaks.
+    /// Fails unless the rope equals its list, by this set of line breaks.
     pub fn expect_same(&self, breaks: LineBreaks) -> Result<(), Failure> {
         compare(&self.rope, &self.plain, breaks)
     }
 
-    /// Where each chunk ends, in characters.
+    /// Returns the end of each chunk, in characters.
     pub fn chunk_ends(&self, alloc: Global) -> Result<Vec<usize>, AllocError> {
         let mut ends = Vec::new(alloc);
         let mut end: usize = 0;

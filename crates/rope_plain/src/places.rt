@@ -1,11 +1,11 @@
-//! The look-ups of a rope at one place, compared with those of a list of characters.
+//! The lookups of a rope at one index, compared with those of a list of characters.
 use crate::compare::chunk_of;
 use crate::failure::{Failure, within};
 use crate::plain_text::{Place, place_of};
 use crate::{holds, same, some};
 use ropey::Rope;
 
-/// All look-ups at a place before a character or at the end.
+/// Compares all lookups at a character or at the end.
 pub fn compare_at(rope: &Rope, text: &[char], char_idx: usize) -> Result<(), Failure> {
     let outcome = compare_all_at(rope, text, char_idx);
     within(format_args!("at character {char_idx}"), outcome)
@@ -21,7 +21,7 @@ fn compare_all_at(rope: &Rope, text: &[char], char_idx: usize) -> Result<(), Fai
     compare_break(rope, text, place.line)
 }
 
-/// The conversions from and to a place.
+/// Compares the conversions from and to an index.
 fn compare_place(rope: &Rope, char_idx: usize, place: Place) -> Result<(), Failure> {
     let conversions = [
         rope.try_char_to_byte(char_idx),
@@ -47,7 +47,7 @@ fn compare_place(rope: &Rope, char_idx: usize, place: Place) -> Result<(), Failu
     Ok(())
 }
 
-/// The character at a place, its first byte, and the indices inside it, which belong to it.
+/// Compares the character at an index, its first byte, and the indices inside it.
 fn compare_char(rope: &Rope, char_idx: usize, place: Place, c: char) -> Result<(), Failure> {
     let mut bytes = [0; 4];
     let first_byte = c.encode_utf8(&mut bytes).as_bytes().first().copied();
@@ -64,7 +64,7 @@ fn compare_char(rope: &Rope, char_idx: usize, place: Place, c: char) -> Result<(
     Ok(())
 }
 
-/// The chunk at a character and at its first byte.
+/// Compares the chunk at a character and at its first byte.
 fn compare_chunk(rope: &Rope, text: &[char], char_idx: usize, byte: usize) -> Result<(), Failure> {
     let (expected, start) = chunk_of(rope, char_idx);
     let before = place_of(text, start, rope.line_breaks());
@@ -77,7 +77,7 @@ fn compare_chunk(rope: &Rope, text: &[char], char_idx: usize, byte: usize) -> Re
     Ok(())
 }
 
-/// The chunk at a line break: the first by whose end so many breaks have ended, or the last one.
+/// Compares the chunk at a line break: the first that ends after `line` breaks, or the last one.
 fn compare_break(rope: &Rope, text: &[char], line: usize) -> Result<(), Failure> {
     let breaks = rope.line_breaks();
     let (chunk, bytes, start, break_count) = some!(rope.get_chunk_at_line_break(line));

@@ -1,6 +1,6 @@
-//! The plain partner of a cursor: a place in a list, and a direction.
+//! The model of a cursor: an index in a list, and a direction.
 
-/// A place among so many items.
+/// An index among `len` items.
 #[derive(Clone, Copy, Debug)]
 pub struct PlainCursor {
     len: usize,
@@ -9,7 +9,7 @@ pub struct PlainCursor {
 }
 
 impl PlainCursor {
-    /// Before the item at a place, or past the last, facing forward.
+    /// Returns a cursor before the item at an index, or past the last, facing forward.
     pub fn at(len: usize, place: usize) -> PlainCursor {
         PlainCursor {
             len,
@@ -32,7 +32,7 @@ impl PlainCursor {
         Some(self.place)
     }
 
-    /// Which item comes next.
+    /// Returns the index of the next item.
     pub fn next(&mut self) -> Option<usize> {
         if self.is_backward {
             self.left()
@@ -41,7 +41,7 @@ impl PlainCursor {
         }
     }
 
-    /// Which item came before.
+    /// Returns the index of the previous item.
     pub fn prev(&mut self) -> Option<usize> {
         if self.is_backward {
             self.right()
@@ -50,12 +50,12 @@ impl PlainCursor {
         }
     }
 
-    /// Turned round where it stands.
+    /// Reverses the direction.
     pub fn reverse(&mut self) {
         self.is_backward = !self.is_backward;
     }
 
-    /// How many items are still to come.
+    /// Returns the number of items left.
     pub fn left_over(&self) -> usize {
         if self.is_backward {
             self.place

@@ -1,10 +1,11 @@
-//! A rope as a plain list of characters that is cut into plain chunks, and look-ups by its places.
+//! A rope as a plain list of characters that is cut into plain chunks, and lookups by its
+//! positions.
 use crate::plain_slice::PlainSlice;
 use crate::plain_text::{Place, START};
 use ropey::LineBreaks;
 use std::alloc::{AllocError, Global};
 
-/// A text, where each of the chunks ends that it is cut into, and its set of line breaks.
+/// A text, the ends of its chunks, and its set of line breaks.
 #[derive(Drop)]
 pub struct PlainRope {
     pub text: Vec<char>,
@@ -12,7 +13,7 @@ pub struct PlainRope {
     pub breaks: LineBreaks,
 }
 
-/// Its bytes, characters, lines and code units.
+/// The numbers of bytes, characters, lines and code units.
 #[derive(Clone, Copy)]
 pub struct Lengths {
     pub bytes: usize,
@@ -22,7 +23,7 @@ pub struct Lengths {
 }
 
 impl PlainRope {
-    /// A text that is not cut yet.
+    /// Returns a text that is not cut yet.
     pub fn new(text: Vec<char>, breaks: LineBreaks, alloc: Global) -> PlainRope {
         PlainRope {
             text,
@@ -31,7 +32,7 @@ impl PlainRope {
         }
     }
 
-    /// The same text, chunks and set.
+    /// Returns a copy with the same text, chunks and set.
     pub fn copy(&self) -> Result<PlainRope, AllocError> {
         Ok(PlainRope {
             text: self.text.clone()?,
@@ -40,7 +41,8 @@ impl PlainRope {
         })
     }
 
-    /// The part from one character up to another, or all; none where that is no range of the text.
+    /// Returns the slice from one character up to another, or all; `None` if that is no range of
+    /// the text.
     pub fn part(&self, range: Option<(usize, usize)>) -> Option<PlainSlice<'_>> {
         let (start, end) = range.unwrap_or((0, self.text.len()));
         match self.text.get(start..end) {
@@ -55,7 +57,7 @@ impl PlainRope {
     }
 }
 
-/// The lengths of a text, by its places.
+/// Returns the lengths of a text, by its positions.
 pub fn lengths_of(places: &[Place]) -> Lengths {
     match places.last() {
         Some(last) => Lengths {
@@ -73,14 +75,14 @@ pub fn lengths_of(places: &[Place]) -> Lengths {
     }
 }
 
-/// What places are counted in.
+/// The unit of an index.
 #[derive(Clone, Copy)]
 pub enum Count {
     Bytes,
     Units,
 }
 
-/// The last place before which at most so much lies.
+/// Returns the last position with an index of at most `most` in the unit.
 pub fn last_place(places: &[Place], count: Count, most: usize) -> usize {
     let mut found = 0;
     for (i, place) in places.iter().enumerate() {
@@ -95,7 +97,7 @@ pub fn last_place(places: &[Place], count: Count, most: usize) -> usize {
     found
 }
 
-/// The first place by which so many breaks have ended, or the end.
+/// Returns the first position after `line` breaks, or the end.
 pub fn line_place(places: &[Place], line: usize) -> usize {
     for (i, place) in places.iter().enumerate() {
         if place.line >= line {
@@ -105,7 +107,7 @@ pub fn line_place(places: &[Place], line: usize) -> usize {
     places.len().saturating_sub(1)
 }
 
-/// The place at this index, or the start.
+/// Returns the position at this index, or the start.
 pub fn place_at(places: &[Place], char_idx: usize) -> Place {
     match places.get(char_idx) {
         Some(place) => *place,

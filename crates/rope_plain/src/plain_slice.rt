@@ -1,22 +1,22 @@
-//! The plain partner of a slice: a list of characters, and where chunks end.
+//! The model of a slice: a list of characters, and the ends of chunks.
 use crate::plain_text::{char_to_line, place_of};
 use ropey::LineBreaks;
 
-/// A stretch of a text whose chunks are given by their ends.
+/// A range of a text whose chunks are given by their ends.
 #[derive(Clone, Copy, Debug)]
 pub struct PlainSlice<'a> {
-    /// The characters of the stretch alone.
+    /// The characters of the range alone.
     pub text: &'a [char],
-    /// How many characters of the whole text come before it.
+    /// The number of characters of the whole text before it.
     pub before: usize,
-    /// Where each chunk of the whole text ends, in its characters.
+    /// The end of each chunk of the whole text, in its characters.
     pub ends: &'a [usize],
     /// The set of line breaks.
     pub breaks: LineBreaks,
 }
 
 impl<'a> PlainSlice<'a> {
-    /// All of a text.
+    /// Returns all of a text.
     pub fn whole(text: &'a [char], ends: &'a [usize], breaks: LineBreaks) -> PlainSlice<'a> {
         PlainSlice {
             text,
@@ -26,7 +26,7 @@ impl<'a> PlainSlice<'a> {
         }
     }
 
-    /// Its characters from `start` up to `end`.
+    /// Returns its characters from `start` up to `end`.
     pub fn part(&self, start: usize, end: usize) -> PlainSlice<'a> {
         let (front, _) = self.text.split_at(end.min(self.text.len()));
         let (_, text) = front.split_at(start.min(front.len()));
@@ -38,12 +38,13 @@ impl<'a> PlainSlice<'a> {
         }
     }
 
-    /// Where a chunk that ends at `end` in the whole text ends in this one.
+    /// Converts a chunk's `end` in the whole text to one in this range.
     fn clipped(&self, end: usize) -> usize {
         end.saturating_sub(self.before).min(self.text.len())
     }
 
-    /// Where the chunk starts and ends that holds a character; at the end of the text the last one.
+    /// Returns the start and end of the chunk of a character; at the end of the text those of the
+    /// last one.
     pub fn chunk_at(&self, char_idx: usize) -> (usize, usize) {
         let mut start = 0;
         for end in self.ends {
@@ -56,7 +57,7 @@ impl<'a> PlainSlice<'a> {
         (start, start)
     }
 
-    /// Where the first chunk starts and ends by whose end so many line breaks have ended, or else
+    /// Returns the start and end of the first chunk that ends after `line` line breaks, or else of
     /// the last.
     pub fn chunk_at_line_break(&self, line: usize) -> (usize, usize) {
         let mut start = 0;
@@ -71,7 +72,7 @@ impl<'a> PlainSlice<'a> {
         (start, start)
     }
 
-    /// Where the chunk with that index starts and ends; past the last chunk none.
+    /// Returns the start and end of the chunk with that index, or `None` past the last chunk.
     fn chunk_place(&self, index: usize) -> Option<(usize, usize)> {
         let mut start: usize = 0;
         let mut count: usize = 0;
@@ -88,7 +89,7 @@ impl<'a> PlainSlice<'a> {
         None
     }
 
-    /// The chunk with that index.
+    /// Returns the chunk with that index.
     pub fn chunk(&self, index: usize) -> Option<&'a [char]> {
         match self.chunk_place(index) {
             Some((start, end)) => self.text.get(start..end),
@@ -96,7 +97,7 @@ impl<'a> PlainSlice<'a> {
         }
     }
 
-    /// The character before which so many chunks lie.
+    /// Returns the number of characters before the chunk with that index.
     pub fn chunk_start(&self, index: usize) -> usize {
         match self.chunk_place(index) {
             Some((start, _)) => start,
@@ -104,7 +105,7 @@ impl<'a> PlainSlice<'a> {
         }
     }
 
-    /// How many chunks there are.
+    /// Returns the number of chunks.
     pub fn chunk_count(&self) -> usize {
         let mut start: usize = 0;
         let mut count: usize = 0;
@@ -118,7 +119,7 @@ impl<'a> PlainSlice<'a> {
         count
     }
 
-    /// The bytes, characters and line breaks that end before a place.
+    /// Returns the numbers of bytes, characters and line breaks that end before an index.
     pub fn counts_before(&self, char_idx: usize) -> (usize, usize, usize) {
         let place = place_of(self.text, char_idx, self.breaks);
         (place.byte, char_idx, place.line)

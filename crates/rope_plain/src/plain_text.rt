@@ -1,9 +1,9 @@
-//! A plain text: a list of characters, whose counts and conversions scan all of it. It is a partner
-//! to compare with, written from the rules alone; nothing of it is proved but that it is safe.
+//! A plain text: a list of characters, whose counts and conversions scan all of it. It is a model
+//! to compare with, written from the rules alone; it is only proved to be safe.
 use rope_text::LineBreaks;
 use std::alloc::{AllocError, Global};
 
-/// Whether the character ends a line break.
+/// Returns whether the character ends a line break.
 fn is_break(c: char, breaks: LineBreaks) -> bool {
     let is_unicode = matches!(c, '\u{B}' | '\u{C}' | '\u{85}' | '\u{2028}' | '\u{2029}');
     match breaks {
@@ -13,7 +13,7 @@ fn is_break(c: char, breaks: LineBreaks) -> bool {
     }
 }
 
-/// Whether a break ends after `place` characters.
+/// Returns whether a break ends after `place` characters.
 fn is_break_end(text: &[char], place: usize, breaks: LineBreaks) -> bool {
     let Some(before) = place.checked_sub(1) else {
         return false;
@@ -25,7 +25,7 @@ fn is_break_end(text: &[char], place: usize, breaks: LineBreaks) -> bool {
     is_break(*last, breaks) && !parts_pair
 }
 
-/// The bytes of the first characters.
+/// Returns the number of bytes of the first characters.
 pub fn char_to_byte(text: &[char], place: usize) -> usize {
     let mut bytes: usize = 0;
     for c in text.iter().take(place) {
@@ -34,7 +34,7 @@ pub fn char_to_byte(text: &[char], place: usize) -> usize {
     bytes
 }
 
-/// How many of the first characters take two code units.
+/// Returns the number of the first characters that take two code units.
 pub fn surrogates_before(text: &[char], place: usize) -> usize {
     text.iter()
         .take(place)
@@ -42,14 +42,14 @@ pub fn surrogates_before(text: &[char], place: usize) -> usize {
         .count()
 }
 
-/// The code units of the first characters.
+/// Returns the number of code units of the first characters.
 pub fn char_to_utf16(text: &[char], place: usize) -> usize {
     place
         .min(text.len())
         .saturating_add(surrogates_before(text, place))
 }
 
-/// The greatest place whose bytes are at most `byte`.
+/// Returns the greatest index whose bytes are at most `byte`.
 pub fn byte_to_char(text: &[char], byte: usize) -> usize {
     let mut found = 0;
     for place in 0..=text.len() {
@@ -60,7 +60,7 @@ pub fn byte_to_char(text: &[char], byte: usize) -> usize {
     found
 }
 
-/// The greatest place whose code units are at most `unit`.
+/// Returns the greatest index whose code units are at most `unit`.
 pub fn utf16_to_char(text: &[char], unit: usize) -> usize {
     let mut found = 0;
     for place in 0..=text.len() {
@@ -71,7 +71,7 @@ pub fn utf16_to_char(text: &[char], unit: usize) -> usize {
     found
 }
 
-/// How many breaks end at or before a place.
+/// Returns the number of breaks that end at or before an index.
 pub fn char_to_line(text: &[char], place: usize, breaks: LineBreaks) -> usize {
     let mut break_count: usize = 0;
     for end in 1..=place.min(text.len()) {
@@ -82,7 +82,7 @@ pub fn char_to_line(text: &[char], place: usize, breaks: LineBreaks) -> usize {
     break_count
 }
 
-/// Where a line starts; past the last line the end.
+/// Returns the start of a line; past the last line the end.
 pub fn line_to_char(text: &[char], line: usize, breaks: LineBreaks) -> usize {
     if line == 0 {
         return 0;
@@ -99,7 +99,7 @@ pub fn line_to_char(text: &[char], line: usize, breaks: LineBreaks) -> usize {
     text.len()
 }
 
-/// A place before a character or at the end, in every unit, and where its line starts.
+/// A position before a character or at the end, in every unit, and the start of its line.
 #[derive(Clone, Copy)]
 pub struct Place {
     pub byte: usize,
@@ -109,7 +109,7 @@ pub struct Place {
     pub line_start_byte: usize,
 }
 
-/// Before the first character.
+/// The position before the first character.
 pub const START: Place = Place {
     byte: 0,
     unit: 0,
@@ -119,7 +119,7 @@ pub const START: Place = Place {
 };
 
 impl Place {
-    /// The place behind a character, with which so many have passed.
+    /// Returns the position after a character, with `passed` characters before it.
     fn after(self, c: char, text: &[char], passed: usize, breaks: LineBreaks) -> Place {
         let mut place = self;
         place.byte = place.byte.saturating_add(c.len_utf8());
@@ -133,7 +133,7 @@ impl Place {
     }
 }
 
-/// The place behind the first characters, by one pass over them.
+/// Returns the position after the first characters, by one pass over them.
 pub fn place_of(text: &[char], char_idx: usize, breaks: LineBreaks) -> Place {
     let mut place = START;
     let mut passed: usize = 0;
@@ -144,7 +144,7 @@ pub fn place_of(text: &[char], char_idx: usize, breaks: LineBreaks) -> Place {
     place
 }
 
-/// All places of a text, from its start to its end, by one pass.
+/// Returns all positions of a text, from its start to its end, by one pass.
 pub fn places(alloc: Global, text: &[char], breaks: LineBreaks) -> Result<Vec<Place>, AllocError> {
     let mut all = Vec::new(alloc);
     let mut place = START;

@@ -4,7 +4,7 @@ use crate::numbers::Numbers;
 use ropey::{Error, Rope};
 use std::alloc::{AllocError, Global};
 
-/// So many times a text.
+/// Returns a text, `count` times.
 pub fn repeated(alloc: Global, text: &str, count: usize) -> Result<String, AllocError> {
     let mut all = String::new(alloc);
     for _ in 0..count {
@@ -13,13 +13,13 @@ pub fn repeated(alloc: Global, text: &str, count: usize) -> Result<String, Alloc
     Ok(all)
 }
 
-/// A rope of so many times a text.
+/// Returns a rope of a text, `count` times.
 pub fn rope_of(alloc: Global, text: &str, count: usize) -> Result<Rope, Error> {
     let text = repeated(alloc, text, count)?;
     Rope::from_str(alloc, text.as_str())
 }
 
-/// Whether a text is these characters.
+/// Returns whether a text is these characters.
 pub fn is_text(text: &str, chars: &[char]) -> bool {
     let mut place: usize = 0;
     for c in text.chars() {
@@ -39,7 +39,7 @@ pub fn expect_chars(text: &str, chars: &[char]) -> Result<(), Failure> {
     Err(Failure::new(format_args!("{text:?}, not {chars:?}")))
 }
 
-/// A text as a list of characters.
+/// Returns a text as a list of characters.
 pub fn chars_of(alloc: Global, text: &str) -> Result<Vec<char>, AllocError> {
     let mut chars = Vec::new(alloc);
     for c in text.chars() {
@@ -54,7 +54,7 @@ pub const BREAKS: &str =
 
 const PARTS: [&str; 8] = ["a", "\r", "\n", "\r\n", "é", "こ", "🐸", "\u{2028}"];
 
-/// A text of at most so many bytes and three more, rich in breaks.
+/// Returns a text of at most `most` bytes and three more, rich in breaks.
 pub fn random_text(
     alloc: Global,
     numbers: &mut Numbers,
@@ -71,13 +71,13 @@ pub fn random_text(
     Ok(text)
 }
 
-/// A text to edit with: of at most 12 bytes and three more, and one in four of at most 1,196.
+/// Returns a text to insert: of at most 12 bytes and three more, and one in four of at most 1,196.
 pub fn random_edit_text(alloc: Global, numbers: &mut Numbers) -> Result<String, AllocError> {
     let is_long = numbers.take() % 4 == 0;
     random_text(alloc, numbers, if is_long { 1_196 } else { 12 })
 }
 
-/// The list with a text before the character `at`.
+/// Returns the list with a text before the character `at`.
 pub fn inserted(
     alloc: Global,
     old: &[char],
@@ -95,7 +95,7 @@ pub fn inserted(
     Ok(new)
 }
 
-/// Takes the characters from `start` up to `end` out of a list.
+/// Removes the characters from `start` up to `end` from a list.
 pub fn take_out(
     alloc: Global,
     text: &mut Vec<char>,
@@ -107,13 +107,14 @@ pub fn take_out(
     text.extend_from_slice(&back)
 }
 
-/// The characters from `start` on.
+/// Returns the characters from `start` on.
 pub fn part_from(alloc: Global, text: &[char], start: usize) -> Result<Vec<char>, AllocError> {
     let (_, back) = text.split_at(start.min(text.len()));
     Vec::from_slice(alloc, back)
 }
 
-/// A text of so many bytes that begins and ends with these, or these alone where they are longer.
+/// Returns a text of `bytes` bytes that begins with `first` and ends with `last`, or these alone if
+/// they are longer.
 pub fn padded(alloc: Global, first: &str, bytes: usize, last: &str) -> Result<String, AllocError> {
     let ends = first.len().saturating_add(last.len());
     let mut text = String::from_str(alloc, first)?;

@@ -1,8 +1,8 @@
-//! Cursors of any kind, as what can be walked.
+//! Cursors of any kind, as a trait.
 use ropey::RopeSlice;
 use ropey::iter::{Bytes, Chars, Chunks, Lines};
 
-/// An item that a cursor gave.
+/// An item of a cursor.
 #[derive(Clone, Copy)]
 pub enum Item<'a> {
     Byte(u8),
@@ -18,7 +18,7 @@ pub trait Walker<'a> {
     fn back(&mut self) -> Option<Item<'a>>;
 
     fn turn(&mut self);
-    /// How many items are left, where the cursor says it.
+    /// Returns the number of items left, if the cursor knows it.
     fn left_over(&self) -> Option<usize>;
 }
 
