@@ -1,4 +1,4 @@
-//! How many nodes and levels a tree has that is built of a whole text.
+//! The numbers of nodes and levels of a tree built of a whole text.
 use rope_plain::failure::Failure;
 use rope_plain::same;
 use rope_text::LineBreaks;
@@ -6,7 +6,8 @@ use rope_tree::Maker;
 use rope_tree::build::build;
 use std::alloc::{AllocError, Global};
 
-/// How many nodes a tree of the text took, its height, and its bytes, characters and line breaks.
+/// Returns the number of nodes made for a tree of the text, and its height, bytes, characters and
+/// line breaks.
 fn counts(alloc: Global, text: &str, breaks: LineBreaks) -> Result<(u64, [usize; 4]), AllocError> {
     let mut maker = Maker::new(alloc);
     let node = build(&mut maker, text, breaks)?;
@@ -17,7 +18,7 @@ fn counts(alloc: Global, text: &str, breaks: LineBreaks) -> Result<(u64, [usize;
     ))
 }
 
-/// Those of a tree of so many lines.
+/// Returns the counts of a tree of `lines` lines.
 fn counts_of_lines(alloc: Global, lines: usize) -> Result<(u64, [usize; 4]), AllocError> {
     let text = "Hello!\r\n".repeat(alloc, lines)?;
     counts(alloc, text.as_str(), LineBreaks::CrLf)

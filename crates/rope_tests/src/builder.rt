@@ -1,5 +1,4 @@
-//! Ropes that a builder makes of pieces, against rows that were worked by hand and plain lists of
-//! characters.
+//! Ropes that a builder makes of pieces, against rows worked by hand and plain lists of characters.
 use crate::ropes::asks_made;
 use rope_plain::compare::{SETS, compare, expect_few_chunks, lens};
 use rope_plain::failure::{Failure, within};
@@ -9,7 +8,7 @@ use rope_plain::texts::{padded, random_text, repeated};
 use ropey::{LineBreaks, Rope, RopeBuilder};
 use std::alloc::Global;
 
-/// A builder, and the list of characters that it was handed.
+/// A builder, and the list of characters passed to it.
 #[derive(Drop)]
 struct Pair {
     builder: RopeBuilder,
@@ -18,7 +17,7 @@ struct Pair {
 }
 
 impl Pair {
-    /// Hands a piece to both.
+    /// Passes a piece to both.
     fn hand(&mut self, text: &str) -> Result<(), Failure> {
         for c in text.chars() {
             self.plain.push(c)?;
@@ -60,7 +59,7 @@ fn expect_built<
     pair.ends_in(ask)
 }
 
-/// Pieces that part each CR LF, or lie between two.
+/// Pieces that split each CR LF, or are between two.
 const PIECES: [&str; 14] = [
     "Hello there!  How're you doing?\r",
     "\nIt's a fine ",
@@ -109,7 +108,7 @@ fn a_builder_joins_pieces_and_ends_empty_without_any(rt: HostRuntime) -> Result<
     ends_in_one(RopeBuilder::new(rt.alloc())?, [0, 0, 1, 0], None)
 }
 
-/// Fails unless two pieces behind so many letters make a rope of two chunks.
+/// Fails unless two pieces after a number of letters make a rope of two chunks.
 fn expect_of_two_chunks(
     alloc: Global,
     letters: &str,
@@ -156,7 +155,7 @@ fn a_builder_by_lf_counts_lf_alone(rt: HostRuntime) -> Result<(), Failure> {
     )
 }
 
-/// What a piece ends in, and what the next one begins with.
+/// The end of a piece, and the beginning of the next one.
 const SEAMS: [(&str, &str); 8] = [
     ("\r", "\n"),
     ("\n", "\r"),
@@ -168,7 +167,7 @@ const SEAMS: [(&str, &str); 8] = [
     ("a", "こ"),
 ];
 
-/// A piece of so many bytes, with such ends.
+/// Appends a piece of `bytes` bytes, with such ends.
 fn appends_padded(
     pair: &mut Pair,
     alloc: Global,
@@ -180,7 +179,7 @@ fn appends_padded(
     pair.hand(piece.as_str())
 }
 
-/// Three pieces with such ends between them, the first and the last of so many bytes.
+/// Appends three pieces with such ends between them, the first and the last of `bytes` bytes.
 fn appends_with_seams(
     pair: &mut Pair,
     alloc: Global,
@@ -193,7 +192,7 @@ fn appends_with_seams(
     appends_padded(pair, alloc, first, bytes, "")
 }
 
-/// Ropes of three pieces, the one in the middle of some lengths.
+/// Fails unless ropes of three pieces, the middle one of several lengths, are right.
 fn expect_built_with_seams(
     alloc: Global,
     seam: (&str, &str),
@@ -212,7 +211,7 @@ fn expect_built_with_seams(
     Ok(())
 }
 
-/// Pieces of so many bytes, with such ends, by each set of line breaks.
+/// Fails unless pieces of `bytes` bytes, with such ends, are right, by each set of line breaks.
 fn expect_built_by_each_set(
     alloc: Global,
     seam: (&str, &str),
@@ -227,7 +226,7 @@ fn expect_built_by_each_set(
     Ok(())
 }
 
-/// Pieces of so many bytes, with each of the ends.
+/// Fails unless pieces of `bytes` bytes, with each of the ends, are right.
 fn expect_built_of(alloc: Global, bytes: usize) -> Result<(), Failure> {
     for seam in SEAMS {
         expect_built_by_each_set(alloc, seam, bytes)?;
@@ -235,7 +234,7 @@ fn expect_built_of(alloc: Global, bytes: usize) -> Result<(), Failure> {
     Ok(())
 }
 
-/// Pieces of every length of a range.
+/// Fails unless pieces of every length of a range are right.
 fn expect_all_built(alloc: Global, from: usize, to: usize) -> Result<(), Failure> {
     for bytes in from..=to {
         within(
@@ -270,7 +269,7 @@ fn a_builder_keeps_seams_between_pieces_of_nearly_two_leaves(
     expect_all_built(rt.alloc(), 1_960, 1_975)
 }
 
-/// How many bytes a piece has at the most.
+/// The maximum lengths of a piece, in bytes.
 const MOST: [usize; 6] = [3, 12, 100, 990, 2_000, 9_000];
 
 fn appends_random(
@@ -283,7 +282,7 @@ fn appends_random(
     pair.hand(piece.as_str())
 }
 
-/// Many pieces, most of them short.
+/// Appends many pieces, most of them short.
 fn appends_at_random(pair: &mut Pair, alloc: Global, numbers: &mut Numbers) -> Result<(), Failure> {
     let kinds = numbers.up_to(5);
     for _ in 0..numbers.up_to(60) {
@@ -307,7 +306,7 @@ fn expect_built_at_random(
     )
 }
 
-/// The number that the row of texts begins with.
+/// The start of the random sequence.
 const SEED: u64 = 0x9E37_79B9_7F4A_7C15;
 
 /// Fails unless ropes of many pieces are right, by each set of line breaks.

@@ -1,4 +1,4 @@
-//! The callers that ask, and the one that reads and writes.
+//! The callers that query, and the one that reads and writes.
 use crate::ropes::asks;
 use rope_callers::files::{CopyError, copy_text};
 use rope_callers::lines::{all_fit, long_line_before};

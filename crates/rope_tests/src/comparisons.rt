@@ -1,4 +1,4 @@
-//! Equality and order, which go by the text however it is cut.
+//! Equality and order, which depend on the text, not on its chunks.
 use crate::ropes::{asks, asks_by, asks_of_padded, becomes};
 use rope_plain::failure::{Failure, within};
 use rope_plain::numbers::Numbers;
@@ -9,7 +9,7 @@ use std::alloc::Global;
 use std::cmp::Ordering;
 use std::hash::{FoldHasher, Hash, Hasher};
 
-/// Adds each character of the text at the end, and answers whether there was memory for it.
+/// Appends each character of the text.
 fn types(rope: &mut Rope, text: &str) -> Result<(), Failure> {
     for c in text.chars() {
         let end = rope.len_chars();
@@ -59,7 +59,7 @@ fn compare_as_texts(ropes: (&Rope, &Rope), texts: (&str, &str)) -> Result<(), Fa
     expect_ordered_as_texts(ropes, texts)
 }
 
-/// Fails unless the ropes are ordered as their numbers are, and so are slices of all of them.
+/// Fails unless the ropes have the order of their numbers, and so do slices of all of them.
 fn expect_ordered_as_numbers(
     (left, i): (&Rope, usize),
     (right, k): (&Rope, usize),
@@ -75,10 +75,10 @@ fn expect_ordered_as_numbers(
     Ok(())
 }
 
-/// The texts by their bytes, the least first.
+/// The texts in the order of their bytes.
 const BY_BYTES: [&str; 4] = ["", "z", "é", "こ"];
 
-/// Fails unless a rope of the text with this number stands so among the ropes of all.
+/// Fails unless a rope of the text with this number has that position in the order.
 fn expect_its_place(alloc: Global, left: &Rope, i: usize) -> Result<(), Failure> {
     for (k, text) in BY_BYTES.iter().enumerate() {
         asks(
@@ -102,7 +102,7 @@ fn ropes_are_ordered_by_bytes(rt: HostRuntime) -> Result<(), Failure> {
     expect_their_places(rt.alloc())
 }
 
-/// Fails unless a slice of two chunks is equal to one chunk, `ab`.
+/// Fails unless a slice of two chunks equals one chunk, `ab`.
 fn equals_one_chunk(two: &RopeSlice<'_>) -> Result<(), Failure> {
     let one = RopeSlice::from("ab");
     let are_equal = [one == *two, *two == one, two.eq_str("ab"), one.eq_str("ab")];
@@ -137,7 +137,7 @@ fn a_part_of_two_chunks_compares_as_its_text(rt: HostRuntime) -> Result<(), Fail
 /// A rope, one that is less and one that is more.
 type Three<'a> = (&'a Rope, &'a Rope, &'a Rope);
 
-/// Fails unless the part is the rope's text, more than `less` and less than `more`.
+/// Fails unless the slice is the rope's text, more than `less` and less than `more`.
 fn expect_its_order(
     other: &RopeSlice<'_>,
     text: &str,
@@ -179,7 +179,7 @@ fn part_has_its_order(
     expect_its_order(&part, text, ropes)
 }
 
-/// The text behind so many more letters each time, and so with its seams elsewhere.
+/// Fails unless the order holds after a growing number of letters, with seams elsewhere each time.
 fn keeps_its_order(longer: &mut Rope, text: &str, ropes: Three<'_>) -> Result<(), Failure> {
     for shift in 1..=984 {
         longer.try_insert_char(0, 'a')?;
@@ -290,8 +290,8 @@ fn compares_with_changed(
     compare_as_texts((rope, other), (text, changed.as_str()))
 }
 
-/// Fails unless another rope of the text, to which it comes character by character, compares so,
-/// before and after an insert.
+/// Fails unless another rope of the text, typed character by character, compares so, before and
+/// after an insert.
 fn compares_with_typed(
     alloc: Global,
     other: &mut Rope,
@@ -305,7 +305,7 @@ fn compares_with_typed(
     compares_with_changed(alloc, (rope, text), other)
 }
 
-/// Fails unless a rope of the text compares so with one that begins with none.
+/// Fails unless a rope of the text compares so with one that starts empty.
 fn compares(alloc: Global, rope: &Rope, text: &str, numbers: &mut Numbers) -> Result<(), Failure> {
     becomes(
         alloc,
@@ -323,7 +323,7 @@ fn compares_of_text(alloc: Global, numbers: &mut Numbers) -> Result<(), Failure>
     )
 }
 
-/// The number that the row of texts begins with.
+/// The start of the random sequence.
 const SEED: u64 = 0x9E37_79B9_7F4A_7C15;
 
 #[test]

@@ -1,4 +1,4 @@
-//! The counts and conversions of plain texts against their partners.
+//! The counts and conversions of plain texts against the model.
 use rope_plain::failure::{Failure, within};
 use rope_plain::{plain_text, same};
 use rope_text::{LineBreaks, TextInfo, str_utils};
@@ -8,7 +8,7 @@ const LETTERS: [char; 9] = [
     'a', '\n', '\r', '\u{B}', '\u{85}', '\u{C5}', '\u{2028}', '\u{5028}', '🐸',
 ];
 
-/// How many texts of 0 to 5 of the nine characters there are.
+/// The numbers of texts of 0 to 5 of the nine characters.
 const TEXTS: [usize; 6] = [1, 9, 81, 729, 6_561, 59_049];
 
 /// A text as a string and as its list of characters.
@@ -19,14 +19,14 @@ struct Sample {
 }
 
 impl Sample {
-    /// Adds a character to both, and answers whether there was memory for it.
+    /// Adds a character to both.
     fn add(&mut self, c: char) -> Result<(), Failure> {
         self.text.push(c)?;
         self.chars.push(c)?;
         Ok(())
     }
 
-    /// Adds so many letters `a`.
+    /// Adds `padding` letters `a`.
     fn add_padding(&mut self, padding: usize) -> Result<(), Failure> {
         for round in 0..padding {
             within(format_args!("round {round}"), self.add('a'))?;
@@ -34,7 +34,7 @@ impl Sample {
         Ok(())
     }
 
-    /// Adds the text of some characters that the number names.
+    /// Adds the text of `len` characters with this number.
     fn add_text(&mut self, len: usize, number: usize) -> Result<(), Failure> {
         let mut rest = number;
         for round in 0..len {
@@ -61,7 +61,7 @@ fn expect_counts(text: &str, chars: &[char]) -> Result<(), Failure> {
     Ok(())
 }
 
-/// Fails unless a byte and a code unit belong to their characters.
+/// Fails unless a byte and a code unit convert to their characters.
 fn belong(text: &str, chars: &[char], byte: usize, unit: usize) -> Result<(), Failure> {
     let place = plain_text::byte_to_char(chars, byte);
     let pairs = TextInfo::from_str(text, LineBreaks::Lf).utf16_surrogates;
@@ -80,7 +80,7 @@ fn belong(text: &str, chars: &[char], byte: usize, unit: usize) -> Result<(), Fa
 }
 
 /// Fails unless a character starts at its byte and its code unit, and these and the next ones
-/// belong to their characters.
+/// convert to their characters.
 fn expect_place(text: &str, chars: &[char], i: usize) -> Result<(), Failure> {
     let byte = plain_text::char_to_byte(chars, i);
     let unit = plain_text::char_to_utf16(chars, i);
@@ -93,8 +93,8 @@ fn expect_place(text: &str, chars: &[char], i: usize) -> Result<(), Failure> {
     belong(text, chars, byte.saturating_add(1), unit.saturating_add(1))
 }
 
-/// Fails unless what does not depend on the set of line breaks is right, from the character `from`
-/// on.
+/// Fails unless the conversions that don't depend on the set of line breaks are right, from the
+/// character `from` on.
 fn expect_places(text: &str, chars: &[char], from: usize) -> Result<(), Failure> {
     for i in from..=chars.len() {
         within(format_args!("i {i}"), expect_place(text, chars, i))?;
@@ -102,7 +102,7 @@ fn expect_places(text: &str, chars: &[char], from: usize) -> Result<(), Failure>
     expect_counts(text, chars)
 }
 
-/// Fails unless a character and its byte lie on their line.
+/// Fails unless a character and its byte are on their line.
 fn lies_on_line(text: &str, chars: &[char], i: usize, breaks: LineBreaks) -> Result<(), Failure> {
     let byte = plain_text::char_to_byte(chars, i);
     let line = plain_text::char_to_line(chars, i, breaks);
@@ -130,7 +130,7 @@ fn starts_there(
     Ok(())
 }
 
-/// Fails unless all characters from `from` on lie on their lines.
+/// Fails unless all characters from `from` on are on their lines.
 fn lie_on_lines(
     text: &str,
     chars: &[char],
@@ -165,7 +165,7 @@ fn expect_lines(text: &str, chars: &[char], from: usize) -> Result<(), Failure> 
     Ok(())
 }
 
-/// Fails unless the text that the number names is right behind so many letters `a`.
+/// Fails unless the text with this number is right after `padding` letters `a`.
 fn expect_right(alloc: Global, padding: usize, len: usize, number: usize) -> Result<(), Failure> {
     let mut sample = Sample {
         text: String::new(alloc),
@@ -179,7 +179,7 @@ fn expect_right(alloc: Global, padding: usize, len: usize, number: usize) -> Res
     expect_lines(text, &sample.chars, from)
 }
 
-/// Every text of so many of the nine characters, behind so many letters `a`.
+/// Fails unless every text of `len` of the nine characters is right, after `padding` letters `a`.
 fn expect_right_of_length(
     alloc: Global,
     padding: usize,
@@ -195,7 +195,8 @@ fn expect_right_of_length(
     Ok(())
 }
 
-/// Every text of up to five of the nine characters, behind so many letters `a`.
+/// Fails unless every text of up to five of the nine characters is right, after `padding` letters
+/// `a`.
 fn expect_all_right(alloc: Global, padding: usize) -> Result<(), Failure> {
     for (len, count) in TEXTS.iter().enumerate() {
         expect_right_of_length(alloc, padding, len, *count)?;

@@ -1,11 +1,11 @@
-//! What look-ups count in ropes of known depth.
+//! The counts of lookups in ropes of known depth.
 use crate::ropes::asks_of_many;
 use rope_plain::compare::lens;
 use rope_plain::failure::{Failure, within};
 use rope_plain::{holds, same};
 use ropey::{Rope, Steps};
 
-/// A look-up that counts its steps.
+/// A lookup that counts its steps.
 #[derive(Clone, Copy)]
 enum LookUp {
     Byte,
@@ -21,7 +21,7 @@ enum LookUp {
 }
 
 impl LookUp {
-    /// What it answers at a place, or none past the end.
+    /// Returns its result at an index, or `None` past the end.
     fn answer(self, rope: &Rope, place: usize, steps: &mut Steps) -> Option<usize> {
         match self {
             LookUp::Byte | LookUp::ByteToChar | LookUp::ByteToLine => {
@@ -72,8 +72,8 @@ impl LookUp {
         }
     }
 
-    /// What it compares at the most, over all places from 0 on before an end; none where one of
-    /// them has no answer.
+    /// Returns its maximum number of comparisons, over all indices before an end; `None` if one of
+    /// them has no result.
     fn most_compares(self, rope: &Rope, end: usize) -> Option<u64> {
         let mut most = 0;
         for place in 0..end {
@@ -96,7 +96,7 @@ fn expect_two_levels(rope: &Rope) -> Result<(), Failure> {
     Ok(())
 }
 
-/// Fails unless each byte is found through two nodes, and by five comparisons at the most.
+/// Fails unless each byte is found through two nodes, and by at most five comparisons.
 fn finds_bytes(rope: &Rope) -> Result<(), Failure> {
     let mut most = 0;
     for place in 0..20_000 {
@@ -119,7 +119,7 @@ fn a_byte_is_found_through_two_nodes(rt: HostRuntime) -> Result<(), Failure> {
     asks_of_many(rt.alloc(), "a", 20_000, finds_bytes_in_two_levels)
 }
 
-/// Each look-up, and before which place it has an answer.
+/// Each lookup, and the end of its valid indices.
 const ENDS: [(LookUp, usize); 10] = [
     (LookUp::Byte, 20_000),
     (LookUp::ByteToChar, 20_000),
@@ -133,7 +133,7 @@ const ENDS: [(LookUp, usize); 10] = [
     (LookUp::LineToChar, 10_000),
 ];
 
-/// Fails unless each look-up compares five times at the most.
+/// Fails unless each lookup compares at most five times.
 fn finds_all(rope: &Rope) -> Result<(), Failure> {
     for (look_up, end) in &ENDS {
         same!(look_up.most_compares(rope, *end), Some(5));
@@ -152,7 +152,7 @@ fn each_look_up_compares_five_times_at_most_in_two_levels(rt: HostRuntime) -> Re
     asks_of_many(rt.alloc(), "a\n", 10_000, finds_all_in_two_levels)
 }
 
-/// Fails unless a look-up in four levels answers this, through four nodes and by few comparisons.
+/// Fails unless a lookup in four levels has this result, through four nodes and by few comparisons.
 fn answers_in_four(
     rope: &Rope,
     look_up: LookUp,
@@ -178,7 +178,7 @@ fn a_character_is_found_through_four_nodes(rt: HostRuntime) -> Result<(), Failur
     asks_of_many(rt.alloc(), "a", 1_000_000, finds_a_char_in_four_levels)
 }
 
-/// Each conversion, a place in the middle, and what it answers there.
+/// Each conversion, an index in the middle, and its result there.
 const IN_THE_MIDDLE: [(LookUp, usize, usize); 8] = [
     (LookUp::ByteToChar, 500_000, 500_000),
     (LookUp::ByteToLine, 500_000, 250_000),

@@ -1,4 +1,4 @@
-//! Places where a text may be cut.
+//! Positions where a text may be cut.
 use rope_plain::failure::Failure;
 use rope_plain::same;
 use rope_text::crlf::{

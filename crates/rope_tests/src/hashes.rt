@@ -1,4 +1,4 @@
-//! What ropes and slices hand a hasher.
+//! The writes of ropes and slices to a hasher.
 ghost use Rattle.std.specs.Prelude.{◌+◌, ◌*◌, ◌%◌, ◌^◌, length};
 ghost use Rattle.rope_tests.specs.Writes.{first_or};
 
@@ -41,7 +41,7 @@ impl Hasher for Writes {
     }
 }
 
-/// The lengths of the writes, and the first byte of the last one.
+/// Returns the lengths of the writes, and the first byte of the last one.
 fn writes_of<T: Hash>(value: &T) -> (u64, u8) {
     let mut writes = Writes { lens: 0, last: 0 };
     value.hash(&mut writes);
@@ -78,8 +78,8 @@ fn expect_all_hashed_alike(made: &Rope, typed: &Rope) -> Result<(), Failure> {
     Ok(())
 }
 
-/// Fails unless what is typed is hashed as what was made, and without its first letter as one
-/// block.
+/// Fails unless a typed text is hashed as one that was made at once, and without its first letter
+/// as one block.
 fn expect_hashed_alike(made: &Rope, typed: &mut Rope) -> Result<(), Failure> {
     types_letters(typed)?;
     expect_all_hashed_alike(made, typed)?;
@@ -98,7 +98,7 @@ fn a_hash_is_written_in_blocks_however_the_rope_is_cut(rt: HostRuntime) -> Resul
     asks_of_many(alloc, "a", 257, |made| expect_hashed_as_typed(alloc, made))
 }
 
-/// The writes of a slice, where there is one.
+/// Returns the writes of a slice, if there is one.
 fn writes_of_slice(slice: Option<RopeSlice<'_>>) -> Option<(u64, u8)> {
     match slice {
         Some(slice) => Some(writes_of(&slice)),

@@ -1,16 +1,16 @@
-//! Tests of plain texts, of trees, and of what ropes are asked.
+//! Tests of plain texts, of trees, and of queries of ropes.
 //!
 //! No contract shows these:
-//! - a call succeeds where there is memory, and rows worked by hand come out;
-//! - the definitions in specs/ are what a plain loop computes, for every text of up to five
-//! characters out of nine;
+//! - a call succeeds if there is memory, and rows worked by hand come out;
+//! - the definitions in specs/ agree with a plain loop, for every text of up to five characters out
+//!   of nine;
 //! - the `Debug` texts, and that the proved callers of docs/CALLING.md run.
 //!
-//! The proofs show these too, and they are run for the compiler's sake: counts and conversions at
-//! each place of a block, UTF-8 at each place, seams of builders, order and equality.
+//! The proofs show these too, and they are run to test the compiler: counts and conversions at each
+//! position of a block, UTF-8 at each position, seams of builders, order and equality.
 //!
-//! Ropes are made in `ropes`, and handed on by reference. Each return of a function that owns a
-//! rope is proved to drop it, which takes long.
+//! Ropes are made in `ropes`, and passed by reference. Each return of a function that owns a rope
+//! is proved to drop it, which takes long.
 #![tactic(auto)]
 
 #[cfg(test)]

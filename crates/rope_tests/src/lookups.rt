@@ -1,4 +1,4 @@
-//! Conversions and look-ups of ropes, against rows that were worked by hand.
+//! Conversions and lookups of ropes, against rows worked by hand.
 use crate::ropes::{asks, asks_made};
 use rope_plain::compare::lens;
 use rope_plain::failure::{Failure, within};
@@ -40,7 +40,7 @@ fn an_empty_rope_has_nothing_past_its_end(rt: HostRuntime) -> Result<(), Failure
     asks(rt.alloc(), "", expect_empty_to_its_end)
 }
 
-/// Texts, and their bytes, characters, lines and code units.
+/// Texts, and their numbers of bytes, characters, lines and code units.
 const LENGTHS: [(&str, [usize; 4]); 5] = [
     ("", [0, 0, 1, 0]),
     ("a\r\nb", [4, 4, 2, 4]),
@@ -67,7 +67,7 @@ fn worked_texts_have_their_lengths(rt: HostRuntime) -> Result<(), Failure> {
     expect_lengths(rt.alloc())
 }
 
-/// Fails unless characters lie on these lines.
+/// Fails unless characters are on these lines.
 pub fn expect_all_lines(rope: &Rope, places: &[(usize, usize)]) -> Result<(), Failure> {
     for (char_idx, line) in places {
         same!(rope.try_char_to_line(*char_idx), Ok(*line));

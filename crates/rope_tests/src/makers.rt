@@ -1,4 +1,4 @@
-//! Ropes of texts that are owned, borrowed, or given by an iterator.
+//! Ropes of texts that are owned, borrowed, or yielded by an iterator.
 use crate::ropes::asks_made;
 use rope_plain::compare::{compare_unicode, expect_few_chunks, lens};
 use rope_plain::failure::Failure;
@@ -11,7 +11,7 @@ fn owned(alloc: Global, text: &str) -> Result<String, AllocError> {
     String::from_str(alloc, text)
 }
 
-/// Fails unless the rope has the text `ab`, whose characters they are.
+/// Fails unless the rope has the text `ab`.
 fn expect_ab(rope: &Rope) -> Result<(), Failure> {
     compare_unicode(rope, &['a', 'b'])
 }

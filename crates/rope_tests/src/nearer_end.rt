@@ -1,4 +1,4 @@
-//! Places of texts whose number of characters is known, which are counted from the nearer end: each
+//! Conversions in texts with a known number of characters, which scan from the nearer end: each
 //! against a count of one character after the other.
 ghost use Rattle.std.specs.Prelude.{◌≡◌, ◌≤◌, length};
 ghost use Rattle.std.specs.Str.{chars};
@@ -13,7 +13,7 @@ use rope_tree::build::build;
 use rope_tree::{Maker, Node, NodeText, Unit, convert};
 use std::alloc::{AllocError, Global};
 
-/// Fails unless these bytes belong to the character `idx`.
+/// Fails unless these bytes convert to the character `idx`.
 fn belong(text: &str, count: usize, idx: usize, from: usize, to: usize) -> Result<(), Failure>
     requires { count ≡ length (chars text.now) }
 {
@@ -23,7 +23,7 @@ fn belong(text: &str, count: usize, idx: usize, from: usize, to: usize) -> Resul
     Ok(())
 }
 
-/// Fails unless a text ends at a byte, and so do the places past its end.
+/// Fails unless a text ends at a byte, and so do the indices past its end.
 fn ends_at(text: &str, count: usize, byte: usize) -> Result<(), Failure>
     requires { count ≡ length (chars text.now) }
 {
@@ -33,7 +33,7 @@ fn ends_at(text: &str, count: usize, byte: usize) -> Result<(), Failure>
     belong(text, count, count, byte, byte.saturating_add(3))
 }
 
-/// Fails unless each code unit of a text is found, and the end behind them.
+/// Fails unless each code unit of a text is found, and the end after them.
 fn expect_units(text: &str) -> Result<(), Failure> {
     let info = TextInfo::from_str(text, LineBreaks::Lf);
     let mut idx: usize = 0;
@@ -53,7 +53,7 @@ fn expect_units(text: &str) -> Result<(), Failure> {
     Ok(())
 }
 
-/// Fails unless each place of a text is found.
+/// Fails unless each index of a text is found.
 fn expect_places(text: &str) -> Result<(), Failure> {
     let count = count_chars(text);
     let mut idx: usize = 0;
@@ -70,8 +70,8 @@ fn expect_places(text: &str) -> Result<(), Failure> {
     expect_units(text)
 }
 
-/// The byte and the character of a place of a tree; the end of what can be asked, where it has
-/// none.
+/// Returns the byte and the character of an index of a tree, or the end of the valid indices if
+/// there is none.
 fn places(node: &Node, char_idx: usize, byte_idx: usize) -> (usize, usize) {
     let _ = node.height();
     let info = node.info();
@@ -84,7 +84,7 @@ fn places(node: &Node, char_idx: usize, byte_idx: usize) -> (usize, usize) {
     )
 }
 
-/// Fails unless each place of a tree is found.
+/// Fails unless each index of a tree is found.
 fn expect_places_of(node: &Node, text: &str) -> Result<(), Failure> {
     let mut idx: usize = 0;
     let mut byte: usize = 0;
@@ -107,7 +107,7 @@ fn expect_right_in_a_tree(alloc: Global, text: &str) -> Result<(), Failure> {
     expect_places_of(&node, text)
 }
 
-/// The bytes of the first characters.
+/// Returns the number of bytes of the first characters.
 fn front_len(text: &str, chars: usize) -> usize {
     let mut byte: usize = 0;
     for c in text.chars().take(chars) {
@@ -116,7 +116,7 @@ fn front_len(text: &str, chars: usize) -> usize {
     byte
 }
 
-/// Fails unless so many characters of a leaf have their bytes, from each place on.
+/// Fails unless `len` characters of a leaf have their bytes, from each index on.
 fn expect_ranges(leaf: &NodeText, text: &str, len: usize) -> Result<(), Failure> {
     let count = count_chars(leaf.as_str());
     for start in 0..count.saturating_add(2) {
@@ -136,7 +136,7 @@ fn expect_right_in_a_leaf(text: &str) -> Result<(), Failure> {
     Ok(())
 }
 
-/// A text with so many bytes before it and behind it.
+/// Returns a text with `before` bytes before it and `behind` bytes after it.
 fn between(alloc: Global, text: &str, before: usize, behind: usize) -> Result<String, AllocError> {
     let mut whole = "a".repeat(alloc, before)?;
     whole.push_str(text)?;
@@ -156,7 +156,7 @@ fn expect_right_between(
     expect_places(whole.as_str())
 }
 
-/// Fails unless each place of a text is found, with letters before it and behind it.
+/// Fails unless each index of a text is found, with letters before and after it.
 fn expect_right_anywhere(alloc: Global, text: &str) -> Result<(), Failure> {
     for letters in 0..67 {
         within(

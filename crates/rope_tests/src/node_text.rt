@@ -1,4 +1,4 @@
-//! Bytes and characters put into the text of a leaf, and taken out of it.
+//! Bytes and characters inserted into the text of a leaf, and removed from it.
 ghost use Rattle.std.specs.Prelude.{◌≡◌};
 ghost use Rattle.rope_text.specs.Text.{byte_len};
 

@@ -5,7 +5,7 @@ use rope_plain::{same, some};
 use rope_position::{Position, Positions};
 use ropey::{Error, LineBreaks, Rope, RopeSlice};
 
-/// Fails unless characters of a text stand on these lines and columns, and are found there.
+/// Fails unless characters of a text have these lines and columns, and are found there.
 fn expect_all_positions<P: Positions>(
     text: &P,
     places: &[(usize, usize, usize)],
@@ -21,7 +21,7 @@ fn expect_all_positions<P: Positions>(
     Ok(())
 }
 
-/// Lines and columns, and the characters that are found there, or why none are.
+/// Lines and columns, and the characters found there, or the errors.
 const ANSWERS: [(usize, usize, ropey::Result<usize>); 6] = [
     (0, 2, Ok(1)),
     (0, 6, Ok(5)),

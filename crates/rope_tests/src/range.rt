@@ -1,4 +1,4 @@
-//! Index ranges of each kind, and how a bad one is refused.
+//! Index ranges of each kind, and the errors of bad ones.
 use rope_plain::failure::Failure;
 use rope_plain::same;
 use rope_text::range::char_bounds;

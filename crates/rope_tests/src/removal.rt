@@ -1,4 +1,4 @@
-//! Characters taken out of one leaf.
+//! Characters removed from one leaf.
 use rope_plain::failure::Failure;
 use rope_plain::same;
 use rope_text::LineBreaks;
@@ -6,7 +6,7 @@ use rope_tree::build::build;
 use rope_tree::{Editor, Made, Maker, Node, remove_at};
 use std::alloc::Global;
 
-/// Removes where the characters are there.
+/// Removes characters that exist.
 fn remove(editor: &mut Editor, root: &mut Node, start: usize, end: usize) -> Made<bool> {
     if start < end && end <= root.info().chars {
         return remove_at(editor, root, start, end);
@@ -14,7 +14,7 @@ fn remove(editor: &mut Editor, root: &mut Node, start: usize, end: usize) -> Mad
     Ok(false)
 }
 
-/// Fails unless a tree of the text is made, and becomes what it should.
+/// Fails unless a tree of the text can be made, and the test of it passes.
 fn becomes<F: FnOnce(&mut Node) -> Result<(), Failure>>(
     alloc: Global,
     text: &str,
@@ -27,7 +27,8 @@ fn becomes<F: FnOnce(&mut Node) -> Result<(), Failure>>(
     ask(&mut root)
 }
 
-/// The same of a text of a thousand lines, in 8,000 characters.
+/// Fails unless a tree of a thousand lines, in 8,000 characters, can be made, and the test of it
+/// passes.
 fn becomes_of_lines<F: FnOnce(&mut Node) -> Result<(), Failure>>(
     alloc: Global,
     breaks: LineBreaks,

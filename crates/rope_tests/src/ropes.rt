@@ -1,5 +1,5 @@
-//! Ropes that are made, asked, and dropped: here alone, since each place where a rope is dropped
-//! takes long to prove.
+//! Ropes that are made, queried, and dropped: only here, since each drop of a rope takes long to
+//! prove.
 use rope_plain::failure::Failure;
 use rope_plain::texts::{padded, repeated};
 use ropey::{LineBreaks, Rope};
@@ -39,7 +39,7 @@ pub fn asks<F: FnOnce(&Rope) -> Result<(), Failure>>(
     asks_by(alloc, text, LineBreaks::Unicode, ask)
 }
 
-/// Fails unless a rope of so many times the text is made, and is right.
+/// Fails unless a rope of a text, `count` times, is made, and is right.
 pub fn asks_of_many<F: FnOnce(&Rope) -> Result<(), Failure>>(
     alloc: Global,
     text: &str,
@@ -52,7 +52,7 @@ pub fn asks_of_many<F: FnOnce(&Rope) -> Result<(), Failure>>(
     asks(alloc, text.as_str(), ask)
 }
 
-/// Fails unless a rope of so many bytes, with such an end, is made, and is right.
+/// Fails unless a rope of `bytes` bytes, with such an end, is made, and is right.
 pub fn asks_of_padded<F: FnOnce(&Rope) -> Result<(), Failure>>(
     alloc: Global,
     bytes: usize,
@@ -65,7 +65,7 @@ pub fn asks_of_padded<F: FnOnce(&Rope) -> Result<(), Failure>>(
     asks(alloc, text.as_str(), ask)
 }
 
-/// Fails unless a rope of the text, by a set of line breaks, is made, and becomes what it should.
+/// Fails unless a rope of the text, by a set of line breaks, is made, and the test of it passes.
 pub fn becomes_by<F: FnOnce(&mut Rope) -> Result<(), Failure>>(
     alloc: Global,
     text: &str,
@@ -78,7 +78,7 @@ pub fn becomes_by<F: FnOnce(&mut Rope) -> Result<(), Failure>>(
     ask(&mut rope)
 }
 
-/// Fails unless a rope of the text is made, and becomes what it should.
+/// Fails unless a rope of the text is made, and the test of it passes.
 pub fn becomes<F: FnOnce(&mut Rope) -> Result<(), Failure>>(
     alloc: Global,
     text: &str,

@@ -1,5 +1,4 @@
-//! Ropes of each set of line breaks, against rows that were worked by hand and plain lists of
-//! characters.
+//! Ropes of each set of line breaks, against rows worked by hand and plain lists of characters.
 use crate::lookups::expect_all_lines;
 use crate::ropes::{asks_by, asks_made, becomes_by};
 use rope_plain::compare::{SETS, compare, expect_few_chunks};
@@ -11,7 +10,7 @@ use rope_plain::texts::{BREAKS, chars_of, random_text};
 use ropey::{Error, LineBreaks, Rope};
 use std::alloc::Global;
 
-/// By each set of line breaks how many lines there are, and the lines of five characters.
+/// By each set of line breaks the number of lines, and the lines of five characters.
 const LINES: [(LineBreaks, usize, [(usize, usize); 5]); 3] = [
     (LineBreaks::Lf, 3, [(0, 0), (1, 1), (8, 2), (9, 2), (37, 2)]),
     (
@@ -26,7 +25,7 @@ const LINES: [(LineBreaks, usize, [(usize, usize); 5]); 3] = [
     ),
 ];
 
-/// Fails unless a rope has this set of line breaks, so many lines, and characters on these.
+/// Fails unless a rope has this set of line breaks, that number of lines, and characters on these.
 fn expect_lines(
     rope: &Rope,
     breaks: LineBreaks,
@@ -81,7 +80,7 @@ fn lines_start_by_each_set(rt: HostRuntime) -> Result<(), Failure> {
     expect_starts(rt.alloc(), LineBreaks::Unicode, &every)
 }
 
-/// Fails unless a rope of another set is refused at the end of this one.
+/// Fails unless an append of a rope with another set is refused.
 fn refuses_another_set(alloc: Global, rope: &mut Rope, text: &str) -> Result<(), Failure> {
     let other = Rope::from_str(alloc, text)?;
     same!(rope.append(other), Err(Error::LineBreaksDiffer));
@@ -93,7 +92,7 @@ fn expect_text_by_lf(alloc: Global, rope: &Rope, text: &str) -> Result<(), Failu
     compare(rope, &plain, LineBreaks::Lf)
 }
 
-/// Fails unless a rope of another set is refused, and this one stays.
+/// Fails unless a rope of another set is refused, and this one is unchanged.
 fn keeps_its_set(alloc: Global, text: &str) -> Result<(), Failure> {
     becomes_by(alloc, text, LineBreaks::Lf, |rope| {
         refuses_another_set(alloc, rope, text)?;
@@ -125,7 +124,7 @@ fn an_empty_rope_keeps_its_set(rt: HostRuntime) -> Result<(), Failure> {
     Ok(())
 }
 
-/// Fails unless look-ups at some places of a rope answer as a plain list does.
+/// Fails unless lookups at some indices of a rope agree with a plain list.
 fn expect_places(rope: &Rope, plain: &[char], numbers: &mut Numbers) -> Result<(), Failure> {
     for _ in 0..20 {
         compare_at(rope, plain, numbers.up_to(plain.len()))?;
@@ -133,7 +132,7 @@ fn expect_places(rope: &Rope, plain: &[char], numbers: &mut Numbers) -> Result<(
     Ok(())
 }
 
-/// Fails unless a rope is a plain list, in whole and at some places.
+/// Fails unless a rope equals a plain list, in whole and at some indices.
 fn expect_plain(rope: &Rope, plain: &[char], numbers: &mut Numbers) -> Result<(), Failure> {
     compare(rope, plain, rope.line_breaks())?;
     expect_few_chunks(rope)?;
@@ -163,7 +162,7 @@ fn expect_random_text(
     expect_text_by(alloc, text.as_str(), numbers, breaks)
 }
 
-/// The number that the row of texts begins with.
+/// The start of the random sequence.
 const SEED: u64 = 0x9E37_79B9_7F4A_7C15;
 
 /// Fails unless ropes of random texts are right, by each set of line breaks.

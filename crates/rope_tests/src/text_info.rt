@@ -1,4 +1,4 @@
-//! Counts at each place of a text.
+//! Counts at each position of a text.
 use rope_plain::failure::{Failure, within};
 use rope_plain::{holds, same};
 use rope_text::str_utils::{
@@ -8,7 +8,7 @@ use rope_text::str_utils::{
 use rope_text::{LineBreaks, TextInfo};
 use std::alloc::{AllocError, Global};
 
-/// What a pattern counts: its characters, its line breaks and its pairs of code units.
+/// The counts of a pattern: its characters, its line breaks and its pairs of code units.
 #[derive(Clone, Copy)]
 struct Counts {
     chars: u8,
@@ -17,7 +17,7 @@ struct Counts {
 }
 
 impl Counts {
-    /// Fails unless a text counts so, of the pattern after k letters and before some more.
+    /// Fails unless a text of the pattern after k letters and before `more` others has its counts.
     fn expect_of(self, text: &str, k: u8, more: u8) -> Result<(), Failure> {
         let chars = usize::from(k) + usize::from(more) + usize::from(self.chars);
         let pairs = usize::from(self.pairs);
@@ -52,7 +52,7 @@ impl Counts {
     }
 }
 
-/// k letters, the pattern and one letter, and then so many more.
+/// Returns k letters, the pattern and one letter, and then `more` others.
 fn text_of(alloc: Global, k: u8, pattern: &str, more: usize) -> Result<String, AllocError> {
     let mut text = "a".repeat(alloc, usize::from(k))?;
     text.push_str(pattern)?;
@@ -80,8 +80,7 @@ fn expect_counted_and_placed(
     counts.place(text.as_str(), byte, k)
 }
 
-/// Fails unless the pattern is counted where it comes to stand at each place of a block and across
-/// two.
+/// Fails unless the pattern is counted at each position of a block and across two blocks.
 fn expect_counted_at_each_place(
     alloc: Global,
     pattern: &str,

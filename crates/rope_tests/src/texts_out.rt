@@ -1,4 +1,4 @@
-//! Texts copied, shown and lent by ropes and slices.
+//! Texts copied, shown and borrowed from ropes and slices.
 use crate::ropes::asks;
 use rope_plain::failure::Failure;
 use rope_plain::texts::repeated;
@@ -6,7 +6,7 @@ use rope_plain::{same, some};
 use ropey::{CowStr, Rope, RopeBuilder, RopeSlice};
 use std::alloc::{AllocError, Global};
 
-/// Fails unless this text of a rope or slice was lent.
+/// Fails unless this text of a rope or slice was borrowed.
 fn lends(lent: ropey::Result<CowStr<'_>>, text: &str) -> Result<(), Failure> {
     match lent {
         Ok(CowStr::Borrowed(lent)) => {
@@ -17,7 +17,7 @@ fn lends(lent: ropey::Result<CowStr<'_>>, text: &str) -> Result<(), Failure> {
     }
 }
 
-/// Fails unless this text of a rope or slice was copied, where it might have been lent.
+/// Fails unless this text of a rope or slice was copied, where it might have been borrowed.
 fn copies(copied: ropey::Result<CowStr<'_>>, text: &str) -> Result<(), Failure> {
     match copied {
         Ok(CowStr::Owned(copy)) => {
@@ -47,7 +47,7 @@ fn lends_a_part(alloc: Global, slice: Option<RopeSlice<'_>>) -> Result<(), Failu
     lends(slice.try_to_cow(alloc), "ello!")
 }
 
-/// Fails unless a clone of the rope gives its text away.
+/// Fails unless a clone of the rope can be turned into its text.
 fn gives_away(rope: &Rope) -> Result<(), Failure> {
     let clone = rope.clone()?;
     copies(clone.try_into_cow(), "Hello!")
@@ -69,7 +69,7 @@ fn a_text_of_one_chunk_is_lent(rt: HostRuntime) -> Result<(), Failure> {
     expect_copy(rope.try_into_string(), "Hello!")
 }
 
-/// Fails unless a rope of several chunks is copied in each way.
+/// Fails unless a rope of several chunks is copied by each call.
 fn copies_chunks(alloc: Global, rope: &Rope, text: &str) -> Result<(), Failure> {
     copies(rope.try_to_cow(alloc), text)?;
     copies(rope.slice(..).try_to_cow(alloc), text)?;

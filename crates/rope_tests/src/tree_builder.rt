@@ -7,7 +7,7 @@ use std::alloc::Global;
 
 const PIECES: [&str; 5] = ["a\r", "\nbä", "", "日本", "𝄞"];
 
-/// Appends the pieces once; not where there is no memory, or as many bytes as all of them have.
+/// Appends the pieces once.
 fn appends(builder: &mut Builder) -> Result<(), Failure> {
     for piece in &PIECES {
         holds!(builder.len_bytes() < 16_000);
@@ -23,7 +23,7 @@ fn appends_all(builder: &mut Builder) -> Result<(), Failure> {
     Ok(())
 }
 
-/// Fails unless the builder ends in a tree of this height, with so many bytes and line breaks.
+/// Fails unless the builder ends in a tree of this height, with that many bytes and line breaks.
 fn ends_in(
     alloc: Global,
     builder: Builder,

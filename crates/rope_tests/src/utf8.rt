@@ -1,12 +1,12 @@
-//! UTF-8 checked at every place of a block: byte strings of which Unicode's Table 3-7 says whether
-//! they are characters, and strings that look random, against the standard library.
+//! UTF-8 checked at every position of a block: byte strings that Unicode's Table 3-7 classifies,
+//! and pseudorandom strings, against the standard library.
 use rope_plain::failure::{Failure, within};
 use rope_plain::numbers::Numbers;
 use rope_plain::{holds, same};
 use rope_text::utf8::{front, text_of, valid_len};
 use std::alloc::{AllocFailed, Global};
 
-/// The first and the last character of each row of Table 3-7, and how many bytes each has.
+/// The first and the last character of each row of Table 3-7, and its number of bytes.
 const CHARACTERS: [([u8; 4], usize); 18] = [
     ([0x00, 0, 0, 0], 1),
     ([0x7F, 0, 0, 0], 1),
@@ -28,9 +28,9 @@ const CHARACTERS: [([u8; 4], usize); 18] = [
     ([0xF4, 0x8F, 0xBF, 0xBF], 4),
 ];
 
-/// Bytes that no row has, nor any row begins with them and goes on in ASCII: single continuations,
-/// overlong forms, surrogates, what lies beyond the last character, bytes that begin nothing, and
-/// characters without their last bytes.
+/// Bytes in no row of the table, even when ASCII follows: single continuations, overlong forms,
+/// surrogates, numbers beyond the last character, bytes that begin nothing, and characters without
+/// their last bytes.
 const WRONG: [([u8; 4], usize); 36] = [
     ([0x80, 0, 0, 0], 1),
     ([0xBF, 0, 0, 0], 1),
@@ -73,7 +73,7 @@ const WRONG: [([u8; 4], usize); 36] = [
 /// Characters of one to four bytes.
 const FILLINGS: [&str; 4] = ["a", "é", "あ", "😀"];
 
-/// Puts `part` behind the bytes until they have so many.
+/// Appends `part` to the bytes until they have at least `least`.
 fn fill(bytes: &mut Vec<u8>, part: &[u8], least: usize) -> Result<(), AllocFailed<u8>> {
     for _ in 0..least {
         if bytes.len() >= least {
@@ -86,7 +86,7 @@ fn fill(bytes: &mut Vec<u8>, part: &[u8], least: usize) -> Result<(), AllocFaile
     Ok(())
 }
 
-/// Fails unless the longest text in front has so many bytes.
+/// Fails unless the longest prefix that is a text has `len` bytes.
 fn expect_front(bytes: &[u8], len: usize) -> Result<(), Failure> {
     let is_whole = len == bytes.len();
     match text_of(bytes) {
@@ -103,8 +103,8 @@ fn expect_front(bytes: &[u8], len: usize) -> Result<(), Failure> {
     Ok(())
 }
 
-/// Fails unless some bytes behind so many bytes of characters are a text or not, as they should be,
-/// at the end and before letters.
+/// Fails unless some bytes after a number of bytes of characters are a text or not, as expected, at
+/// the end and before letters.
 fn expect_right(
     alloc: Global,
     filling: &str,
@@ -125,7 +125,7 @@ fn expect_right(
     expect_front(&bytes, if is_text { all } else { before })
 }
 
-/// Fails unless all rows are right behind so many bytes.
+/// Fails unless all rows are right after a number of bytes.
 fn expect_all_right(
     alloc: Global,
     least: usize,
@@ -168,7 +168,8 @@ const TELLING: [u8; 24] = [
     0xEE, 0xEF, 0xF0, 0xF1, 0xF3, 0xF4, 0xF5, 0xFF,
 ];
 
-/// Up to some 130 bytes of characters, with up to one telling byte in a hundred steps, or in ten.
+/// Returns up to some 130 bytes of characters, with up to one telling byte in a hundred steps, or
+/// in ten.
 fn random_bytes(alloc: Global, numbers: &mut Numbers) -> Result<Vec<u8>, AllocFailed<u8>> {
     let mut bytes = Vec::new(alloc);
     let rarity = if numbers.up_to(1) == 0 { 9 } else { 99 };
@@ -188,7 +189,7 @@ fn random_bytes(alloc: Global, numbers: &mut Numbers) -> Result<Vec<u8>, AllocFa
     Ok(bytes)
 }
 
-/// Fails unless the standard library says the same.
+/// Fails unless the standard library agrees.
 fn expect_as_in_std(bytes: &[u8]) -> Result<(), Failure> {
     match str::from_utf8(bytes) {
         Ok(text) => expect_front(bytes, text.len()),
@@ -201,7 +202,7 @@ fn expect_right_of_random(alloc: Global, numbers: &mut Numbers) -> Result<(), Fa
     expect_as_in_std(&bytes)
 }
 
-/// The number that the row of texts begins with.
+/// The start of the random sequence.
 const SEED: u64 = 0x9E37_79B9_7F4A_7C15;
 
 #[test]
