@@ -1,4 +1,4 @@
-//! Ropes that a builder makes of one character after the other.
+//! Ropes that a builder makes of single characters.
 use crate::words::{LENGTHS, OF_BREAKS, OF_WIDE, SHORTEST, Words, around};
 use rope_plain::compare::{compare, expect_few_chunks};
 use rope_plain::failure::{Failure, within};
@@ -20,7 +20,7 @@ fn expect_right(rope: &Rope, plain: &[char], breaks: LineBreaks) -> Result<(), F
     expect_few_chunks(rope)
 }
 
-/// Fails unless a builder that these characters are passed to one by one makes a rope of them.
+/// Fails unless a builder that gets these characters one by one makes a rope of them.
 fn expect_made(
     mut builder: RopeBuilder,
     plain: &[char],
@@ -41,7 +41,7 @@ fn expect_text_built(alloc: Global, text: &str, breaks: LineBreaks) -> Result<()
     expect_built(alloc, &plain, breaks)
 }
 
-/// Fails unless a rope is built of a text in which a word stands behind so many letters.
+/// Fails unless a rope is built of a text with a word after a number of letters.
 fn expect_word_built(
     alloc: Global,
     before: usize,

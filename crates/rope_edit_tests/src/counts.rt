@@ -1,16 +1,16 @@
-//! What counted edits count in small trees, worked by hand from the shape of the tree: the nodes
+//! The counts of counted edits in small trees, worked by hand from the shape of the tree: the nodes
 //! entered, the totals compared and the nodes made.
 //!
 //! A rope of 20,000 letters has a list of 21 leaves, 20 of them of 984 bytes. A search of 21
-//! children for the eleventh takes five comparisons. An edit first tries the child of the edit
-//! before, the first one of a fresh list, by two comparisons.
+//! children for the eleventh takes five comparisons. An edit first tries the child of the previous
+//! edit, the first one of a fresh list, by two comparisons.
 use rope_plain::failure::Failure;
 use rope_plain::texts::{repeated, rope_of};
 use rope_plain::{holds, same};
 use ropey::{LineBreaks, Rope, Steps};
 use std::alloc::Global;
 
-/// Counts as a call may find them: of a call before.
+/// Counts before a call: those of an earlier call.
 const LEFT_OVER: Steps = Steps {
     nodes: 1,
     compares: 2,
@@ -21,8 +21,8 @@ fn counts(steps: Steps) -> [u64; 3] {
     [steps.nodes, steps.compares, steps.made]
 }
 
-/// The root and the leaf are entered. The child is found twice, since its leaf is full, which is
-/// cut in two.
+/// The root and the leaf are entered. The child is found twice, since its leaf is full and is
+/// split.
 fn counts_a_cut_leaf(rope: &mut Rope) -> Result<(), Failure> {
     let mut steps = LEFT_OVER;
     holds!(rope.len_chars() == 20_000);
@@ -53,7 +53,7 @@ fn an_insert_beside_a_clone_counts_the_copies(rt: HostRuntime) -> Result<(), Fai
     counts_copies(&mut clone)
 }
 
-/// A leaf of 6,500 bytes makes seven, the last of 596 bytes, and a list over them.
+/// A leaf of 6,500 bytes becomes seven, the last of 596 bytes, with a list over them.
 fn counts_a_long_text(alloc: Global, rope: &mut Rope) -> Result<(), Failure> {
     let text = repeated(alloc, "z", 6_000)?;
     let mut steps = LEFT_OVER;
@@ -83,9 +83,9 @@ fn a_removal_in_place_makes_no_node(rt: HostRuntime) -> Result<(), Failure> {
     counts_a_short_removal(&mut rope)
 }
 
-/// Each side takes a search, a leaf of what the cut leaves of the eleventh, and a list. The append
-/// looks up the last character of 11 leaves by two comparisons, to see whether it is a CR, and puts
-/// all 22 leaves into one list.
+/// Each side takes a search, a leaf of its part of the eleventh, and a list. The append looks up
+/// the last character of 11 leaves by two comparisons, to test for a CR, and puts all 22 leaves
+/// into one list.
 fn counts_a_split_and_its_append(rope: &mut Rope) -> Result<(), Failure> {
     let mut split = LEFT_OVER;
     let mut joined = LEFT_OVER;

@@ -1,4 +1,4 @@
-//! Ropes that texts are put into, against rows that were worked by hand.
+//! Inserts into ropes, against rows worked by hand.
 use rope_plain::compare::{expect_together, lens};
 use rope_plain::failure::{Failure, within};
 use rope_plain::texts::rope_of;
@@ -6,22 +6,22 @@ use rope_plain::{holds, same};
 use ropey::Rope;
 use std::alloc::Global;
 
-/// A text so many times, what is put into it, and how it is then.
+/// A text, repeated, an insert into it, and the result.
 #[derive(Clone, Copy)]
 struct Row<'a> {
     text: &'a str,
     count: usize,
     inserts: &'a [(usize, &'a str)],
     lens: [usize; 4],
-    /// Of how many chunks it is at least, and at most.
+    /// The minimum and maximum number of chunks.
     least: usize,
     most: usize,
-    /// A character that lies in one chunk with the one behind it.
+    /// A character that is in one chunk with the next one.
     first: usize,
 }
 
 const ROWS: [Row<'static>; 5] = [
-    // A pair behind a full leaf.
+    // A pair after a full leaf.
     Row {
         text: "a",
         count: 984,
@@ -31,7 +31,7 @@ const ROWS: [Row<'static>; 5] = [
         most: 986,
         first: 984,
     },
-    // A full leaf that is cut between letters.
+    // A full leaf that is split between letters.
     Row {
         text: "a",
         count: 984,
@@ -41,7 +41,7 @@ const ROWS: [Row<'static>; 5] = [
         most: 2,
         first: 492,
     },
-    // A break that is put in makes a pair with the one behind it, or before it.
+    // An inserted break makes a pair with the one after it, or before it.
     Row {
         text: "\n",
         count: 1_967,
@@ -60,7 +60,7 @@ const ROWS: [Row<'static>; 5] = [
         most: 1_968,
         first: 983,
     },
-    // A pair that is parted, before others.
+    // A pair that is split, before others.
     Row {
         text: "\r\n",
         count: 492,

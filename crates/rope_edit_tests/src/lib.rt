@@ -1,14 +1,14 @@
 //! Tests of edits of ropes and of builders, against lists of characters.
 //!
 //! No contract shows these:
-//! - a call succeeds where there is memory, and rows worked by hand come out;
-//! - a rope lies in few chunks after many edits;
+//! - a call succeeds if there is memory, and rows worked by hand come out;
+//! - a rope has few chunks after many edits;
 //! - a counted edit counts each node and comparison;
-//! - texts of 2^62 bytes are edited without a walk over them.
+//! - texts of 2^62 bytes are edited without a scan.
 //!
-//! The proofs show these too, and they are run for the compiler's sake: each edit leaves its text,
-//! with its lengths and look-ups, and clones stay. Breaks and wide characters lie where leaves are
-//! cut.
+//! The proofs show these too, and they are run to test the compiler: each edit gives its text, with
+//! its lengths and lookups, and clones don't change. Breaks and wide characters are where leaves
+//! are cut.
 #![tactic(auto)]
 
 #[cfg(test)]

@@ -1,4 +1,4 @@
-//! Ropes as long as a text may be, whose parts are shared.
+//! Ropes of the maximum length, with shared nodes.
 use rope_plain::compare::{compare_unicode, lens};
 use rope_plain::failure::{Failure, within};
 use rope_plain::texts::repeated;
@@ -11,7 +11,7 @@ const HALF: usize = 1 << 61;
 
 const WHOLE: usize = 1 << 62;
 
-/// The lengths of texts that are joined to themselves so many times.
+/// The lengths of texts that are joined to themselves a number of times.
 const DOUBLED: [(&str, usize, [usize; 4]); 3] = [
     ("a", 62, [WHOLE, WHOLE, 1, WHOLE]),
     ("\r\n", 61, [WHOLE, WHOLE, 2_305_843_009_213_693_953, WHOLE]),
@@ -26,7 +26,7 @@ fn double(rope: &mut Rope, times: usize) -> Result<(), Error> {
     Ok(())
 }
 
-/// A text that is joined to itself so many times.
+/// Returns a text that is joined to itself `times` times.
 fn doubled(alloc: Global, text: &str, times: usize) -> Result<Rope, Error> {
     let mut rope = Rope::from_str(alloc, text)?;
     double(&mut rope, times)?;
@@ -55,7 +55,7 @@ fn a_text_doubled_to_2_to_the_62_bytes_has_its_lengths(rt: HostRuntime) -> Resul
     Ok(())
 }
 
-/// What is done to a long text of one letter.
+/// An edit of a long text of one letter.
 #[derive(Clone, Copy)]
 enum Step<'a> {
     Double,
@@ -65,7 +65,7 @@ enum Step<'a> {
     InsertLong(&'a str),
 }
 
-/// Fails unless the rope has the character before the end, by each look-up that takes a character's
+/// Fails unless the rope has the character before the end, by each lookup that takes a character
 /// index.
 fn expect_char(rope: &Rope, char_idx: usize, c: char) -> Result<(), Failure> {
     holds!(char_idx < rope.len_chars());
@@ -83,8 +83,7 @@ fn refuses_its_double(rope: &mut Rope) -> Result<(), Failure> {
     Ok(())
 }
 
-/// Fails unless a text is joined with what is behind its first character, which is as long but for
-/// one.
+/// Fails unless a rope is joined with the rest of another after its first character.
 fn takes_rest(rope: &mut Rope, first: &mut Rope) -> Result<(), Failure> {
     let rest = first.try_split_off(1)?;
     let lens = [first.len_bytes(), rest.len_bytes()];
@@ -93,7 +92,7 @@ fn takes_rest(rope: &mut Rope, first: &mut Rope) -> Result<(), Failure> {
     Ok(())
 }
 
-/// Fails unless a text is joined with itself, but for one character.
+/// Fails unless a text is joined with itself except for one character.
 fn joins_with_itself_but_one(rope: &mut Rope) -> Result<(), Failure> {
     let mut first = rope.clone()?;
     takes_rest(rope, &mut first)
@@ -107,15 +106,15 @@ fn refuses_more(rope: &mut Rope) -> Result<(), Failure> {
     Ok(())
 }
 
-/// Fails unless the longest text is made, cut behind its first character and joined with as long a
-/// text, and takes no more.
+/// Fails unless the longest text is made, cut after its first character and joined with a text of
+/// that length, and takes no more.
 fn expect_made_longest(rope: &mut Rope) -> Result<(), Failure> {
     joins_with_itself_but_one(rope)?;
     same!(rope.len_bytes(), isize::MAX as usize);
     refuses_more(rope)
 }
 
-/// Fails unless a character and a text are put into the middle, and all but the ends taken out.
+/// Fails unless a character and a text are inserted into the middle, and all but the ends removed.
 fn expect_edited(rope: &mut Rope) -> Result<(), Failure> {
     holds!(rope.len_chars() == WHOLE);
     rope.insert_char(HALF, 'x')?;
@@ -133,14 +132,14 @@ fn expect_copy_edited(whole: &Rope) -> Result<(), Failure> {
     expect_edited(&mut rope)
 }
 
-/// Fails unless a clone is edited, and the rope stays.
+/// Fails unless a clone is edited, and the rope doesn't change.
 fn expect_clone_edited(whole: &Rope) -> Result<(), Failure> {
     expect_copy_edited(whole)?;
     same!(whole.len_bytes(), WHOLE);
     Ok(())
 }
 
-/// The same edits, by calls that count their steps.
+/// Fails unless the counted calls make these edits.
 fn expect_edited_counted(rope: &mut Rope) -> Result<(), Failure> {
     let mut steps = Steps::new();
     holds!(rope.len_chars() == WHOLE);

@@ -1,5 +1,4 @@
-//! Long texts of CR and LF alone, against rows that were worked by hand and plain lists of
-//! characters.
+//! Long texts of CR and LF alone, against rows worked by hand and plain lists of characters.
 use crate::texts::add_letters;
 use rope_plain::compare::{compare_unicode, expect_text, lens};
 use rope_plain::failure::{Failure, within};
@@ -32,7 +31,7 @@ fn takes_cr(rope: &mut Rope, all: &[char]) -> Result<(), Failure> {
     compare_unicode(rope, all)
 }
 
-/// Fails unless clones are edited, and the rope, which is all but a CR before it, stays.
+/// Fails unless clones are edited, and the rope, which is all but a CR before it, doesn't change.
 fn expect_clones_edited(whole: &Rope, all: &[char]) -> Result<(), Failure> {
     let [_, plain @ ..] = all else {
         return Err(Failure::new("an empty list"));
@@ -46,7 +45,7 @@ fn expect_clones_edited(whole: &Rope, all: &[char]) -> Result<(), Failure> {
     compare_unicode(whole, plain)
 }
 
-/// Adds a text so many times, and then another.
+/// Appends a text `times` times, and then another.
 fn add_both(
     text: &mut String,
     first: &str,
@@ -58,7 +57,7 @@ fn add_both(
     add_letters(text, second, more)
 }
 
-/// A text so many times, and then another.
+/// Returns a text, repeated, and then another.
 fn text_of(
     alloc: Global,
     first: &str,
@@ -71,7 +70,7 @@ fn text_of(
     Ok(text)
 }
 
-/// A CR, and 2,000 times an LF and a CR.
+/// Returns a CR, and 2,000 times an LF and a CR.
 fn cr_and_pairs(alloc: Global) -> Result<Vec<char>, AllocError> {
     let text = text_of(alloc, "\r", 1, "\n\r", 2_000)?;
     chars_of(alloc, text.as_str())
@@ -84,7 +83,7 @@ fn a_break_at_the_start_shifts_all_pairs(rt: HostRuntime) -> Result<(), Failure>
     expect_clones_edited(&whole, &all)
 }
 
-/// How many edits are done between two comparisons of the whole text.
+/// The number of edits between two comparisons of the whole text.
 const BETWEEN: usize = 40;
 
 fn expect_text_of(
@@ -99,7 +98,7 @@ fn expect_text_of(
     expect_text(alloc, rope, text.as_str())
 }
 
-/// Fails unless the LF is taken out of each pair, the first one first. The number of breaks stays.
+/// Fails unless the LF of each pair is removed, the first one first. The number of breaks stays.
 fn expect_taken_apart(alloc: Global, rope: &mut Rope) -> Result<(), Failure> {
     for i in 0..2_000usize {
         rope.try_remove(i + 1..i + 2)?;
@@ -115,7 +114,7 @@ fn expect_taken_apart(alloc: Global, rope: &mut Rope) -> Result<(), Failure> {
     Ok(())
 }
 
-/// Fails unless an LF is put behind each CR, the first one first. The number of breaks stays.
+/// Fails unless an LF is inserted after each CR, the first one first. The number of breaks stays.
 fn expect_put_together(alloc: Global, rope: &mut Rope) -> Result<(), Failure> {
     for i in 0..2_000usize {
         rope.try_insert(2 * i + 1, "\n")?;
@@ -148,8 +147,7 @@ fn expect_pairs_again(alloc: Global, rope: &mut Rope, first: &Rope) -> Result<()
     Ok(())
 }
 
-/// Fails unless the pairs of a clone are taken apart and put together again, and it has the text of
-/// the rope again.
+/// Fails unless the pairs of a clone are split and restored, and it has the text of the rope again.
 fn expect_clone_edited(alloc: Global, first: &Rope) -> Result<(), Failure> {
     let mut rope = first.clone()?;
     expect_pairs_again(alloc, &mut rope, first)

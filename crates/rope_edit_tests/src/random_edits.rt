@@ -7,10 +7,10 @@ use rope_plain::texts::random_edit_text;
 use ropey::{Error, LineBreaks};
 use std::alloc::{AllocError, Global};
 
-/// How many edits are done between two comparisons of all ropes.
+/// The number of edits between two comparisons of all ropes.
 const BETWEEN: usize = 100;
 
-/// How many ropes there are at the most.
+/// The maximum number of ropes.
 const MOST: usize = 8;
 
 /// A longer text loses half of its characters, a shorter one gets more.
@@ -18,7 +18,7 @@ const LONG: usize = 30_000;
 
 const SHORT: usize = 200;
 
-/// What was done last, with its place and how many bytes or characters it moved.
+/// The last edit, with its index and its length in bytes or characters.
 #[derive(Clone, Copy, Debug)]
 enum Command {
     Insert { at: usize, bytes: usize },
@@ -29,7 +29,7 @@ enum Command {
     Clone,
 }
 
-/// Puts a random text in at a random place.
+/// Inserts a random text at a random index.
 fn insert(pair: &mut Pair, alloc: Global, numbers: &mut Numbers) -> Result<Command, Error> {
     let at = pair.place(numbers);
     let text = random_edit_text(alloc, numbers)?;
@@ -45,7 +45,7 @@ fn insert_char(pair: &mut Pair, alloc: Global, numbers: &mut Numbers) -> Result<
     Ok(Command::InsertChar { at, c })
 }
 
-/// Takes up to `most` characters out.
+/// Removes up to `most` characters.
 fn remove(
     pair: &mut Pair,
     alloc: Global,
@@ -59,7 +59,7 @@ fn remove(
     Ok(Command::Remove { from, to })
 }
 
-/// An edit of one rope, which keeps its length within bounds.
+/// Edits one rope, and keeps its length within bounds.
 fn edit_one(pair: &mut Pair, alloc: Global, numbers: &mut Numbers) -> Result<Command, Error> {
     let len = pair.plain.len();
     if len > LONG {
@@ -76,14 +76,14 @@ fn edit_one(pair: &mut Pair, alloc: Global, numbers: &mut Numbers) -> Result<Com
     }
 }
 
-/// Brings one of the ropes to the end of the row.
+/// Moves one of the ropes to the end of the list.
 fn choose(pairs: &mut [Pair], numbers: &mut Numbers) {
     if let Some(last) = pairs.len().checked_sub(1) {
         pairs.swap(numbers.take() % pairs.len(), last);
     }
 }
 
-/// Has the last two change their places.
+/// Swaps the last two.
 fn swap_last(pairs: &mut [Pair]) {
     let len = pairs.len();
     if len >= 2 {
@@ -107,7 +107,7 @@ fn add_copy(pairs: &mut Vec<Pair>) -> Result<(), Error> {
     }
 }
 
-/// Makes of the last rope two, and leaves the front last.
+/// Splits the last rope, with the front last.
 fn split_last(
     pairs: &mut Vec<Pair>,
     alloc: Global,
@@ -123,7 +123,7 @@ fn split_last(
     Ok(Command::Split { at })
 }
 
-/// Puts the last but one behind the last, where there are two.
+/// Appends the last but one to the last, if there are two.
 fn join_last(pairs: &mut Vec<Pair>) -> Result<(), Error> {
     if pairs.len() < 2 {
         return Ok(());
@@ -138,7 +138,7 @@ fn join_last(pairs: &mut Vec<Pair>) -> Result<(), Error> {
     }
 }
 
-/// An edit that makes of the last rope two, or of the last two one.
+/// Splits the last rope, or joins the last two.
 fn edit_two(pairs: &mut Vec<Pair>, alloc: Global, numbers: &mut Numbers) -> Result<Command, Error> {
     let has_room = pairs.len() < MOST;
     match numbers.take() % 3 {
@@ -154,7 +154,7 @@ fn edit_two(pairs: &mut Vec<Pair>, alloc: Global, numbers: &mut Numbers) -> Resu
     }
 }
 
-/// An edit, one in eight of them of more than one rope.
+/// Makes an edit, one in eight of more than one rope.
 fn edit_once(
     pairs: &mut Vec<Pair>,
     alloc: Global,
@@ -178,7 +178,7 @@ fn expect_last(pairs: &[Pair], breaks: LineBreaks) -> Result<(), Failure> {
     }
 }
 
-/// Fails unless the edited rope is right behind each edit of a round.
+/// Fails unless the edited rope is right after each edit of a round.
 fn expect_edits(
     pairs: &mut Vec<Pair>,
     alloc: Global,
@@ -204,7 +204,7 @@ fn add_copies(all: &mut Vec<Pair>, pairs: &[Pair]) -> Result<(), Error> {
     Ok(())
 }
 
-/// Fails unless all ropes are right; `which` says which they are.
+/// Fails unless all ropes are right; `which` names them.
 fn expect_all(pairs: &[Pair], breaks: LineBreaks, which: &str) -> Result<(), Failure> {
     for (i, pair) in pairs.iter().enumerate() {
         within(format_args!("{which} {i}"), pair.expect_same(breaks))?;
@@ -212,7 +212,7 @@ fn expect_all(pairs: &[Pair], breaks: LineBreaks, which: &str) -> Result<(), Fai
     Ok(())
 }
 
-/// Fails unless a rope is right, in few chunks, when it is re-chunked.
+/// Fails unless a rope is right, in few chunks, after it is re-chunked.
 fn expect_shrunk(pair: &mut Pair, breaks: LineBreaks) -> Result<(), Failure> {
     pair.rope.shrink_to_fit()?;
     pair.expect_same(breaks)?;
@@ -226,7 +226,7 @@ fn expect_all_shrunk(pairs: &mut [Pair], breaks: LineBreaks) -> Result<(), Failu
     Ok(())
 }
 
-/// How many rounds of edits are done between two times that all ropes are re-chunked.
+/// The number of rounds of edits before all ropes are re-chunked.
 const BETWEEN_SHRINKS: usize = 16;
 
 /// Fails unless the ropes are right after a round of edits, and the clones made before it too.
@@ -247,10 +247,10 @@ fn expect_round(
     expect_all(&clones, breaks, "clone")
 }
 
-/// The number that all rows of edits begin with.
+/// The start of all random sequences.
 const SEED: u64 = 0x9E37_79B9_7F4A_7C15;
 
-/// Fails unless rounds of edits go well of ropes of one set of line breaks, of which the first is
+/// Fails unless rounds of edits succeed on ropes of one set of line breaks, the first of which is
 /// empty.
 fn expect_rounds(alloc: Global, breaks: LineBreaks, rounds: usize) -> Result<(), Failure> {
     let mut pairs = Vec::new(alloc);

@@ -7,13 +7,13 @@ use rope_plain::texts::random_edit_text;
 use ropey::{Error, LineBreaks};
 use std::alloc::Global;
 
-/// How many inserts are done between two comparisons.
+/// The number of inserts between two comparisons.
 const BETWEEN: usize = 100;
 
-/// How many places are compared each time, beside the end.
+/// The number of indices compared each time, besides the end.
 const PLACES: usize = 4;
 
-/// Fails unless the rope is the plain text, in whole and at some places.
+/// Fails unless the rope is the plain text, in whole and at some indices.
 fn expect_right(pair: &Pair, numbers: &mut Numbers) -> Result<(), Failure> {
     for _ in 0..PLACES {
         compare_at(&pair.rope, &pair.plain, pair.place(numbers))?;
@@ -22,7 +22,7 @@ fn expect_right(pair: &Pair, numbers: &mut Numbers) -> Result<(), Failure> {
     pair.expect_same(LineBreaks::Unicode)
 }
 
-/// Puts a random text in, and answers where and how many bytes.
+/// Inserts a random text, and returns its index and its length in bytes.
 fn insert(pair: &mut Pair, alloc: Global, numbers: &mut Numbers) -> Result<(usize, usize), Error> {
     let char_idx = pair.place(numbers);
     let text = random_edit_text(alloc, numbers)?;
@@ -31,7 +31,7 @@ fn insert(pair: &mut Pair, alloc: Global, numbers: &mut Numbers) -> Result<(usiz
     Ok((char_idx, bytes))
 }
 
-/// Fails unless the rope is right behind many inserts, as it is compared now and then.
+/// Fails unless the rope is right after many inserts, compared now and then.
 fn takes_many(alloc: Global, numbers: &mut Numbers, inserts: usize) -> Result<(), Failure> {
     let mut pair = Pair::new(alloc, "", LineBreaks::Unicode)?;
     for number in 1..=inserts {
@@ -46,7 +46,7 @@ fn takes_many(alloc: Global, numbers: &mut Numbers, inserts: usize) -> Result<()
     pair.expect_same(LineBreaks::Unicode)
 }
 
-/// Fails unless many ropes, which begin empty, take so many inserts each.
+/// Fails unless many ropes, which start empty, take `inserts` inserts each.
 fn expect_taken(alloc: Global, seed: u64, ropes: usize, inserts: usize) -> Result<(), Failure> {
     let mut numbers = Numbers::new(seed);
     for rope in 0..ropes {

@@ -158,7 +158,7 @@ fn add(numbers: &mut Numbers, marks: &mut Marks, plain: &mut Plain) -> Result<St
     Ok(Step::Add)
 }
 
-/// Fails unless the cursor shows the marks that touch a range, in order of their starts.
+/// Fails unless the cursor returns the marks that touch a range, in order of their starts.
 fn expect_within(marks: &Marks, plain: &Plain, start: usize, end: usize) -> Result<(), Failure> {
     let mut touching = marks.within(start, end);
     let mut count: usize = 0;
@@ -183,7 +183,7 @@ fn expect_within(marks: &Marks, plain: &Plain, start: usize, end: usize) -> Resu
     Ok(())
 }
 
-/// Does a random step with both.
+/// Makes a random step with both.
 fn take_step(
     alloc: Global,
     numbers: &mut Numbers,
@@ -213,7 +213,7 @@ fn take_step(
     }
 }
 
-/// Fails unless each mark that was added is the plain one.
+/// Fails unless each mark that was added equals the plain one.
 fn expect_marks(marks: &Marks, plain: &Plain) -> Result<(), Failure> {
     same!(marks.len(), plain.marks.len());
     same!(marks.len_chars(), plain.len);

@@ -49,7 +49,7 @@ impl Tree {
         }
     }
 
-    /// Goes to the parent, and returns the version that was left.
+    /// Moves to the parent, and returns the version that was left.
     fn undo(&mut self) -> Option<usize> {
         let left = self.current;
         let parent = (*self.parents.get(left)?)?;
@@ -60,14 +60,14 @@ impl Tree {
         Some(left)
     }
 
-    /// Goes to the child that was left last.
+    /// Moves to the child that was left last.
     fn redo(&mut self) -> Option<usize> {
         let child = (*self.redo.get(self.current)?)?;
         self.current = child;
         Some(child)
     }
 
-    /// Whether a version is the current one or one that it was made of.
+    /// Returns whether a version is the current one or an ancestor of it.
     fn descends_from(&self, version: usize) -> bool {
         let mut at = self.current;
         for _ in 0..self.texts.len() {
@@ -82,7 +82,7 @@ impl Tree {
         false
     }
 
-    /// Goes up by `undo` to a version that `version` descends from, and then down to it.
+    /// Moves up by `undo` to an ancestor of `version`, and then down to it.
     fn go_to(&mut self, version: usize) {
         let mut top = version;
         for _ in 0..self.texts.len() {
@@ -135,7 +135,7 @@ fn random_change(
     Ok((change, after))
 }
 
-/// Does a random step with the history and with the tree.
+/// Makes a random step with the history and with the tree.
 fn take_step(
     alloc: Global,
     numbers: &mut Numbers,
@@ -170,7 +170,7 @@ fn take_step(
     }
 }
 
-/// Fails unless the rope has the current version's text, and the history is the tree.
+/// Fails unless the rope has the current version's text, and the history equals the tree.
 fn expect_current(
     alloc: Global,
     rope: &Rope,

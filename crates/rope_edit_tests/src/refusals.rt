@@ -1,4 +1,4 @@
-//! Edits of a short rope that are refused, and such as are done at its end.
+//! Edits of a short rope that fail, and edits at its end.
 use rope_plain::compare::expect_text;
 use rope_plain::failure::Failure;
 use rope_plain::same;
@@ -41,7 +41,7 @@ fn cuts_nothing_off(alloc: Global, rope: &mut Rope) -> Result<(), Failure> {
     expect_text(alloc, &back, "")
 }
 
-/// Fails unless nothing is cut off and taken out at the end.
+/// Fails unless an empty split and an empty removal succeed at the end.
 fn leaves_all(alloc: Global, rope: &mut Rope) -> Result<(), Failure> {
     cuts_nothing_off(alloc, rope)?;
     expect_text(alloc, rope, "Hello!")?;
@@ -49,7 +49,7 @@ fn leaves_all(alloc: Global, rope: &mut Rope) -> Result<(), Failure> {
     Ok(())
 }
 
-/// Fails unless a text, none and a character are put in at the end.
+/// Fails unless a text, an empty text and a character are inserted at the end.
 fn takes_more(alloc: Global, rope: &mut Rope) -> Result<(), Failure> {
     rope.try_insert(6, "x")?;
     expect_text(alloc, rope, "Hello!x")?;
@@ -58,7 +58,7 @@ fn takes_more(alloc: Global, rope: &mut Rope) -> Result<(), Failure> {
     expect_text(alloc, rope, "Hello!xy")
 }
 
-/// Fails unless a refusal is printed as it has to be.
+/// Fails unless an error is printed as expected.
 fn expect_printed(alloc: Global, rope: &mut Rope) -> Result<(), Failure> {
     let Err(error) = rope.try_insert(7, "x") else {
         return Err(Failure::new("an insert past the end is not refused"));

@@ -1,4 +1,4 @@
-//! Ropes with a part taken out, split and joined again, against rows that were worked by hand.
+//! Ropes with a range removed, split and joined again, against rows worked by hand.
 use crate::texts::add_letters;
 use rope_plain::compare::{compare_unicode, expect_text, expect_together, lens};
 use rope_plain::failure::{Failure, within};
@@ -28,12 +28,12 @@ fn a_removal_of_all_pairs_leaves_a_pair(rt: HostRuntime) -> Result<(), Failure> 
     leaves_the_ends(&mut rope)
 }
 
-/// What is done to a clone of a million letters.
+/// An edit of a clone of a million letters.
 #[derive(Clone, Copy, Debug)]
 enum Step {
     LeaveOne,
     LeaveTwenty,
-    /// Split at a character, with so much behind it, and joined again.
+    /// Splits at a character, with that many characters after it, and joins again.
     Split(usize, usize),
     CountInsert,
     CountLongInsert,
@@ -72,7 +72,7 @@ fn leaves_twenty(rope: &mut Rope) -> Result<(), Failure> {
     Ok(())
 }
 
-/// Fails unless the back is cut off at a character, and joined again.
+/// Fails unless the back is split off at a character, and joined again.
 fn expect_split(front: &mut Rope, char_idx: usize, rest: usize) -> Result<(), Failure> {
     let back = front.try_split_off(char_idx)?;
     let lens = [front.len_bytes(), back.len_bytes()];
@@ -155,7 +155,7 @@ fn expect_clone_done(whole: &Rope, step: Step) -> Result<(), Failure> {
     does(&mut rope, step)
 }
 
-/// Fails unless a clone is edited, and the rope stays.
+/// Fails unless a clone is edited, and the rope doesn't change.
 fn expect_done(whole: &Rope, step: Step) -> Result<(), Failure> {
     expect_clone_done(whole, step)?;
     same!([whole.len_bytes(), whole.depth()], [1_000_000, 3]);
@@ -187,14 +187,14 @@ fn add_parted_pair(text: &mut String) -> Result<(), AllocError> {
     add_letters(text, "b", 984)
 }
 
-/// A CR, 984 letters and an LF, between letters.
+/// Returns a CR, 984 letters and an LF, between letters.
 fn parted_pair(alloc: Global) -> Result<String, AllocError> {
     let mut text = String::new(alloc);
     add_parted_pair(&mut text)?;
     Ok(text)
 }
 
-/// Fails unless a pair meets where the letters between are taken out.
+/// Fails unless a pair meets where the letters between are removed.
 fn meets_by_removal(rope: &mut Rope) -> Result<(), Failure> {
     rope.try_remove(984..1_968)?;
     same!(lens(rope), [1_969, 1_969, 2, 1_969]);
@@ -222,14 +222,14 @@ fn expect_joined_text(alloc: Global, rope: &Rope) -> Result<(), Failure> {
     expect_text(alloc, rope, text.as_str())
 }
 
-/// Fails unless a text of an LF is put behind one that ends in CR.
+/// Fails unless a text of an LF is appended to one that ends in CR.
 fn takes_lf(alloc: Global, rope: &mut Rope) -> Result<(), Failure> {
     let lf = Rope::from_str(alloc, "\n")?;
     rope.append(lf)?;
     Ok(())
 }
 
-/// Fails unless a pair meets where an LF is put behind the CR at the end.
+/// Fails unless a pair meets where an LF is appended to the CR at the end.
 fn meets_by_append(alloc: Global, rope: &mut Rope) -> Result<(), Failure> {
     takes_lf(alloc, rope)?;
     expect_a_pair(rope)?;

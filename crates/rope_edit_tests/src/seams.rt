@@ -1,4 +1,4 @@
-//! Each edit at each place around a word that stands where a leaf is cut.
+//! Each edit at each index around a word at the cut of a leaf.
 use crate::words::{LENGTHS, OF_BREAKS, OF_WIDE, SHORTEST, WIDE, Words, around};
 use rope_plain::compare::{compare, lens};
 use rope_plain::failure::{Failure, within};
@@ -8,7 +8,7 @@ use rope_plain::texts::{chars_of, inserted};
 use ropey::{LineBreaks, Rope};
 use std::alloc::{AllocError, Global};
 
-/// What is done at one place.
+/// An edit at one index.
 #[derive(Clone, Copy, Debug)]
 enum Edit<'a> {
     Insert(&'a str),
@@ -16,7 +16,7 @@ enum Edit<'a> {
     SplitAndJoin,
 }
 
-/// The list without the character `at`.
+/// Returns the list without the character `at`.
 fn without(alloc: Global, plain: &[char], at: usize) -> Result<Vec<char>, AllocError> {
     let mut rest = Vec::from_slice(alloc, plain)?;
     if at < rest.len() {
@@ -25,7 +25,7 @@ fn without(alloc: Global, plain: &[char], at: usize) -> Result<Vec<char>, AllocE
     Ok(rest)
 }
 
-/// The list of characters that a rope has to have after the edit.
+/// Returns the list of characters that a rope must have after the edit.
 fn expected(
     alloc: Global,
     plain: &[char],
@@ -39,8 +39,7 @@ fn expected(
     }
 }
 
-/// Fails unless the rope is split into these characters before a place and behind it, and joined
-/// again.
+/// Fails unless the rope is split into the characters before and after an index, and joined again.
 fn expect_split_and_joined(rope: &mut Rope, plain: &[char], at: usize) -> Result<(), Failure> {
     let breaks = rope.line_breaks();
     let (front, back) = plain.split_at(at.min(plain.len()));
@@ -51,7 +50,7 @@ fn expect_split_and_joined(rope: &mut Rope, plain: &[char], at: usize) -> Result
     Ok(())
 }
 
-/// Fails unless the edit is done to a rope of these characters.
+/// Fails unless the edit of a rope gives these characters.
 fn expect_done(rope: &mut Rope, plain: &[char], at: usize, edit: Edit<'_>) -> Result<(), Failure> {
     match edit {
         Edit::Insert(text) => {
@@ -66,7 +65,7 @@ fn expect_done(rope: &mut Rope, plain: &[char], at: usize, edit: Edit<'_>) -> Re
     }
 }
 
-/// A text, a rope of it, and the set of line breaks by which that goes.
+/// A text, a rope of it, and its set of line breaks.
 #[derive(Clone, Copy)]
 struct Given<'a> {
     text: &'a str,
@@ -76,8 +75,8 @@ struct Given<'a> {
 }
 
 impl Given<'_> {
-    /// Fails unless the edit of a rope and of a clone, whose original stays, give these characters
-    /// and the same lengths.
+    /// Fails unless the edits of a rope and of a clone, whose original doesn't change, give these
+    /// characters and equal lengths.
     fn expect_all_edited(
         &self,
         alone: &mut Rope,
@@ -94,7 +93,7 @@ impl Given<'_> {
         compare_at(clone, left, at.min(left.len()))
     }
 
-    /// Fails unless the edit leaves these characters, done to a rope of its own and to a clone.
+    /// Fails unless the edit gives these characters, in a rope of its own and in a clone.
     fn leaves(
         &self,
         alloc: Global,
@@ -115,7 +114,7 @@ impl Given<'_> {
         )
     }
 
-    /// Fails unless each edit goes well at one place, with each of these texts put in.
+    /// Fails unless each edit succeeds at one index, with each of these texts inserted.
     fn expect_edited_at(&self, alloc: Global, at: usize, texts: &[&str]) -> Result<(), Failure> {
         for text in texts {
             self.expect_edited(alloc, at, Edit::Insert(text))?;
@@ -127,8 +126,8 @@ impl Given<'_> {
     }
 }
 
-/// Fails unless each edit goes well at each place from the character before the word to the sixth
-/// of it and what follows.
+/// Fails unless each edit succeeds at each index from the character before the word to the sixth
+/// from there on.
 fn expect_edited_around(
     alloc: Global,
     given: Given<'_>,
@@ -188,7 +187,7 @@ fn expect_edited_behind(
     Ok(())
 }
 
-/// Fails unless each edit goes well around all words behind a text of each length.
+/// Fails unless each edit succeeds around all words after a text of each length.
 fn expect_all_edited(
     alloc: Global,
     words: Words<'_>,
@@ -204,7 +203,7 @@ fn expect_all_edited(
     Ok(())
 }
 
-/// What is put in next to breaks.
+/// The texts inserted next to breaks.
 const PUT_IN: [&str; 3] = ["\r", "\n", "\r\n"];
 
 #[test]

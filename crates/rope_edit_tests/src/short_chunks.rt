@@ -1,4 +1,4 @@
-//! Removals that leave little of each chunk: what is left lies in few.
+//! Removals that leave little of each chunk: the rest is in few chunks.
 use rope_plain::compare::{expect_no_short_chunks, expect_text};
 use rope_plain::failure::{Failure, within};
 use rope_plain::numbers::Numbers;
@@ -7,45 +7,45 @@ use rope_plain::texts::{padded, repeated, rope_of};
 use ropey::{Error, Rope};
 use std::alloc::Global;
 
-/// How many full chunks there are at first, and how many letters each of them has.
+/// The number of full chunks at first, and the number of letters of each.
 const CHUNKS: usize = 400;
 
 const FULL: usize = 984;
 
-/// How the chunks come one after the other, of each of which the middle is taken out.
+/// The order of the chunks whose middles are removed.
 #[derive(Clone, Copy)]
 enum Order {
     FromTheLast,
     FromTheFirst,
-    /// From the last one, beside a clone that was made before each.
+    /// From the last one, with a clone made before each.
     BesideClones,
-    /// 173 has no divisor in common with the number of chunks, so each chunk comes once.
+    /// 173 is coprime to the number of chunks, so each chunk has its turn once.
     InJumps,
     /// From the last one, and letter by letter.
     ByLetters,
 }
 
-/// A text of full chunks, with an x first and a y last in each.
+/// Returns a text of full chunks, with an x first and a y last in each.
 fn full_chunks(alloc: Global) -> Result<Rope, Error> {
     let chunk = padded(alloc, "x", FULL, "y")?;
     rope_of(alloc, chunk.as_str(), CHUNKS)
 }
 
-/// Fails unless of each chunk the x and the y are left, in four chunks at the most: 800 bytes.
+/// Fails unless the x and the y of each chunk remain, in at most four chunks: 800 bytes.
 fn expect_only_ends(alloc: Global, rope: &Rope) -> Result<(), Failure> {
     let ends = repeated(alloc, "xy", CHUNKS)?;
     expect_text(alloc, rope, ends.as_str())?;
     expect_no_short_chunks(rope)
 }
 
-/// Fails unless the middle of a chunk is taken out that starts there.
+/// Fails unless the middle of the chunk that starts at `start` is removed.
 fn expect_emptied(rope: &mut Rope, start: usize) -> Result<(), Failure> {
     let first = start.saturating_add(1);
     rope.try_remove(first..first.saturating_add(FULL - 2))?;
     expect_no_short_chunks(rope)
 }
 
-/// Fails unless a clone keeps what the rope loses.
+/// Fails unless a clone keeps the characters removed from the rope.
 fn expect_emptied_beside_clone(rope: &mut Rope, start: usize) -> Result<(), Failure> {
     let old = rope.clone()?;
     let emptied = expect_emptied(rope, start);
@@ -63,8 +63,7 @@ fn expect_emptied_by_letters(rope: &mut Rope, start: usize) -> Result<(), Failur
     expect_no_short_chunks(rope)
 }
 
-/// Fails unless a chunk is emptied behind so many others of these lengths, of which its new one is
-/// noted.
+/// Fails unless a chunk is emptied after others of these lengths; its new length is noted.
 fn expect_emptied_behind(rope: &mut Rope, lens: &mut [usize], chunk: usize) -> Result<(), Failure> {
     let mut start: usize = 0;
     for len in lens.iter().take(chunk) {
@@ -76,7 +75,7 @@ fn expect_emptied_behind(rope: &mut Rope, lens: &mut [usize], chunk: usize) -> R
     expect_emptied(rope, start)
 }
 
-/// Fails unless the chunk that comes in such a turn is emptied.
+/// Fails unless the chunk with this turn is emptied.
 fn expect_turn_done(
     rope: &mut Rope,
     lens: &mut [usize],
@@ -110,8 +109,7 @@ fn expect_emptied_in(alloc: Global, rope: &mut Rope, order: Order) -> Result<(),
     expect_only_ends(alloc, rope)
 }
 
-/// Fails unless little is left of each chunk, and that in few, where they are emptied in this
-/// order.
+/// Fails unless little remains of each chunk, in few chunks, when they are emptied in this order.
 fn expect_all_emptied(alloc: Global, order: Order) -> Result<(), Failure> {
     let mut rope = full_chunks(alloc)?;
     expect_emptied_in(alloc, &mut rope, order)
@@ -142,10 +140,10 @@ fn chunks_emptied_letter_by_letter_are_joined(rt: HostRuntime) -> Result<(), Fai
     expect_all_emptied(rt.alloc(), Order::ByLetters)
 }
 
-/// The number that the row of places begins with.
+/// The start of the random sequence of indices.
 const SEED: u64 = 0x9E37_79B9_7F4A_7C15;
 
-/// Fails unless a thousand letters are taken out, each at a random place.
+/// Fails unless a thousand letters are removed, each at a random index.
 fn loses_a_thousand(rope: &mut Rope, numbers: &mut Numbers) -> Result<(), Failure> {
     for _ in 0..1_000usize {
         let at = numbers.up_to(rope.len_chars().saturating_sub(1));

@@ -1,7 +1,7 @@
-//! Texts of one letter, repeated as often as a test asks for.
+//! Texts of one letter, repeated.
 use std::alloc::AllocError;
 
-/// Adds so many times a letter.
+/// Appends a letter `count` times.
 pub fn add_letters(text: &mut String, letter: &str, count: usize) -> Result<(), AllocError> {
     for _ in 0..count {
         text.push_str(letter)?;

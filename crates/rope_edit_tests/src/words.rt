@@ -1,12 +1,12 @@
-//! Words, and texts in which they stand where a leaf is cut.
+//! Words, and texts with a word at the cut of a leaf.
 use crate::texts::add_letters;
 use std::alloc::{AllocError, Global};
 
-/// Words of some letters: those of no letter, of one, of two and so on are numbered in a row.
+/// Words of some letters: those of no letter, of one, of two and so on are numbered consecutively.
 #[derive(Clone, Copy)]
 pub struct Words<'a> {
     pub letters: &'a [&'a str],
-    /// How many words there are, of at most four letters.
+    /// The number of words of at most four letters.
     pub count: usize,
 }
 
@@ -28,13 +28,13 @@ pub const OF_WIDE: Words<'static> = Words {
     count: 73,
 };
 
-/// Of how many bytes the text before a word is at least, and how many lengths it has: a full leaf
-/// has 984.
+/// The minimum number of bytes of the text before a word, and the number of its lengths: a full
+/// leaf has 984.
 pub const SHORTEST: usize = 978;
 
 pub const LENGTHS: usize = 9;
 
-/// Adds the word with this number.
+/// Appends the word with this number.
 fn add_word(text: &mut String, letters: &[&str], number: usize) -> Result<(), AllocError> {
     let mut left = number;
     for _ in 0..4usize {
@@ -58,7 +58,7 @@ fn add_around(
     add_letters(text, "b", 984)
 }
 
-/// So many letters, the word with this number, and letters that fill a leaf.
+/// Returns a number of letters, the word with this number, and letters that fill a leaf.
 pub fn around(
     alloc: Global,
     before: usize,
