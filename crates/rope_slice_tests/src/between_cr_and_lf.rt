@@ -6,7 +6,7 @@ use rope_plain::texts::repeated;
 use ropey::{LineBreaks, Rope, RopeSlice};
 use std::alloc::Global;
 
-/// The characters and the lines of a slice, where there is one.
+/// Returns the characters and the lines of a slice, if there is one.
 fn counts(slice: Option<RopeSlice<'_>>) -> Option<[usize; 2]> {
     match slice {
         Some(slice) => Some([slice.len_chars(), slice.len_lines()]),
@@ -14,7 +14,7 @@ fn counts(slice: Option<RopeSlice<'_>>) -> Option<[usize; 2]> {
     }
 }
 
-/// The lines of a slice, where there is one.
+/// Returns the lines of a slice, if there is one.
 fn lines(slice: Option<RopeSlice<'_>>) -> Option<usize> {
     match slice {
         Some(slice) => Some(slice.len_lines()),
@@ -30,7 +30,7 @@ fn cuts_one_pair(rope: &Rope) -> Result<(), Failure> {
     Ok(())
 }
 
-/// Inclusive ends, behind the CR.
+/// Fails unless inclusive ends after the CR count it.
 fn cuts_behind_the_cr(rope: &Rope) -> Result<(), Failure> {
     let found = [
         counts(rope.get_slice(..=1)),
@@ -48,7 +48,7 @@ fn a_slice_between_cr_and_lf_ends_a_line(rt: HostRuntime) -> Result<(), Failure>
     cuts_one_pair(&rope)
 }
 
-/// The line of a byte of a slice, where there is one.
+/// Returns the line of a byte of a slice, if there is one.
 fn line_of(slice: Option<RopeSlice<'_>>, byte_idx: usize) -> Option<usize> {
     match slice {
         Some(slice) => slice.try_byte_to_line(byte_idx).ok(),
@@ -56,7 +56,7 @@ fn line_of(slice: Option<RopeSlice<'_>>, byte_idx: usize) -> Option<usize> {
     }
 }
 
-/// Fails unless the front of so many characters has its lines: of pairs, and of pairs by LF alone.
+/// Fails unless a prefix of `len` characters has its lines: of pairs, and of pairs by LF alone.
 fn expect_lines(rope: &Rope, lf: &Rope, len: usize) -> Result<(), Failure> {
     let answers = [
         line_of(byte_front(rope, len), len),
@@ -82,13 +82,13 @@ fn expect_all_lines(rope: &Rope, lf: &Rope) -> Result<(), Failure> {
     Ok(())
 }
 
-/// 15 pairs.
+/// Returns a rope of 15 pairs.
 fn pairs(alloc: Global) -> Result<Rope, Failure> {
     let text = repeated(alloc, "\r\n", 15)?;
     Ok(Rope::from_str(alloc, text.as_str())?)
 }
 
-/// 15 pairs, of which the LF alone are line breaks.
+/// Returns a rope of 15 pairs, with LF alone as line breaks.
 fn pairs_by_lf(alloc: Global) -> Result<Rope, Failure> {
     let text = repeated(alloc, "\r\n", 15)?;
     Ok(Rope::from_str_with(alloc, text.as_str(), LineBreaks::Lf)?)
@@ -114,7 +114,7 @@ fn backs_of_pairs_count_a_bare_lf(rt: HostRuntime) -> Result<(), Failure> {
     expect_lines_behind(&rope)
 }
 
-/// 983 letters, a pair, and more letters.
+/// Returns a rope of 983 letters, a pair, and more letters.
 fn pair_near_a_full_leaf(alloc: Global) -> Result<Rope, Failure> {
     let front = repeated(alloc, "a", 983)?;
     let back = repeated(alloc, "b", 100)?;
@@ -122,7 +122,7 @@ fn pair_near_a_full_leaf(alloc: Global) -> Result<Rope, Failure> {
     Ok(Rope::from_str(alloc, text.as_str())?)
 }
 
-/// Fails unless the parts before and behind the LF count their own lines.
+/// Fails unless the slices before and after the LF count their own lines.
 fn expect_cut_before_the_lf(rope: &Rope) -> Result<(), Failure> {
     let found = [
         lines(byte_front(rope, 984)),
@@ -134,7 +134,7 @@ fn expect_cut_before_the_lf(rope: &Rope) -> Result<(), Failure> {
     Ok(())
 }
 
-/// The line of a character of a slice, where there is one.
+/// Returns the line of a character of a slice, if there is one.
 fn line_of_char(slice: Option<RopeSlice<'_>>, char_idx: usize) -> Option<usize> {
     match slice {
         Some(slice) => slice.try_char_to_line(char_idx).ok(),
@@ -142,7 +142,7 @@ fn line_of_char(slice: Option<RopeSlice<'_>>, char_idx: usize) -> Option<usize> 
     }
 }
 
-/// The byte at which a line of a slice starts.
+/// Returns the byte at which a line of a slice starts.
 fn start_of_line(slice: Option<RopeSlice<'_>>, line: usize) -> Option<usize> {
     match slice {
         Some(slice) => slice.try_line_to_byte(line).ok(),
@@ -150,7 +150,7 @@ fn start_of_line(slice: Option<RopeSlice<'_>>, line: usize) -> Option<usize> {
     }
 }
 
-/// The text of a slice that is one chunk.
+/// Returns the text of a slice that is one chunk.
 fn text<'a>(slice: Option<RopeSlice<'a>>) -> Option<&'a str> {
     match slice {
         Some(slice) => slice.as_str(),
@@ -158,7 +158,7 @@ fn text<'a>(slice: Option<RopeSlice<'a>>) -> Option<&'a str> {
     }
 }
 
-/// The first character of a slice.
+/// Returns the first character of a slice.
 fn first<'a>(slice: Option<RopeSlice<'a>>) -> Option<RopeSlice<'a>> {
     match slice {
         Some(slice) => part(&slice, 0, 1),
@@ -166,7 +166,7 @@ fn first<'a>(slice: Option<RopeSlice<'a>>) -> Option<RopeSlice<'a>> {
     }
 }
 
-/// Fails unless the LF is cut out by its byte, and out of a slice that begins with it.
+/// Fails unless the LF can be cut out by its byte, and out of a slice that begins with it.
 fn expect_cut_out(rope: &Rope) -> Result<(), Failure> {
     let found = [
         text(byte_between(rope, 984, 985)),

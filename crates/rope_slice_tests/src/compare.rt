@@ -1,4 +1,4 @@
-//! Slices compared with their plain partners.
+//! Slices compared with the model.
 use crate::cuts::lens;
 use rope_plain::failure::{Failure, within};
 use rope_plain::plain_slice::PlainSlice;
@@ -7,8 +7,8 @@ use rope_plain::texts::expect_chars;
 use rope_plain::{same, some};
 use ropey::{Error, RopeSlice};
 
-/// The lengths, the set of line breaks, the text where it is one chunk, and the indices past the
-/// end.
+/// Compares the lengths, the set of line breaks, the text if it is one chunk, and the indices past
+/// the end.
 pub fn compare_whole(slice: &RopeSlice<'_>, plain: &PlainSlice<'_>) -> Result<(), Failure> {
     same!(slice.line_breaks(), plain.breaks);
     compare_lengths(slice, plain)?;
@@ -24,7 +24,7 @@ fn compare_lengths(slice: &RopeSlice<'_>, plain: &PlainSlice<'_>) -> Result<(), 
     Ok(())
 }
 
-/// `as_str` answers the text where it is one chunk or none, and else nothing.
+/// Fails unless `as_str` returns the text if it is one chunk or none, and else `None`.
 fn compare_text(slice: &RopeSlice<'_>, plain: &PlainSlice<'_>) -> Result<(), Failure> {
     let (_, end) = plain.chunk_at(0);
     same!(slice.as_str().is_some(), end == plain.text.len());
@@ -34,7 +34,7 @@ fn compare_text(slice: &RopeSlice<'_>, plain: &PlainSlice<'_>) -> Result<(), Fai
     Ok(())
 }
 
-/// The first index past the end is refused.
+/// Fails unless the first index past the end is refused.
 fn compare_past(slice: &RopeSlice<'_>) -> Result<(), Failure> {
     let [bytes, chars, lines, units] = lens(slice);
     let byte = bytes.saturating_add(1);
@@ -59,7 +59,7 @@ fn compare_past(slice: &RopeSlice<'_>) -> Result<(), Failure> {
     Ok(())
 }
 
-/// All look-ups at a place before a character or at the end.
+/// Compares all lookups at a character or at the end.
 pub fn compare_at(
     slice: &RopeSlice<'_>,
     plain: &PlainSlice<'_>,
@@ -84,7 +84,7 @@ fn compare_all_at(
     compare_break(slice, plain, place.line)
 }
 
-/// The conversions from and to a place.
+/// Compares the conversions from and to an index.
 fn compare_place(slice: &RopeSlice<'_>, char_idx: usize, place: Place) -> Result<(), Failure> {
     let conversions = [
         slice.try_char_to_byte(char_idx),
@@ -110,7 +110,7 @@ fn compare_place(slice: &RopeSlice<'_>, char_idx: usize, place: Place) -> Result
     Ok(())
 }
 
-/// The character at a place, its first byte, and the indices inside it, which belong to it.
+/// Compares the character at an index, its first byte, and the indices inside it.
 fn compare_char(
     slice: &RopeSlice<'_>,
     char_idx: usize,
@@ -132,7 +132,7 @@ fn compare_char(
     Ok(())
 }
 
-/// No character and no byte stands at the end.
+/// Fails unless there is no character and no byte at the end.
 fn compare_end(slice: &RopeSlice<'_>, char_idx: usize, place: Place) -> Result<(), Failure> {
     same!(slice.get_char(char_idx), None);
     same!(slice.get_byte(place.byte), None);
@@ -153,7 +153,7 @@ fn expect_chunk(
     expect_chars(chunk, chars)
 }
 
-/// The chunk at a character and at its first byte.
+/// Compares the chunk at a character and at its first byte.
 fn compare_chunk(
     slice: &RopeSlice<'_>,
     plain: &PlainSlice<'_>,
@@ -167,7 +167,7 @@ fn compare_chunk(
     expect_chunk(slice.try_chunk_at_byte(byte).ok(), chars, counts)
 }
 
-/// The chunk at a line break.
+/// Compares the chunk at a line break.
 fn compare_break(
     slice: &RopeSlice<'_>,
     plain: &PlainSlice<'_>,

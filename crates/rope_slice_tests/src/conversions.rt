@@ -1,4 +1,4 @@
-//! Conversions of slices of ropes, against rows that were worked by hand.
+//! Conversions of slices of ropes, against rows worked by hand.
 use crate::cuts::{between, lens, part};
 use rope_plain::failure::Failure;
 use rope_plain::{same, some};
@@ -14,7 +14,8 @@ const SENTENCES: &str =
 const LINES: &str =
     "Hello there!  How're you doing?\nIt's a fine day, isn't it?\nAren't you glad we're alive?\nこんにちは、みんなさん！";
 
-/// Each character of a row starts at its code unit, and the code unit belongs to it.
+/// Fails unless each character of a row starts at its code unit, and the code unit converts back to
+/// it.
 fn expect_all_units(slice: &RopeSlice<'_>, rows: &[(usize, usize)]) -> Result<(), Failure> {
     for (char_idx, unit) in rows {
         let answers = [
@@ -49,7 +50,7 @@ fn code_units_follow_pairs(rt: HostRuntime) -> Result<(), Failure> {
     expect_units(between(&rope, 1, 106))
 }
 
-/// Each byte of a row belongs to its character.
+/// Fails unless each byte of a row converts to its character.
 fn expect_all_chars(slice: &RopeSlice<'_>, rows: &[(usize, usize)]) -> Result<(), Failure> {
     for (byte_idx, char_idx) in rows {
         same!(slice.try_byte_to_char(*byte_idx), Ok(*char_idx));
@@ -90,7 +91,7 @@ fn bytes_of_a_slice_belong_to_their_characters(rt: HostRuntime) -> Result<(), Fa
     expect_chars(between(&rope, 88, 102))
 }
 
-/// Each line of a row starts at its byte and at its character.
+/// Fails unless each line of a row starts at its byte and at its character.
 fn expect_all_starts(slice: &RopeSlice<'_>, rows: &[(usize, usize, usize)]) -> Result<(), Failure> {
     for (line, byte_idx, char_idx) in rows {
         let answers = [slice.try_line_to_byte(*line), slice.try_line_to_char(*line)];
@@ -122,7 +123,7 @@ fn lines_of_a_slice_start_at_their_bytes(rt: HostRuntime) -> Result<(), Failure>
     Ok(())
 }
 
-/// The characters of a row are its text, in so many lines.
+/// Fails unless the characters of a row are its text, in that number of lines.
 fn expect_line(slice: &RopeSlice<'_>, row: (usize, usize, &str, usize)) -> Result<(), Failure> {
     let (start, end, text, lines) = row;
     let line = some!(part(slice, start, end));
@@ -131,7 +132,7 @@ fn expect_line(slice: &RopeSlice<'_>, row: (usize, usize, &str, usize)) -> Resul
     Ok(())
 }
 
-/// Where each line starts and ends, its text, and how many lines that has.
+/// The start and end of each line, its text, and the number of lines of that.
 const CUT_LINES: [(usize, usize, &str, usize); 3] = [
     (0, 25, "'s a fine day, isn't it?\n", 2),
     (25, 54, "Aren't you glad we're alive?\n", 2),

@@ -8,8 +8,8 @@ use ropey::iter::{Chars, Lines};
 use ropey::{Rope, RopeSlice};
 use std::alloc::Global;
 
-/// What a cursor over lines gave: the text of a line that is one chunk, a line of several, or
-/// nothing.
+/// Returns the result of a cursor over lines: the text of a line that is one chunk, a line of
+/// several, or none.
 fn text<'a>(line: Option<RopeSlice<'a>>) -> Option<Option<&'a str>> {
     match line {
         Some(line) => Some(line.as_str()),
@@ -17,12 +17,12 @@ fn text<'a>(line: Option<RopeSlice<'a>>) -> Option<Option<&'a str>> {
     }
 }
 
-/// A line that is one chunk of this text.
+/// Returns a line that is one chunk of this text.
 fn one_chunk(text: &str) -> Option<Option<&str>> {
     Some(Some(text))
 }
 
-/// The bytes and the lines of a line.
+/// Returns the bytes and the lines of a line.
 fn lens(line: Option<RopeSlice<'_>>) -> Option<[usize; 2]> {
     match line {
         Some(line) => Some([line.len_bytes(), line.len_lines()]),
@@ -30,7 +30,7 @@ fn lens(line: Option<RopeSlice<'_>>) -> Option<[usize; 2]> {
     }
 }
 
-/// Neither a chunk nor a byte nor a character is given.
+/// Fails unless no chunk, byte or character is returned.
 fn gives_nothing(rope: &Rope) -> Result<(), Failure> {
     let are_none = [
         rope.chunks().next().is_none(),
@@ -41,7 +41,7 @@ fn gives_nothing(rope: &Rope) -> Result<(), Failure> {
     Ok(())
 }
 
-/// An empty line is given, forward from the start and back from the end.
+/// Fails unless an empty line is returned, forward from the start and back from the end.
 fn gives_an_empty_line(rope: &Rope) -> Result<(), Failure> {
     let mut lines = rope.lines();
     let from_start = [text(lines.next()), text(lines.next())];
@@ -151,7 +151,7 @@ fn steps_from_the_end_of_a_text(slice: RopeSlice<'_>) -> Result<(), Failure> {
     Ok(())
 }
 
-/// A rope of so many letters.
+/// Returns a rope of `count` letters.
 fn letters(alloc: Global, count: usize) -> Result<Rope, Failure> {
     let text = repeated(alloc, "a", count)?;
     Ok(Rope::from_str(alloc, text.as_str())?)
@@ -164,7 +164,7 @@ fn chunks_are_given_backward_from_the_end(rt: HostRuntime) -> Result<(), Failure
     steps_from_the_end(&rope)
 }
 
-/// Two lines of 3,000 letters.
+/// Returns a rope of two lines of 3,000 letters.
 fn two_long_lines(alloc: Global) -> Result<Rope, Failure> {
     let first = repeated(alloc, "a", 3_000)?;
     let second = repeated(alloc, "b", 3_000)?;
@@ -198,7 +198,7 @@ fn lines_of_several_chunks_are_given_whole(rt: HostRuntime) -> Result<(), Failur
 const FOUR_LINES: &str =
     "Hello there!  How're you doing?\nIt's a fine day, isn't it?\nAren't you glad we're alive?\nこんにちは、みんなさん！";
 
-/// The text and the number of lines of a line.
+/// Returns the text and the number of lines of a line.
 fn line_and_count<'a>(line: Option<RopeSlice<'a>>) -> Option<(Option<&'a str>, usize)> {
     match line {
         Some(line) => Some((line.as_str(), line.len_lines())),

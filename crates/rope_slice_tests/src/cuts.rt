@@ -1,7 +1,7 @@
-//! Slices of ropes and of slices by each call that makes them, where there are any.
+//! Slices of ropes and of slices by each call that makes them, if there are any.
 use ropey::{Rope, RopeSlice};
 
-/// The characters before `end`.
+/// Returns the characters before `end`.
 pub fn front(rope: &Rope, end: usize) -> Option<RopeSlice<'_>> {
     if rope.get_slice(..end).is_none() {
         return None;
@@ -9,7 +9,7 @@ pub fn front(rope: &Rope, end: usize) -> Option<RopeSlice<'_>> {
     Some(rope.slice(..end))
 }
 
-/// The characters from `start` on.
+/// Returns the characters from `start` on.
 pub fn back(rope: &Rope, start: usize) -> Option<RopeSlice<'_>> {
     if rope.get_slice(start..).is_none() {
         return None;
@@ -17,7 +17,7 @@ pub fn back(rope: &Rope, start: usize) -> Option<RopeSlice<'_>> {
     Some(rope.slice(start..))
 }
 
-/// The characters from `start` up to `end`.
+/// Returns the characters from `start` up to `end`.
 pub fn between(rope: &Rope, start: usize, end: usize) -> Option<RopeSlice<'_>> {
     if rope.get_slice(start..end).is_none() {
         return None;
@@ -25,7 +25,7 @@ pub fn between(rope: &Rope, start: usize, end: usize) -> Option<RopeSlice<'_>> {
     Some(rope.slice(start..end))
 }
 
-/// The characters of the bytes before `end`.
+/// Returns the characters of the bytes before `end`.
 pub fn byte_front(rope: &Rope, end: usize) -> Option<RopeSlice<'_>> {
     if rope.try_byte_slice(..end).is_err() {
         return None;
@@ -33,7 +33,7 @@ pub fn byte_front(rope: &Rope, end: usize) -> Option<RopeSlice<'_>> {
     Some(rope.byte_slice(..end))
 }
 
-/// The characters of the bytes from `start` on.
+/// Returns the characters of the bytes from `start` on.
 pub fn byte_back(rope: &Rope, start: usize) -> Option<RopeSlice<'_>> {
     if rope.try_byte_slice(start..).is_err() {
         return None;
@@ -41,7 +41,7 @@ pub fn byte_back(rope: &Rope, start: usize) -> Option<RopeSlice<'_>> {
     Some(rope.byte_slice(start..))
 }
 
-/// The characters of the bytes from `start` up to `end`.
+/// Returns the characters of the bytes from `start` up to `end`.
 pub fn byte_between(rope: &Rope, start: usize, end: usize) -> Option<RopeSlice<'_>> {
     if rope.try_byte_slice(start..end).is_err() {
         return None;
@@ -49,7 +49,7 @@ pub fn byte_between(rope: &Rope, start: usize, end: usize) -> Option<RopeSlice<'
     Some(rope.byte_slice(start..end))
 }
 
-/// A slice's characters from `start` up to `end`.
+/// Returns a slice's characters from `start` up to `end`.
 pub fn part<'a>(slice: &RopeSlice<'a>, start: usize, end: usize) -> Option<RopeSlice<'a>> {
     if slice.get_slice(start..end).is_none() {
         return None;
@@ -57,7 +57,7 @@ pub fn part<'a>(slice: &RopeSlice<'a>, start: usize, end: usize) -> Option<RopeS
     Some(slice.slice(start..end))
 }
 
-/// A slice's characters of the bytes from `start` up to `end`.
+/// Returns a slice's characters of the bytes from `start` up to `end`.
 pub fn byte_part<'a>(slice: &RopeSlice<'a>, start: usize, end: usize) -> Option<RopeSlice<'a>> {
     if slice.try_byte_slice(start..end).is_err() {
         return None;
@@ -65,7 +65,7 @@ pub fn byte_part<'a>(slice: &RopeSlice<'a>, start: usize, end: usize) -> Option<
     Some(slice.byte_slice(start..end))
 }
 
-/// A slice's bytes, characters, lines and code units.
+/// Returns a slice's bytes, characters, lines and code units.
 pub fn lens(slice: &RopeSlice<'_>) -> [usize; 4] {
     [
         slice.len_bytes(),

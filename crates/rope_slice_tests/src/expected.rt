@@ -1,7 +1,7 @@
-//! What a range of a text answers, by its bounds as they are told.
+//! The expected results for a range of a text, by its given bounds.
 use ropey::Error;
 
-/// A range's start and its excluded end, each none where it is open.
+/// A range's start and its excluded end, each none if it is open.
 #[derive(Clone, Copy)]
 pub struct Told {
     pub start: Option<usize>,
@@ -9,17 +9,17 @@ pub struct Told {
 }
 
 impl Told {
-    /// Whether the start lies past the end, of a text of so many items.
+    /// Returns whether the start is past the end, in a text of `len` items.
     fn is_reversed(self, len: usize) -> bool {
         self.start.unwrap_or(0) > self.end.unwrap_or(len)
     }
 
-    /// Whether a bound lies past the end of the text.
+    /// Returns whether a bound is past the end of the text.
     fn is_past(self, len: usize) -> bool {
         self.start.unwrap_or(0) > len || self.end.unwrap_or(len) > len
     }
 
-    /// What a range of characters is refused with.
+    /// Returns the error of a range of characters.
     pub fn char_error(self, len: usize) -> Option<Error> {
         if self.is_past(len) {
             return Some(Error::CharRangeOutOfBounds(self.start, self.end, len));
@@ -31,8 +31,8 @@ impl Told {
         None
     }
 
-    /// What a range of bytes is refused with, of a text whose characters begin at these bytes, the
-    /// text's end among them.
+    /// Returns the error of a range of bytes, in a text whose characters begin at these bytes, with
+    /// the text's end among them.
     pub fn byte_error(self, starts: &[usize], len: usize) -> Option<Error> {
         if let (Some(start), Some(end)) = (self.start, self.end)
             && start > end
@@ -49,7 +49,7 @@ impl Told {
         Some(Error::ByteRangeNotCharBoundary(self.start, self.end))
     }
 
-    /// How many items the range has.
+    /// Returns the number of items of the range.
     pub fn count(self, len: usize) -> usize {
         self.end
             .unwrap_or(len)
@@ -57,7 +57,7 @@ impl Told {
     }
 }
 
-/// The excluded end of a range whose last index is this one, held at the greatest index.
+/// Returns the excluded end of a range whose last index is `last`, at most the greatest index.
 pub fn behind(last: usize) -> usize {
     last.saturating_add(1)
 }

@@ -1,11 +1,11 @@
 //! Tests of slices and of cursors, against worked rows and lists of characters.
 //!
 //! No contract shows these:
-//! - rows worked by hand come out, for indices and ranges at their limits too;
-//! - texts of 2^62 bytes are sliced, converted and walked without a pass over them.
+//! - rows worked by hand come out, also for indices and ranges at their limits;
+//! - texts of 2^62 bytes are sliced, converted and iterated without a scan.
 //!
-//! The proofs show these too, and they are run for the compiler's sake: slices of slices, and
-//! random walks of each cursor, are what lists of characters say.
+//! The proofs show these too, and they are run to test the compiler: slices of slices, and random
+//! walks of each cursor, agree with lists of characters.
 #![tactic(auto)]
 
 #[cfg(test)]

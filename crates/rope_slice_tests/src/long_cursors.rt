@@ -4,7 +4,7 @@ use rope_plain::failure::{Failure, within};
 use rope_plain::{holds, same, some};
 use ropey::{Rope, RopeSlice};
 
-/// The character of a repeated text with that index, or none past its end.
+/// Returns the character of a repeated text with that index, or `None` past its end.
 pub fn char_at(unit: &Unit, char_idx: usize) -> Option<char> {
     if char_idx >= unit.char_count() {
         return None;
@@ -12,8 +12,8 @@ pub fn char_at(unit: &Unit, char_idx: usize) -> Option<char> {
     unit.text().chars().nth(char_idx.checked_rem(unit.chars)?)
 }
 
-/// A cursor over the characters gives the one behind the place and the one before it, and says how
-/// many are left.
+/// Fails unless a cursor over the characters returns the one after the position and the one before
+/// it, and the number left.
 fn expect_chars(rope: &Rope, unit: &Unit, place: Place) -> Result<(), Failure> {
     let mut chars = some!(rope.get_chars_at(place.char_idx));
     let left = unit.char_count().saturating_sub(place.char_idx);
@@ -32,7 +32,8 @@ fn expect_chars(rope: &Rope, unit: &Unit, place: Place) -> Result<(), Failure> {
     Ok(())
 }
 
-/// A cursor over the bytes does the same.
+/// Fails unless a cursor over the bytes returns the one after the position and the one before it,
+/// and the number left.
 fn expect_bytes(rope: &Rope, place: Place) -> Result<(), Failure> {
     let mut bytes = some!(rope.get_bytes_at(place.byte_idx));
     let left = WHOLE.saturating_sub(place.byte_idx);
@@ -84,8 +85,8 @@ fn cursors_of_2_to_the_62_bytes_count_what_is_left(rt: HostRuntime) -> Result<()
     })
 }
 
-/// A cursor over the chunks from a place on, by its byte and by its character, begins where the
-/// counts say.
+/// Fails unless a cursor over the chunks from a position on, by its byte and by its character,
+/// begins where the counts say.
 fn expect_chunks(rope: &Rope, unit: &Unit, place: Place) -> Result<(), Failure> {
     let (mut by_byte, byte_idx, _, _) = some!(rope.get_chunks_at_byte(place.byte_idx));
     let (mut by_char, start, char_idx, break_count) = some!(rope.get_chunks_at_char(
@@ -130,7 +131,7 @@ fn cursors_of_2_to_the_62_bytes_start_at_chunks(rt: HostRuntime) -> Result<(), F
     })
 }
 
-/// A cursor behind so many lines stands at the end of the text.
+/// Fails unless a cursor after `lines` lines is at the end of the text.
 fn expect_chunks_behind(rope: &Rope, unit: &Unit, lines: usize) -> Result<(), Failure> {
     let (mut chunks, byte_idx, char_idx, before) = some!(rope.get_chunks_at_line_break(lines));
     same!(
@@ -158,7 +159,7 @@ fn chunks_past_the_last_line_are_the_end(rt: HostRuntime) -> Result<(), Failure>
     of_each(rt.alloc(), chunks_past_the_last_line_of_one)
 }
 
-/// The characters of a line that a cursor gave.
+/// Returns the number of characters of a line that a cursor returned.
 fn chars_of_line(line: Option<RopeSlice<'_>>) -> Option<usize> {
     match line {
         Some(line) => Some(line.len_chars()),
@@ -166,15 +167,15 @@ fn chars_of_line(line: Option<RopeSlice<'_>>) -> Option<usize> {
     }
 }
 
-/// Fails unless a cursor over the lines from one on says how many are left of all.
+/// Fails unless a cursor over the lines from one on has the right number of lines left.
 fn expect_lines_left(rope: &Rope, line_idx: usize, all: usize) -> Result<(), Failure> {
     let lines = some!(rope.get_lines_at(line_idx));
     same!(lines.len(), all.saturating_sub(line_idx));
     Ok(())
 }
 
-/// Fails unless a cursor over the lines gives the one behind and the two before a place, each the
-/// text of the unit.
+/// Fails unless a cursor over the lines returns the one after and the two before a position, each
+/// the text of the unit.
 fn expect_lines_beside(rope: &Rope, unit: &Unit, line_idx: usize) -> Result<(), Failure> {
     let mut lines = some!(rope.get_lines_at(line_idx));
     let steps = [
@@ -234,8 +235,8 @@ fn lines_of_2_to_the_62_bytes_are_given_both_ways(rt: HostRuntime) -> Result<(),
     })
 }
 
-/// Fails unless a cursor before the last line gives it, which is empty, then nothing, and back it
-/// and the line before it.
+/// Fails unless a cursor before the last line returns it, which is empty, then none, and back it
+/// and the previous line.
 fn expect_last_lines(rope: &Rope, unit: &Unit) -> Result<(), Failure> {
     let mut lines = some!(rope.get_lines_at(unit.break_count()));
     let steps = [

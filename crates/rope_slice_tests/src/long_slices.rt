@@ -5,7 +5,7 @@ use rope_plain::failure::{Failure, within};
 use rope_plain::{same, some};
 use ropey::{Rope, RopeSlice};
 
-/// A slice's bytes, characters and code units, where there is one.
+/// Returns a slice's bytes, characters and code units, if there is one.
 fn counts(slice: Option<RopeSlice<'_>>) -> Option<[usize; 3]> {
     match slice {
         Some(slice) => Some([slice.len_bytes(), slice.len_chars(), slice.len_utf16_cu()]),
@@ -13,13 +13,14 @@ fn counts(slice: Option<RopeSlice<'_>>) -> Option<[usize; 3]> {
     }
 }
 
-/// What so many characters count.
+/// Returns the counts of `chars` characters.
 fn expected(unit: &Unit, chars: usize) -> [usize; 3] {
     let place = unit.place(chars);
     [place.byte_idx, place.char_idx, place.unit_idx]
 }
 
-/// Fails unless the parts before and behind a place, by characters and by bytes, have their counts.
+/// Fails unless the slices before and after a position, by characters and by bytes, have their
+/// counts.
 fn expect_parts(rope: &Rope, unit: &Unit, place: Place) -> Result<(), Failure> {
     let before = expected(unit, place.char_idx);
     let behind = expected(unit, unit.char_count().saturating_sub(place.char_idx));
@@ -53,7 +54,7 @@ fn fronts_and_backs_of_2_to_the_62_bytes_have_their_lengths(
     of_each(rt.alloc(), lengths_of_fronts_and_backs_of_one)
 }
 
-/// The lines of a slice, where there is one.
+/// Returns the lines of a slice, if there is one.
 fn lines_of(slice: Option<RopeSlice<'_>>) -> Option<usize> {
     match slice {
         Some(slice) => Some(slice.len_lines()),
@@ -61,7 +62,7 @@ fn lines_of(slice: Option<RopeSlice<'_>>) -> Option<usize> {
     }
 }
 
-/// Fails unless the parts before and behind a place have so many lines.
+/// Fails unless the slices before and after a position have their numbers of lines.
 fn expect_lines(pairs: &Rope, row: (usize, usize, usize)) -> Result<(), Failure> {
     let (char_idx, before, behind) = row;
     let found = [
@@ -72,10 +73,10 @@ fn expect_lines(pairs: &Rope, row: (usize, usize, usize)) -> Result<(), Failure>
     Ok(())
 }
 
-/// Half of the pairs' characters, and so the number of all pairs.
+/// Half of the pairs' characters, which is the number of all pairs.
 const HALF: usize = WHOLE / 2;
 
-/// Places among the pairs' characters, and how many lines are before and behind each.
+/// Positions among the pairs' characters, and the numbers of lines before and after each.
 const CUT_PAIRS: [(usize, usize, usize); 7] = [
     (0, 1, HALF + 1),
     (1, 2, HALF + 1),
@@ -99,7 +100,7 @@ fn cut_pairs_of_2_to_the_62_bytes_have_their_lines(rt: HostRuntime) -> Result<()
     expect_cut_pairs(&pairs)
 }
 
-/// Fails unless each conversion of the back half answers at a place of its own what it has to.
+/// Fails unless each conversion of the back half is right at a position of its own.
 fn expect_converted(back: &RopeSlice<'_>, place: Place) -> Result<(), Failure> {
     let of_char = [
         back.try_char_to_byte(place.char_idx),
@@ -136,7 +137,7 @@ fn backs_of_2_to_the_62_bytes_convert_from_their_start(rt: HostRuntime) -> Resul
     of_each(rt.alloc(), conversions_of_backs_of_one)
 }
 
-/// Fails unless it has the characters of the text, over and over.
+/// Fails unless the slice has the characters of the text, repeated.
 fn expect_repeated(slice: &RopeSlice<'_>, unit: &Unit) -> Result<(), Failure> {
     for char_idx in 0..slice.len_chars() {
         same!(slice.get_char(char_idx), char_at(unit, char_idx));
@@ -144,7 +145,7 @@ fn expect_repeated(slice: &RopeSlice<'_>, unit: &Unit) -> Result<(), Failure> {
     Ok(())
 }
 
-/// The first characters of a slice, where there is one and it has so many.
+/// Returns the first characters of a slice, if there are that many.
 fn front<'a>(slice: Option<RopeSlice<'a>>, chars: usize) -> Option<RopeSlice<'a>> {
     match slice {
         Some(slice) => slice.get_slice(..chars),
@@ -152,7 +153,7 @@ fn front<'a>(slice: Option<RopeSlice<'a>>, chars: usize) -> Option<RopeSlice<'a>
     }
 }
 
-/// Fails unless these are 1,000 characters of the text, of which 800 are cut off by their bytes.
+/// Fails unless these are 1,000 characters of the text, 800 of which are cut off by their bytes.
 fn expect_thousand(slice: &RopeSlice<'_>, unit: &Unit) -> Result<(), Failure> {
     let bytes = 800usize.saturating_mul(unit.bytes_a_char);
     let part = match slice.get_byte_slice(..bytes) {

@@ -1,5 +1,5 @@
-//! Texts of 2^62 bytes, asked for their lengths, conversions, items, chunks and positions at both
-//! ends and in the middle.
+//! Texts of 2^62 bytes: their lengths, conversions, items, chunks and positions at both ends and in
+//! the middle.
 use rope_plain::compare::lens;
 use rope_plain::failure::{Failure, within};
 use rope_plain::{holds, same, some};
@@ -7,11 +7,11 @@ use rope_position::{Position, Positions};
 use ropey::{Error, Rope};
 use std::alloc::{AllocError, Global};
 
-/// How many bytes such a text has.
+/// The number of bytes of such a text.
 pub const WHOLE: usize = 1 << 62;
 
-/// The text of a few bytes that is repeated. It is no reference, since the borrow checker doesn't
-/// cover a closure that takes one within a struct.
+/// The text of a few bytes that is repeated. It is not a reference, since the borrow checker
+/// doesn't cover a closure that takes one within a struct.
 #[derive(Clone, Copy)]
 enum Text {
     Letter,
@@ -20,22 +20,21 @@ enum Text {
     Line,
 }
 
-/// How often the text of a few bytes is repeated: what it is and what it counts.
+/// A repeated text of a few bytes, with its counts.
 #[derive(Clone, Copy)]
 pub struct Unit {
     text: Text,
-    /// Its characters, each of as many bytes as the others, and of as many code units.
+    /// Its characters, which all have the same number of bytes and of code units.
     pub chars: usize,
     pub bytes_a_char: usize,
     pub units_a_char: usize,
     /// Its line breaks, the last at its end.
     pub break_count: usize,
-    /// How often it is doubled, to 2^62 bytes.
+    /// The number of times it is doubled, to 2^62 bytes.
     pub times: u32,
 }
 
-/// Letters, pairs, characters of four bytes, and line breaks of three that stand by themselves
-/// behind one of one.
+/// Letters, pairs, characters of four bytes, and line breaks of three after one of one.
 pub const UNITS: [Unit; 4] = [
     Unit {
         text: Text::Letter,
@@ -71,7 +70,7 @@ pub const UNITS: [Unit; 4] = [
     },
 ];
 
-/// A character's index in such a text, and what it is in every other unit.
+/// A character's index in such a text, in every unit.
 #[derive(Clone, Copy)]
 pub struct Place {
     pub char_idx: usize,
@@ -81,7 +80,7 @@ pub struct Place {
     pub line_char: usize,
 }
 
-/// A rope is joined to itself so many times.
+/// Joins a rope to itself `times` times.
 fn double(rope: &mut Rope, times: u32) -> Result<(), Failure> {
     for _ in 0..times {
         let copy = rope.clone()?;
@@ -91,7 +90,7 @@ fn double(rope: &mut Rope, times: u32) -> Result<(), Failure> {
 }
 
 impl Unit {
-    /// The text that is repeated.
+    /// Returns the text that is repeated.
     pub fn text(&self) -> &'static str {
         match self.text {
             Text::Letter => "a",
@@ -101,24 +100,24 @@ impl Unit {
         }
     }
 
-    /// The text, repeated to 2^62 bytes.
+    /// Returns the text, repeated to 2^62 bytes.
     pub fn whole(&self, alloc: Global) -> Result<Rope, Failure> {
         let mut rope = Rope::from_str(alloc, self.text())?;
         double(&mut rope, self.times)?;
         Ok(rope)
     }
 
-    /// How many characters the long text has.
+    /// Returns the number of characters of the long text.
     pub fn char_count(&self) -> usize {
         self.chars.checked_shl(self.times).unwrap_or(0)
     }
 
-    /// How many line breaks it has.
+    /// Returns the number of its line breaks.
     pub fn break_count(&self) -> usize {
         self.break_count.checked_shl(self.times).unwrap_or(0)
     }
 
-    /// The place before a character or at the end.
+    /// Returns the position before a character or at the end.
     pub fn place(&self, char_idx: usize) -> Place {
         let rounds = char_idx.checked_div(self.chars).unwrap_or(0);
         Place {
@@ -132,7 +131,7 @@ impl Unit {
         }
     }
 
-    /// The places that are asked: both ends, the middle, and those next to them.
+    /// Returns the positions tested: both ends, the middle, and those next to them.
     pub fn places(&self) -> [Place; 8] {
         let end = self.char_count();
         let middle = end / 2;
@@ -149,7 +148,7 @@ impl Unit {
     }
 }
 
-/// A long text, and what it is a repetition of.
+/// A long text, and the unit that it repeats.
 #[derive(Drop)]
 pub struct Long {
     pub rope: Rope,
@@ -169,14 +168,14 @@ fn add_each(alloc: Global, long: &mut Vec<Long>) -> Result<(), Failure> {
     Ok(())
 }
 
-/// One of each.
+/// Returns one of each.
 fn all(alloc: Global) -> Result<Vec<Long>, Failure> {
     let mut long = Vec::new(alloc);
     add_each(alloc, &mut long)?;
     Ok(long)
 }
 
-/// Fails unless a question is answered well of each text.
+/// Fails unless a test passes for each text.
 fn ask_each<F: Fn(&Long) -> Result<(), Failure>>(all: &[Long], ask: F) -> Result<(), Failure>
     requires { F.IsAlwaysCallable ask }
 {
@@ -187,8 +186,8 @@ fn ask_each<F: Fn(&Long) -> Result<(), Failure>>(all: &[Long], ask: F) -> Result
     Ok(())
 }
 
-/// Makes one of each, and fails unless a question is answered well of it. The texts are dropped
-/// here alone, since each return of a function that owns ropes is proved to drop them.
+/// Makes one of each, and fails unless a test passes for it. The texts are dropped only here, since
+/// each return of a function that owns ropes is proved to drop them.
 pub fn of_each<F: Fn(&Long) -> Result<(), Failure>>(alloc: Global, ask: F) -> Result<(), Failure>
     requires { F.IsAlwaysCallable ask }
 {
@@ -234,7 +233,7 @@ fn texts_of_2_to_the_62_bytes_have_their_lengths(rt: HostRuntime) -> Result<(), 
     expect_all_lengths(&all)
 }
 
-/// Fails unless each conversion answers at a place what it has to.
+/// Fails unless each conversion is right at a position.
 fn expect_converted(rope: &Rope, place: Place) -> Result<(), Failure> {
     let of_char = [
         rope.try_char_to_byte(place.char_idx),
@@ -257,7 +256,7 @@ fn expect_converted(rope: &Rope, place: Place) -> Result<(), Failure> {
     Ok(())
 }
 
-/// Fails unless the indices within a character belong to it.
+/// Fails unless the indices within a character convert to it.
 fn expect_whole(rope: &Rope, unit: &Unit, place: Place) -> Result<(), Failure> {
     let last_byte = place
         .byte_idx
@@ -273,7 +272,7 @@ fn expect_whole(rope: &Rope, unit: &Unit, place: Place) -> Result<(), Failure> {
     Ok(())
 }
 
-/// Fails unless the line of a place starts at its character and at that one's byte.
+/// Fails unless the line of a position starts at its character and at that character's byte.
 fn expect_line_start(rope: &Rope, unit: &Unit, place: Place) -> Result<(), Failure> {
     let byte_idx = place.line_char.saturating_mul(unit.bytes_a_char);
     let answers = [
@@ -294,7 +293,7 @@ fn expect_converted_within(rope: &Rope, unit: &Unit, place: Place) -> Result<(),
     Ok(())
 }
 
-/// Fails unless each place is converted, and those within the text with what belongs to their
+/// Fails unless each position is converted, and those within the text with the indices inside their
 /// characters.
 fn each_conversion_of_one(long: &Long) -> Result<(), Failure> {
     for place in &long.unit.places() {
@@ -338,7 +337,7 @@ fn the_line_past_the_last_starts_at_the_end(rt: HostRuntime) -> Result<(), Failu
     of_each(rt.alloc(), the_start_past_the_last_line_of_one)
 }
 
-/// An index past the end, and as great as it may be, is refused.
+/// Fails unless an index past the end, and the greatest possible one, are refused.
 fn refuses(rope: &Rope, past: usize, chars: usize, units: usize) -> Result<(), Failure> {
     let char_error = Err(Error::CharIndexOutOfBounds(past, chars));
     let byte_error = Err(Error::ByteIndexOutOfBounds(past, WHOLE));
@@ -377,7 +376,7 @@ fn indices_past_2_to_the_62_bytes_are_refused(rt: HostRuntime) -> Result<(), Fai
     of_each(rt.alloc(), past_the_end_of_one)
 }
 
-/// The character at a place, its first byte, and the same place behind it.
+/// Fails unless the character at a position and its first byte are right.
 fn expect_items(rope: &Rope, unit: &Unit, place: Place) -> Result<(), Failure> {
     let among = some!(place.char_idx.checked_rem(unit.chars));
     let text = unit.text().chars().nth(among);
@@ -410,7 +409,8 @@ fn items_of_2_to_the_62_bytes_are_found(rt: HostRuntime) -> Result<(), Failure> 
     of_each(rt.alloc(), items_of_one)
 }
 
-/// A chunk holds a place, or ends there at the text's end, and begins where the counts say.
+/// Fails unless a chunk contains a position, or ends there at the text's end, and begins where the
+/// counts say.
 fn expect_held(
     found: (&str, usize, usize, usize),
     unit: &Unit,
@@ -426,7 +426,7 @@ fn expect_held(
     Ok(())
 }
 
-/// Fails unless the chunk at a place holds it, by its byte and by its character.
+/// Fails unless the chunk at a position contains it, by its byte and by its character.
 fn expect_chunk(rope: &Rope, unit: &Unit, place: Place) -> Result<(), Failure> {
     let by_char = rope.get_chunk_at_char(place.char_idx);
     let by_byte = some!(rope.get_chunk_at_byte(place.byte_idx));
@@ -449,7 +449,7 @@ fn chunks_of_2_to_the_62_bytes_are_found(rt: HostRuntime) -> Result<(), Failure>
     of_each(rt.alloc(), chunks_of_one)
 }
 
-/// Fails unless a chunk has a line break, where there is one before it, and begins where the counts
+/// Fails unless a chunk has a line break, if there is one before it, and begins where the counts
 /// say.
 fn expect_break(
     rope: &Rope,
@@ -484,7 +484,7 @@ fn chunks_of_2_to_the_62_bytes_are_found_by_line_breaks(rt: HostRuntime) -> Resu
     of_each(rt.alloc(), chunks_at_line_breaks_of_one)
 }
 
-/// Fails unless a place has its line and column, and they lead back to it.
+/// Fails unless a position has its line and column, and they convert back to it.
 fn expect_position(rope: &Rope, unit: &Unit, place: Place) -> Result<(), Failure> {
     let start = unit.place(place.line_char);
     let position = Position {
@@ -506,7 +506,7 @@ fn positions_of_one(long: &Long) -> Result<(), Failure> {
     Ok(())
 }
 
-/// Fails unless a line is refused that lies past the last of so many.
+/// Fails unless a line past the last one is refused.
 fn refuses_line(rope: &Rope, line: usize, lines: usize) -> Result<(), Failure> {
     let refused = Err(Error::LineIndexOutOfBounds(line, lines));
     same!(

@@ -1,4 +1,4 @@
-//! Slices of plain texts: one chunk, and lines by the set that they were made with.
+//! Slices of plain texts: one chunk, and lines by their set.
 use crate::cuts::lens;
 use rope_plain::failure::Failure;
 use rope_plain::same;
@@ -26,7 +26,7 @@ fn the_empty_text_is_one_line() -> Result<(), Failure> {
     Ok(())
 }
 
-/// Fails unless a text has so many lines by a set of line breaks.
+/// Fails unless a text has `lines` lines by a set of line breaks.
 fn expect_lines(breaks: LineBreaks, lines: usize) -> Result<(), Failure> {
     let slice = RopeSlice::from_str_with("a\r\nb\rc\u{2028}", breaks);
     same!(slice.line_breaks(), breaks);

@@ -1,4 +1,4 @@
-//! Random slices of slices, of ropes and of plain texts, against their plain partners.
+//! Random slices of slices, of ropes and of plain texts, against the model.
 use crate::compare::{compare_at, compare_whole};
 use crate::cuts::{between, byte_between, byte_part, part};
 use rope_plain::compare::SETS;
@@ -12,23 +12,23 @@ use rope_plain::texts::{chars_of, random_edit_text, random_text};
 use ropey::{Error, LineBreaks, RopeSlice};
 use std::alloc::Global;
 
-/// How many inserts and removals a rope gets before it is sliced.
+/// The number of inserts and removals of a rope before it is sliced.
 const EDITS: usize = 12;
 
-/// How many slices lie within each other.
+/// The number of nested slices.
 const DEPTH: usize = 4;
 
-/// How many places of each slice are compared, beside its end.
+/// The number of indices of each slice that are compared, besides its end.
 const PLACES: usize = 4;
 
-/// Puts a random text in at a random place.
+/// Inserts a random text at a random index.
 fn insert(pair: &mut Pair, alloc: Global, numbers: &mut Numbers) -> Result<(), Error> {
     let char_idx = pair.place(numbers);
     let text = random_edit_text(alloc, numbers)?;
     pair.insert(alloc, char_idx, text.as_str())
 }
 
-/// Takes up to 300 characters out.
+/// Removes up to 300 characters.
 fn remove(pair: &mut Pair, alloc: Global, numbers: &mut Numbers) -> Result<(), Error> {
     let start = pair.place(numbers);
     let end = start
@@ -37,13 +37,13 @@ fn remove(pair: &mut Pair, alloc: Global, numbers: &mut Numbers) -> Result<(), E
     pair.remove(alloc, start, end)
 }
 
-/// A rope of a random text.
+/// Returns a rope of a random text.
 fn random_pair(alloc: Global, numbers: &mut Numbers, breaks: LineBreaks) -> Result<Pair, Error> {
     let text = random_text(alloc, numbers, 4_000)?;
     Pair::new(alloc, text.as_str(), breaks)
 }
 
-/// A rope whose chunks are of uneven lengths.
+/// Returns a rope with chunks of uneven lengths.
 pub fn edited(alloc: Global, numbers: &mut Numbers, breaks: LineBreaks) -> Result<Pair, Error> {
     let mut pair = random_pair(alloc, numbers, breaks)?;
     for _ in 0..EDITS {
@@ -53,7 +53,7 @@ pub fn edited(alloc: Global, numbers: &mut Numbers, breaks: LineBreaks) -> Resul
     Ok(pair)
 }
 
-/// A start and an end; of two such ranges one is short and one leaves little out.
+/// Returns a start and an end; of two such ranges one is short and one leaves little out.
 pub fn random_range(numbers: &mut Numbers, len: usize) -> (usize, usize) {
     let start = if numbers.up_to(1) == 0 {
         numbers.up_to(len)
@@ -69,7 +69,7 @@ pub fn random_range(numbers: &mut Numbers, len: usize) -> (usize, usize) {
     (start, len.saturating_sub(left_out))
 }
 
-/// A range of a rope, given in characters or in bytes.
+/// Returns a range of a rope, given in characters or in bytes.
 pub fn slice_of<'a>(
     numbers: &mut Numbers,
     pair: &'a Pair,
@@ -84,7 +84,7 @@ pub fn slice_of<'a>(
     byte_between(&pair.rope, start, end)
 }
 
-/// A range of a slice, given in characters or in bytes.
+/// Returns a range of a slice, given in characters or in bytes.
 fn part_of<'a>(
     numbers: &mut Numbers,
     slice: &RopeSlice<'a>,
@@ -100,7 +100,7 @@ fn part_of<'a>(
     byte_part(slice, start, end)
 }
 
-/// Fails unless a slice is right in whole, at some places and at its end.
+/// Fails unless a slice is right in whole, at some indices and at its end.
 fn expect_slice(
     numbers: &mut Numbers,
     slice: &RopeSlice<'_>,
@@ -140,7 +140,7 @@ fn expect_sliced(numbers: &mut Numbers, pair: &Pair, all: &PlainSlice<'_>) -> Re
     expect_nested(numbers, slice, all.part(start, end))
 }
 
-/// How many slices of each rope are compared.
+/// The number of slices of each rope that are compared.
 const SLICES: usize = 4;
 
 /// Fails unless slices of one rope are right.

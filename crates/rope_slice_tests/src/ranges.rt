@@ -1,5 +1,5 @@
-//! Ranges of all six kinds, with bounds at the ends of a text, past them, reversed, and as great as
-//! an index may be.
+//! Ranges of all six kinds, with bounds at the ends of a text, past them, reversed, and at the
+//! greatest index.
 use crate::expected::{Told, behind};
 use crate::long_texts::{UNITS, WHOLE};
 use rope_plain::failure::{Failure, within};
@@ -14,10 +14,10 @@ const CHARS: usize = 6;
 
 const BYTES: usize = 12;
 
-/// Where its characters begin, and its end.
+/// The byte at which each character begins, and the end.
 const STARTS: [usize; 7] = [0, 1, 3, 4, 5, 8, 12];
 
-/// The bounds that are tried, two at a time.
+/// The bounds that are tried, in pairs.
 const BOUNDS: [usize; 12] = [
     0,
     1,
@@ -33,8 +33,8 @@ const BOUNDS: [usize; 12] = [
     usize::MAX,
 ];
 
-/// A removal of the range is refused by its error and changes nothing, or else takes its characters
-/// out.
+/// Fails unless a removal of the range returns its error and changes nothing, or else removes its
+/// characters.
 fn expect_removed<R: IndexRange>(rope: &mut Rope, range: R, told: Told) -> Result<(), Failure> {
     let answer = rope.try_remove(range);
     same!(answer.err(), told.char_error(CHARS));
@@ -52,7 +52,7 @@ fn removes<R: IndexRange>(alloc: Global, range: R, told: Told) -> Result<(), Fai
     expect_removed(&mut rope, range, told)
 }
 
-/// A slice by characters is one exactly where the range is none that a removal refuses, and has its
+/// Fails unless a slice by characters exists exactly where a removal has no error, and has its
 /// characters.
 fn expect_sliced(answer: Option<RopeSlice<'_>>, told: Told) -> Result<(), Failure> {
     match (answer, told.char_error(CHARS)) {
@@ -66,7 +66,7 @@ fn expect_sliced(answer: Option<RopeSlice<'_>>, told: Told) -> Result<(), Failur
     }
 }
 
-/// A slice by bytes is refused by its error, or else has its bytes.
+/// Fails unless a slice by bytes returns its error, or else has its bytes.
 fn expect_byte_sliced(answer: ropey::Result<RopeSlice<'_>>, told: Told) -> Result<(), Failure> {
     match (answer, told.byte_error(&STARTS, BYTES)) {
         (Ok(slice), None) => {
@@ -82,7 +82,7 @@ fn expect_byte_sliced(answer: ropey::Result<RopeSlice<'_>>, told: Told) -> Resul
     }
 }
 
-/// Fails unless slices of a text by the range are as told, by characters and by bytes.
+/// Fails unless slices of a text by the range are as expected, by characters and by bytes.
 macro_rules! cut {
     ($text:ident, $range:expr, $told:ident) => {
         expect_sliced($text.get_slice($range), $told)?;
@@ -94,7 +94,7 @@ macro_rules! cut {
     };
 }
 
-/// Fails unless a rope and a plain text are cut as told.
+/// Fails unless slices of a rope and of a plain text are as expected.
 macro_rules! both_cut {
     ($rope:ident, $range:expr, $told:ident) => {{
         let slice = RopeSlice::from(TEXT);
@@ -103,7 +103,7 @@ macro_rules! both_cut {
     }};
 }
 
-/// Ranges with a start and an excluded end.
+/// Tests ranges with a start and an excluded end.
 fn half_open(alloc: Global, rope: &Rope, start: usize, end: usize) -> Result<(), Failure> {
     let told = Told {
         start: Some(start),
@@ -114,7 +114,7 @@ fn half_open(alloc: Global, rope: &Rope, start: usize, end: usize) -> Result<(),
     Ok(())
 }
 
-/// Ranges with a start and a last index.
+/// Tests ranges with a start and a last index.
 fn closed(alloc: Global, rope: &Rope, start: usize, end: usize) -> Result<(), Failure> {
     let told = Told {
         start: Some(start),
@@ -125,7 +125,7 @@ fn closed(alloc: Global, rope: &Rope, start: usize, end: usize) -> Result<(), Fa
     Ok(())
 }
 
-/// Ranges with a start and no end.
+/// Tests ranges with a start and no end.
 fn open_behind(alloc: Global, rope: &Rope, start: usize) -> Result<(), Failure> {
     let told = Told {
         start: Some(start),
@@ -136,7 +136,7 @@ fn open_behind(alloc: Global, rope: &Rope, start: usize) -> Result<(), Failure> 
     Ok(())
 }
 
-/// Ranges with an excluded end and no start.
+/// Tests ranges with an excluded end and no start.
 fn open_before(alloc: Global, rope: &Rope, end: usize) -> Result<(), Failure> {
     let told = Told {
         start: None,
@@ -147,7 +147,7 @@ fn open_before(alloc: Global, rope: &Rope, end: usize) -> Result<(), Failure> {
     Ok(())
 }
 
-/// Ranges with a last index and no start.
+/// Tests ranges with a last index and no start.
 fn up_to(alloc: Global, rope: &Rope, end: usize) -> Result<(), Failure> {
     let told = Told {
         start: None,
@@ -158,7 +158,7 @@ fn up_to(alloc: Global, rope: &Rope, end: usize) -> Result<(), Failure> {
     Ok(())
 }
 
-/// The range with no bound.
+/// Tests the range with no bound.
 fn open(alloc: Global, rope: &Rope) -> Result<(), Failure> {
     let told = Told {
         start: None,
@@ -212,8 +212,8 @@ fn ranges_of_one_bound_or_none_cut_or_are_refused(rt: HostRuntime) -> Result<(),
     from_or_to_each_bound(rt.alloc(), &rope)
 }
 
-/// Fails unless a range within the text is cut out by its excluded end, and not by a last index
-/// that is the text's end.
+/// Fails unless a range within the text is valid by its excluded end, and not by a last index that
+/// is the text's end.
 fn expect_cut_to_its_end(rope: &Rope, start: usize, end: usize) -> Result<(), Failure> {
     let are_none = [
         rope.get_slice(start..end).is_none(),

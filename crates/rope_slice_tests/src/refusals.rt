@@ -3,7 +3,7 @@ use rope_plain::failure::Failure;
 use rope_plain::{holds, same};
 use ropey::{Error, Rope, RopeSlice};
 
-/// What the ranges of the bytes of `é` are refused with.
+/// The errors of the ranges of the bytes of `é`.
 const REFUSALS: [Option<Error>; 4] = [
     Some(Error::ByteRangeNotCharBoundary(Some(1), Some(1))),
     Some(Error::ByteRangeNotCharBoundary(None, Some(1))),
@@ -11,7 +11,7 @@ const REFUSALS: [Option<Error>; 4] = [
     Some(Error::ByteRangeOutOfBounds(Some(3), None, 2)),
 ];
 
-/// Fails unless the ranges of the bytes of `é` are refused so.
+/// Fails unless the ranges of the bytes of `é` have these errors.
 macro_rules! refuses {
     ($text:ident) => {{
         let refused = [

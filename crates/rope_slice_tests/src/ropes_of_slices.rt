@@ -5,7 +5,7 @@ use rope_plain::{same, some};
 use ropey::{LineBreaks, Rope, RopeSlice};
 use std::alloc::Global;
 
-/// 3,000 lines that end in CR LF.
+/// Returns a rope of 3,000 lines that end in CR LF.
 fn lines(alloc: Global) -> Result<Rope, Failure> {
     let text = repeated(alloc, "Hello!\r\n", 3_000)?;
     Ok(Rope::from_str_with(alloc, text.as_str(), LineBreaks::CrLf)?)
@@ -21,8 +21,7 @@ fn expect_part(part: &Rope) -> Result<(), Failure> {
     Ok(())
 }
 
-/// Fails unless a rope of a slice is all but the first CR and what is before it, and the last CR
-/// LF.
+/// Fails unless a rope of a slice from the first LF up to a later line has its text and set.
 fn expect_has_part(alloc: Global, slice: Option<RopeSlice<'_>>) -> Result<(), Failure> {
     let slice = some!(slice);
     let part = Rope::from_slice(alloc, slice)?;
@@ -35,7 +34,7 @@ fn a_rope_of_a_slice_has_its_text_and_set(rt: HostRuntime) -> Result<(), Failure
     expect_has_part(rt.alloc(), rope.get_slice(7..20_008))
 }
 
-/// The characters and the lines of a rope of a slice.
+/// Returns the characters and the lines of a rope of a slice.
 fn counts(alloc: Global, slice: RopeSlice<'_>) -> Option<[usize; 2]> {
     match Rope::from_slice(alloc, slice) {
         Ok(rope) => Some([rope.len_chars(), rope.len_lines()]),

@@ -15,10 +15,10 @@ use rope_plain::{same, some};
 use ropey::{LineBreaks, RopeSlice};
 use std::alloc::{AllocError, Global};
 
-/// How many steps a walk has.
+/// The number of steps of a walk.
 const STEPS: usize = 60;
 
-/// A slice's plain partner, its bytes, and where its chunks end.
+/// A slice's model, its bytes, and the ends of its chunks.
 #[derive(Drop)]
 struct Items<'p> {
     plain: PlainSlice<'p>,
@@ -26,7 +26,7 @@ struct Items<'p> {
     ends: Vec<usize>,
 }
 
-/// The bytes of these characters.
+/// Returns the text of these characters.
 fn text_of(alloc: Global, chars: &[char]) -> Result<String, AllocError> {
     let mut text = String::new(alloc);
     for c in chars {
@@ -35,7 +35,7 @@ fn text_of(alloc: Global, chars: &[char]) -> Result<String, AllocError> {
     Ok(text)
 }
 
-/// Where the chunks of a slice end, in its characters.
+/// Returns the ends of the chunks of a slice, in its characters.
 fn ends_of(alloc: Global, plain: &PlainSlice<'_>) -> Result<Vec<usize>, AllocError> {
     let mut ends = Vec::new(alloc);
     let mut last = 0;
@@ -62,7 +62,8 @@ impl<'p> Items<'p> {
         char_to_line(self.plain.text, self.plain.text.len(), self.plain.breaks).saturating_add(1)
     }
 
-    /// Which chunk holds a character, and where it starts; at the end of the text the end.
+    /// Returns the index of the chunk that contains a character, and its start; at the end of the
+    /// text the end.
     fn chunk_start(&self, char_idx: usize) -> (usize, usize) {
         let mut index: usize = 0;
         let mut start: usize = 0;
@@ -111,7 +112,7 @@ impl<'p> Items<'p> {
         }
     }
 
-    /// Fails unless a step of the cursor and one of the partner gave the same.
+    /// Fails unless a step of the cursor and one of the model returned the same.
     fn agree(&self, item: Option<Item<'_>>, index: Option<usize>) -> Result<(), Failure> {
         match (item, index) {
             (Some(item), Some(index)) => self.expect_item(item, index),
@@ -122,7 +123,8 @@ impl<'p> Items<'p> {
     }
 }
 
-/// A random step of a cursor and of its partner: whether they give the same, and have as much left.
+/// Fails unless a random step of a cursor and of its model return the same, with the same number of
+/// items left.
 fn steps_agree<'a, W: Walker<'a>>(
     numbers: &mut Numbers,
     walker: &mut W,
@@ -147,7 +149,7 @@ fn steps_agree<'a, W: Walker<'a>>(
     Ok(())
 }
 
-/// Fails unless a walk from where the cursor stands goes as that of its partner.
+/// Fails unless a walk from the cursor's position agrees with that of its model.
 fn expect_walk<'a, W: Walker<'a>>(
     numbers: &mut Numbers,
     walker: &mut W,
@@ -198,7 +200,7 @@ fn walks_lines(
     expect_walk(numbers, &mut cursor, partner, items)
 }
 
-/// A walk over chunks from the one that holds a character, or from the end.
+/// Tests a walk over chunks from the one that contains a character, or from the end.
 fn walks_chunks(
     numbers: &mut Numbers,
     slice: &RopeSlice<'_>,
@@ -215,7 +217,7 @@ fn walks_chunks(
     expect_walk(numbers, &mut cursor, partner, items)
 }
 
-/// Fails unless a walk of each kind over a slice goes well, each from a random place or from an
+/// Fails unless a walk of each kind over a slice succeeds, each from a random position or from an
 /// end.
 fn walks_all(
     numbers: &mut Numbers,
@@ -249,7 +251,7 @@ fn walks_all(
     walks_chunks(numbers, slice, items, chars)
 }
 
-/// Fails unless walks over a slice go well, where there is one.
+/// Fails unless walks over a slice succeed, if there is one.
 fn walks_slice(
     alloc: Global,
     numbers: &mut Numbers,
@@ -261,7 +263,7 @@ fn walks_slice(
     walks_all(numbers, &slice, &items)
 }
 
-/// Fails unless walks over three random slices of a rope go well.
+/// Fails unless walks over three random slices of a rope succeed.
 fn walks_slices(
     alloc: Global,
     numbers: &mut Numbers,
@@ -279,7 +281,7 @@ fn walks_slices(
     Ok(())
 }
 
-/// Fails unless walks over three slices of a random rope go well.
+/// Fails unless walks over three slices of a random rope succeed.
 fn walks_rope(alloc: Global, numbers: &mut Numbers, breaks: LineBreaks) -> Result<(), Failure> {
     let pair = edited(alloc, numbers, breaks)?;
     let ends = pair.chunk_ends(alloc)?;
@@ -287,7 +289,7 @@ fn walks_rope(alloc: Global, numbers: &mut Numbers, breaks: LineBreaks) -> Resul
     walks_slices(alloc, numbers, &pair, &all)
 }
 
-/// Fails unless walks over a random plain text go well.
+/// Fails unless walks over a random plain text succeed.
 fn walks_str(alloc: Global, numbers: &mut Numbers, breaks: LineBreaks) -> Result<(), Failure> {
     let text = random_text(alloc, numbers, 300)?;
     let plain = chars_of(alloc, text.as_str())?;
@@ -297,7 +299,7 @@ fn walks_str(alloc: Global, numbers: &mut Numbers, breaks: LineBreaks) -> Result
     walks_slice(alloc, numbers, Some(slice), all)
 }
 
-/// Fails unless walks over random ropes go well, by each set of line breaks.
+/// Fails unless walks over random ropes succeed, by each set of line breaks.
 fn walks_rope_by_each_set(alloc: Global, numbers: &mut Numbers) -> Result<(), Failure> {
     for breaks in SETS {
         within(
@@ -321,7 +323,7 @@ fn cursors_over_slices_of_ropes_walk_as_places_do(rt: HostRuntime) -> Result<(),
     Ok(())
 }
 
-/// Fails unless walks over random plain texts go well, by each set of line breaks.
+/// Fails unless walks over random plain texts succeed, by each set of line breaks.
 fn walks_str_by_each_set(alloc: Global, numbers: &mut Numbers) -> Result<(), Failure> {
     for breaks in SETS {
         within(
