@@ -12,12 +12,12 @@ use Rattle.rope_text.specs.Edit.{inserted, removed, char_range_error}
 abbrev pub first : List ℕ
 first = codes "one\ntwo\nthree\n"
 
--- its bytes are its characters
+-- the bytes of the text are its characters
 ascii : encode_utf8_all first ≡ first
 unfolding encode
 ascii = refl
 
--- what was read
+-- the text that was read
 pub is_first : (t bytes : List ℕ) → encode_utf8_all t ≡ bytes → bytes ≡ first → t ≡ first
 is_first t bytes e f = encodes_same t first (e ∙ f ∙ sym ascii)
 
@@ -28,7 +28,7 @@ four_lines breaks t e f = rw (e, f) refl
 pub may_remove : (t : List ℕ) → t ≡ first → char_range_error (Some 4) (Some 8) (length t) ≡ None
 may_remove t f = rw f refl
 
--- what a removal leaves, and what an insert leaves then
+-- the text after a removal, and after an insert into it
 pub ten : (t u : List ℕ) → t ≡ first → u ≡ removed t 4 8 → length u ≡ 10
 ten t u f e = rw (e, f) refl
 

@@ -1,4 +1,4 @@
-//! What a plain rope answers to each query.
+//! The expected replies of a plain rope to each query.
 use crate::commands::{Outcome, expect_reply};
 use crate::shown::other_reply;
 use crate::walking::moved;
@@ -13,7 +13,7 @@ use rope_script::{At, Conv, Item, Move, Query, Reply, Unit};
 use ropey::Error;
 use std::alloc::Global;
 
-/// A part that is asked, and its places.
+/// A slice that is queried, and its positions.
 #[derive(Clone, Copy)]
 struct Asked<'a> {
     part: PlainSlice<'a>,
@@ -71,7 +71,7 @@ impl<'a> Asked<'a> {
         })
     }
 
-    /// The characters of a line, where there is one.
+    /// Returns the characters of a line, if there is one.
     fn line(&self, line: usize) -> Option<&'a [char]> {
         if line >= lengths_of(self.places).lines {
             return None;
@@ -81,7 +81,7 @@ impl<'a> Asked<'a> {
         self.part.text.get(start..end)
     }
 
-    /// The byte at an index.
+    /// Returns the byte at an index.
     fn byte(&self, index: usize) -> Option<u8> {
         let at = last_place(self.places, Count::Bytes, index);
         let start = place_at(self.places, at).byte;
@@ -91,7 +91,7 @@ impl<'a> Asked<'a> {
         encoded.get(index.saturating_sub(start)).copied()
     }
 
-    /// The last chunk that starts at a character or before it.
+    /// Returns the last chunk that starts at a character or before it.
     fn chunk_of_char(&self, char_idx: usize) -> usize {
         let mut found = 0;
         for index in 0..self.part.chunk_count() {
@@ -102,7 +102,7 @@ impl<'a> Asked<'a> {
         found
     }
 
-    /// The first chunk by whose end so many breaks have ended, or the last.
+    /// Returns the first chunk that ends after a number of breaks, or the last.
     fn chunk_of_break(&self, break_count: usize) -> usize {
         let count = self.part.chunk_count();
         for index in 0..count {
@@ -114,7 +114,7 @@ impl<'a> Asked<'a> {
         count.saturating_sub(1)
     }
 
-    /// Which chunk an index names and whether it is the end; none out of range.
+    /// Returns the chunk of an index and whether it is the end; `None` out of range.
     fn chunk_index(&self, at: &At, index: usize) -> Option<(usize, bool)> {
         let lens = lengths_of(self.places);
         let (end, found) = match at {
@@ -128,7 +128,7 @@ impl<'a> Asked<'a> {
         (index <= end).then_some((found, index == end))
     }
 
-    /// Fails unless this is the chunk with that index; where there is none it is empty.
+    /// Fails unless this is the chunk with that index, which is empty if there is none.
     fn expect_chunk(&self, text: &str, index: usize) -> Result<(), Failure> {
         match self.part.chunk(index) {
             Some(chunk) => { expect_chars(text, chunk) }
@@ -164,7 +164,7 @@ impl<'a> Asked<'a> {
         Ok(())
     }
 
-    /// Fails unless an item that a cursor gave is the one with that index.
+    /// Fails unless an item of a cursor is the one with that index.
     fn expect_item(&self, unit: &Unit, item: &Item, index: usize) -> Result<(), Failure> {
         match (unit, item) {
             (Unit::Bytes, Item::Byte(byte)) => {
@@ -184,7 +184,7 @@ impl<'a> Asked<'a> {
         }
     }
 
-    /// Fails unless a step of a walk gave what it has to.
+    /// Fails unless a step of a walk returned the expected item.
     fn agrees(
         &self,
         unit: &Unit,
@@ -200,7 +200,7 @@ impl<'a> Asked<'a> {
         }
     }
 
-    /// Fails unless the items are those of a walk from where the cursor stands.
+    /// Fails unless the items are those of a walk from the cursor's position.
     fn expect_items(
         &self,
         unit: &Unit,
@@ -220,14 +220,14 @@ impl<'a> Asked<'a> {
         Ok(())
     }
 
-    /// Where a walk starts among the chunks; none out of range.
+    /// Returns the start of a walk among the chunks, or `None` out of range.
     fn walk_of_chunks(&self, at: &At, index: usize) -> Option<PlainCursor> {
         let (found, is_end) = self.chunk_index(at, index)?;
         let count = self.part.chunk_count();
         Some(PlainCursor::at(count, if is_end { count } else { found }))
     }
 
-    /// Where a walk starts among its items; none out of range.
+    /// Returns the start of a walk among its items, or `None` out of range.
     fn walk_start(&self, unit: &Unit, index: usize) -> Option<PlainCursor> {
         let lens = lengths_of(self.places);
         let len = match unit {
@@ -272,7 +272,7 @@ impl<'a> Asked<'a> {
         }
     }
 
-    /// The last character of a line whose column is at most so much.
+    /// Returns the last character of a line whose column is at most `column`.
     fn position_to_char(&self, line: usize, column: usize) -> Answer {
         let lens = lengths_of(self.places);
         if line >= lens.lines {
@@ -325,7 +325,7 @@ impl<'a> Asked<'a> {
         }
     }
 
-    /// Fails unless it is so ordered against a part of one of the ropes.
+    /// Fails unless it has this order against a slice of one of the ropes.
     fn expect_order(
         &self,
         ropes: &[PlainRope],
@@ -346,7 +346,7 @@ impl<'a> Asked<'a> {
         }
     }
 
-    /// Fails unless a part may be replied so to a query.
+    /// Fails unless a slice may have this reply to a query.
     fn expect_reply(
         &self,
         ropes: &[PlainRope],
@@ -418,7 +418,7 @@ fn expect_text_or_absent(chars: Option<&[char]>, reply: &Reply) -> Result<(), Fa
     }
 }
 
-/// Fails unless a part may be replied so to a query; `ropes` are all ropes, of which one may be
+/// Fails unless a slice may have this reply to a query; `ropes` are all ropes, one of which may be
 /// compared with it.
 pub fn answers(
     alloc: Global,

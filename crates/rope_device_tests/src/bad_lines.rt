@@ -4,7 +4,7 @@ use rope_language::Ended;
 use rope_plain::failure::{Failure, within};
 use std::alloc::Global;
 
-/// Fails unless nothing is written for a line alone, and it is reported as a bad one.
+/// Fails unless nothing is written for a line alone, and it is reported as bad.
 fn expect_refused(alloc: Global, line: &[u8]) -> Result<(), Failure> {
     let mut input = Vec::from_slice(alloc, line)?;
     input.push(b'\n')?;
@@ -176,7 +176,7 @@ fn texts_that_are_not_escaped_are_bad_lines(rt: HostRuntime) -> Result<(), Failu
     refuse(rt.alloc(), &TEXTS)
 }
 
-/// Each number of each line with a sign before it, where a number has none.
+/// Each number of each line with a sign before it, which no number may have.
 const SIGNS: [&[u8]; 36] = [
     b"clone +0",
     b"copy +0",

@@ -1,4 +1,4 @@
-//! What commands do to plain ropes.
+//! The effects of commands on plain ropes.
 use crate::shown::other_reply;
 use rope_plain::failure::Failure;
 use rope_plain::plain_rope::PlainRope;
@@ -8,7 +8,7 @@ use rope_script::{Command, Reply};
 use ropey::{Error, LineBreaks};
 use std::alloc::{AllocError, Global};
 
-/// What a command has to be replied.
+/// The expected reply to a command.
 #[derive(Clone, Copy, Debug)]
 pub enum Outcome {
     Done,
@@ -18,17 +18,17 @@ pub enum Outcome {
     Refused(Error),
 }
 
-/// Which rope was re-chunked by a command.
+/// The ropes that a command re-chunked.
 #[derive(Clone, Copy)]
 pub struct Effect {
     pub outcome: Outcome,
-    /// The ropes from this one on have cuttings that the rules leave open, and one more may.
+    /// The ropes whose new cutting the rules leave open.
     pub recut: [Option<usize>; 2],
-    /// A cutting that is left open has few chunks.
+    /// The new cutting has few chunks.
     pub is_few: bool,
 }
 
-/// Nothing was re-chunked.
+/// Returns the effect without a re-chunked rope.
 fn effect_of(outcome: Outcome) -> Effect {
     Effect {
         outcome,
@@ -37,7 +37,7 @@ fn effect_of(outcome: Outcome) -> Effect {
     }
 }
 
-/// One rope was re-chunked.
+/// Returns the effect with one re-chunked rope.
 fn recut(outcome: Outcome, rope: usize) -> Effect {
     Effect {
         outcome,
@@ -46,8 +46,7 @@ fn recut(outcome: Outcome, rope: usize) -> Effect {
     }
 }
 
-/// Fails unless a reply is the one that a command has to be replied, where so many ropes stood
-/// before it.
+/// Fails unless a reply is the expected one, with `count` ropes before the command.
 pub fn expect_reply(outcome: Outcome, count: usize, reply: &Reply) -> Result<(), Failure> {
     match (outcome, reply) {
         (Outcome::Done, Reply::Done)
@@ -110,7 +109,7 @@ fn insert(
     Ok(recut(Outcome::Done, number))
 }
 
-/// Why a range is refused.
+/// Returns the error of a range.
 fn range_error(start: Option<usize>, end: Option<usize>, len: usize) -> Option<Error> {
     let first = start.unwrap_or(0);
     let last = end.unwrap_or(len);
@@ -143,7 +142,7 @@ fn remove(
     Ok(recut(Outcome::Done, number))
 }
 
-/// Leaves the front, and answers the back.
+/// Keeps the front, and returns the back.
 fn split_off(alloc: Global, rope: &mut PlainRope, index: usize) -> Result<PlainRope, AllocError> {
     let back = part_from(alloc, &rope.text, index)?;
     rope.text.truncate(index);
@@ -168,7 +167,7 @@ fn cut(
     Ok(effect)
 }
 
-/// Puts a copy of a rope, which is not empty, behind another, or in the place of one that is empty.
+/// Appends a copy of a rope, which is not empty, to another, or replaces one that is empty.
 fn put_behind(
     ropes: &mut [PlainRope],
     number: usize,
@@ -236,7 +235,7 @@ fn shrink(ropes: &[PlainRope], number: usize) -> Effect {
     }
 }
 
-/// Does a command; nothing for one that asks.
+/// Runs a command; does nothing for a query.
 pub fn apply(
     alloc: Global,
     ropes: &mut Vec<PlainRope>,

@@ -1,17 +1,17 @@
-//! Readers and writers that move as many bytes at once as they are told to, and fail when told to.
+//! Readers and writers that move at most a given number of bytes at once, and fail on request.
 ghost use Rattle.std.specs.Prelude.{◌≡◌, IfOk};
 
 use std::alloc::Global;
 use std::cell::Cell;
 use std::io::{self, ErrorKind, Read, Write};
 
-/// Never: no device gives or takes so many bytes.
+/// Never: no device gives or takes that many bytes.
 pub const NEVER: usize = usize::MAX;
 
 /// One byte a read.
 pub const SINGLY: u64 = u64::MAX;
 
-/// Gives its bytes in parts, and fails once so many were given.
+/// Gives its bytes in several reads, and fails after a number of bytes.
 ///
 /// A bit of `ends` that is set makes that byte the last of its read; the bytes past the 64th come
 /// one a read.
@@ -33,7 +33,7 @@ impl<'a> Parts<'a> {
         }
     }
 
-    /// How many bytes come before the next end.
+    /// Returns the number of bytes before the next end of a read.
     fn ahead(&self) -> usize {
         let Ok(given) = u32::try_from(self.given) else {
             return 1;
@@ -59,8 +59,8 @@ impl Read for Parts<'_> {
     }
 }
 
-/// Gives one byte a read, without end: so many `a`, then FF, then `a` again. It fails once so many
-/// were given.
+/// Gives one byte a read, without end: a number of `a`, then FF, then `a` again. It fails after a
+/// number of bytes.
 #[derive(Drop)]
 pub struct Endless {
     before: usize,
@@ -96,7 +96,7 @@ impl Read for Endless {
     }
 }
 
-/// Keeps at most so many bytes a write. Once so many were kept it fails, or takes none.
+/// Keeps at most `most` bytes a write. After `room` bytes it fails, or takes none.
 #[derive(Drop)]
 pub struct Narrow {
     pub kept: Vec<u8>,
@@ -106,7 +106,7 @@ pub struct Narrow {
 }
 
 impl Narrow {
-    /// It fails at the end.
+    /// Returns a writer that fails at the end.
     pub fn new(rt: &HostRuntime, most: usize, room: usize) -> Narrow {
         Narrow {
             kept: Vec::new(rt.alloc()),
@@ -116,7 +116,7 @@ impl Narrow {
         }
     }
 
-    /// It takes none.
+    /// Returns a writer that takes no byte.
     pub fn full(rt: &HostRuntime) -> Narrow {
         Narrow {
             kept: Vec::new(rt.alloc()),
@@ -138,15 +138,15 @@ impl Write for Narrow {
         Ok(count)
     }
 
-    /// No flush is asked for.
+    /// Clears the bytes kept, since no call may flush.
     fn flush(&mut self) -> io::Result<()> {
         self.kept.clear();
         Ok(())
     }
 }
 
-/// Gives one byte a read. Once so many were given one read fails, or says an end, and would be
-/// followed by the others.
+/// Gives one byte a read. After a number of bytes one read fails, or returns an end, and the next
+/// would continue.
 #[derive(Drop)]
 pub struct Stumbling<'a> {
     rest: &'a [u8],
@@ -155,7 +155,7 @@ pub struct Stumbling<'a> {
     calls: &'a Cell<usize>,
 }
 
-/// What a device does once, where it would go on afterwards.
+/// A single failure of a device, which would continue afterwards.
 #[derive(Clone, Copy)]
 pub enum Stumble {
     Fails(ErrorKind),
@@ -174,7 +174,7 @@ impl Stumble {
 }
 
 impl<'a> Stumbling<'a> {
-    /// It counts its reads, the one that stumbles among them.
+    /// Returns a reader that counts its reads, also the one that fails.
     pub fn new(
         bytes: &'a [u8],
         before: usize,
@@ -207,8 +207,8 @@ impl Read for Stumbling<'_> {
     }
 }
 
-/// Keeps at most so many bytes a write. Once so many were kept one write fails, or takes none, and
-/// the next would go on.
+/// Keeps at most a given number of bytes a write. After a number of bytes one write fails, or takes
+/// none, and the next would continue.
 #[derive(Drop)]
 pub struct Halting<'a> {
     pub kept: Vec<u8>,
@@ -219,7 +219,7 @@ pub struct Halting<'a> {
 }
 
 impl<'a> Halting<'a> {
-    /// It counts its writes, the one that stumbles among them.
+    /// Returns a writer that counts its writes, also the one that fails.
     pub fn new(
         alloc: Global,
         most: usize,
@@ -252,7 +252,7 @@ impl Write for Halting<'_> {
         Ok(count)
     }
 
-    /// No flush is asked for.
+    /// Clears the bytes kept, since no call may flush.
     fn flush(&mut self) -> io::Result<()> {
         self.kept.clear();
         Ok(())

@@ -1,5 +1,5 @@
-//! The errors of devices, which come through with their message and their number, and how often a
-//! device is called.
+//! The errors of devices, which are passed on with their message and their number, and the number
+//! of calls of a device.
 use rope_plain::failure::{Failure, within};
 use rope_plain::{holds, same};
 use ropey::Rope;
@@ -17,12 +17,12 @@ struct Broken<'a> {
 }
 
 impl<'a> Broken<'a> {
-    /// It counts its calls, those that fail among them.
+    /// Returns a device that counts its calls, also those that fail.
     fn new(good: usize, error: io::Error, calls: &'a Cell<usize>) -> Broken<'a> {
         Broken { good, error, calls }
     }
 
-    /// Counts a call, and fails if it is to.
+    /// Counts a call, and fails if it must.
     fn call(&self) -> io::Result<()> {
         let calls = self.calls.get();
         self.calls.set(calls.saturating_add(1));
@@ -50,13 +50,13 @@ impl Write for Broken<'_> {
         Ok(buf.len().min(1))
     }
 
-    /// No flush is asked for.
+    /// Fails, since no call may flush.
     fn flush(&mut self) -> io::Result<()> {
         Err(self.error)
     }
 }
 
-/// An error, and what shows that it is this one: its number, and the text that it prints.
+/// An error, with the number and the text that identify it.
 #[derive(Clone, Copy)]
 struct Known {
     error: io::Error,
@@ -64,7 +64,8 @@ struct Known {
     text: &'static str,
 }
 
-/// Errors of a program, with a message, and of the system, with a number. Two are of one kind.
+/// Returns errors of a program, with a message, and of the system, with a number. Two have one
+/// kind.
 fn known_errors() -> [Known; 4] {
     let told = |error, text| Known {
         error,
@@ -118,7 +119,7 @@ fn expect_refused<T: Drop>(
     }
 }
 
-/// Fails unless each read of a watched device is one of the device's, and its error comes through.
+/// Fails unless each read of a watched device is one of the device's, and its error is passed on.
 fn expect_taken(alloc: Global, known: &Known) -> Result<(), Failure> {
     let calls = Cell::new(0usize);
     let mut source = Watched::new(Broken::new(1, known.error, &calls));
@@ -134,7 +135,7 @@ fn expect_taken(alloc: Global, known: &Known) -> Result<(), Failure> {
     Ok(())
 }
 
-/// Fails unless each write to a watched device is one of the device's, and its error comes through.
+/// Fails unless each write to a watched device is one of the device's, and its error is passed on.
 fn expect_given(alloc: Global, known: &Known) -> Result<(), Failure> {
     let calls = Cell::new(0usize);
     let mut sink = Watched::new(Broken::new(1, known.error, &calls));
@@ -149,7 +150,7 @@ fn expect_given(alloc: Global, known: &Known) -> Result<(), Failure> {
     Ok(())
 }
 
-/// Fails unless a reading returned the reader's known error.
+/// Fails unless a read of a text returned the reader's known error.
 fn expect_read_error(
     alloc: Global,
     answer: Result<Rope, ReadError>,
@@ -162,7 +163,7 @@ fn expect_read_error(
     }
 }
 
-/// Fails unless a reading returns the reader's error, and calls the reader no more.
+/// Fails unless a read of a text returns the reader's error, and doesn't call the reader again.
 fn expect_reading(alloc: Global, good: usize, known: &Known) -> Result<(), Failure> {
     let calls = Cell::new(0usize);
     let reader = Broken::new(good, known.error, &calls);
@@ -175,7 +176,8 @@ fn expect_reading(alloc: Global, good: usize, known: &Known) -> Result<(), Failu
     Ok(())
 }
 
-/// Fails unless a writing of five bytes returns the writer's error, and calls the writer no more.
+/// Fails unless a write of five bytes returns the writer's error, and doesn't call the writer
+/// again.
 fn expect_writing(alloc: Global, rope: &Rope, good: usize, known: &Known) -> Result<(), Failure> {
     let calls = Cell::new(0usize);
     let writer = Broken::new(good, known.error, &calls);
@@ -188,7 +190,7 @@ fn expect_writing(alloc: Global, rope: &Rope, good: usize, known: &Known) -> Res
     Ok(())
 }
 
-/// Fails unless the error comes through a watched device, a reading and a writing.
+/// Fails unless the error is passed on by a watched device, a read and a write.
 fn expect_through(alloc: Global, rope: &Rope, known: &Known) -> Result<(), Failure> {
     expect_taken(alloc, known)?;
     expect_given(alloc, known)?;

@@ -1,4 +1,4 @@
-//! Commands and queries that are drawn at random, with indices of which some are out of range.
+//! Commands and queries drawn at random, with some indices out of range.
 use rope_plain::numbers::Numbers;
 use rope_plain::plain_rope::PlainRope;
 use rope_plain::texts::{random_edit_text, random_text};
@@ -8,7 +8,7 @@ use std::alloc::{AllocError, Global};
 
 const SETS: [LineBreaks; 3] = [LineBreaks::Unicode, LineBreaks::Lf, LineBreaks::CrLf];
 
-/// An index up to the length, and now and then past it.
+/// Draws an index up to the length, and sometimes past it.
 fn index(numbers: &mut Numbers, len: usize) -> usize {
     match numbers.take() % 16 {
         0 => len,
@@ -18,7 +18,7 @@ fn index(numbers: &mut Numbers, len: usize) -> usize {
     }
 }
 
-/// The number of a rope, and now and then of none.
+/// Draws the number of a rope, and sometimes of none.
 fn rope(numbers: &mut Numbers, ropes: &[PlainRope]) -> usize {
     if numbers.take() % 32 == 0 {
         return ropes.len();
@@ -33,7 +33,7 @@ fn len_of(ropes: &[PlainRope], number: usize) -> usize {
     }
 }
 
-/// A range of characters, mostly in order.
+/// Draws a range of characters, mostly in order.
 fn range(numbers: &mut Numbers, len: usize) -> (usize, usize) {
     let a = index(numbers, len);
     let b = index(numbers, len);
@@ -43,7 +43,7 @@ fn range(numbers: &mut Numbers, len: usize) -> (usize, usize) {
     (a.min(b), a.max(b))
 }
 
-/// All of a rope, or a range of it.
+/// Draws all of a rope, or a range of it.
 fn part(numbers: &mut Numbers, len: usize) -> Option<(usize, usize)> {
     if numbers.take() % 2 == 0 {
         return None;
@@ -51,7 +51,7 @@ fn part(numbers: &mut Numbers, len: usize) -> Option<(usize, usize)> {
     Some(range(numbers, len))
 }
 
-/// An open bound, or an index.
+/// Draws an open bound, or an index.
 fn bound(numbers: &mut Numbers, index: usize) -> Option<usize> {
     if numbers.take() % 4 == 0 {
         return None;
@@ -101,13 +101,13 @@ fn moves(alloc: Global, numbers: &mut Numbers) -> Result<Vec<Move>, AllocError> 
     Ok(moves)
 }
 
-/// A query of a walk.
+/// Draws a query of a walk.
 fn walk(alloc: Global, numbers: &mut Numbers, start: usize) -> Result<Query, AllocError> {
     let unit = unit(numbers);
     Ok(Query::Walk(unit, start, moves(alloc, numbers)?))
 }
 
-/// A query of this kind, which is none of a walk.
+/// Draws a query of this kind, without a walk.
 fn query_of(
     numbers: &mut Numbers,
     ropes: &[PlainRope],
@@ -143,8 +143,8 @@ fn query(
     ropes: &[PlainRope],
     len: usize,
 ) -> Result<Query, AllocError> {
-    // Lines are few and bytes are many: a third of the indices, or twice as many, hit and miss
-    // both.
+    // Lines are few and bytes are many: indices up to a third of the length, or twice it, are
+    // partly in and partly out of bounds.
     let few = index(numbers, len / 3);
     let many = index(numbers, len.saturating_mul(2));
     match numbers.take() % 16 {
@@ -154,7 +154,7 @@ fn query(
     }
 }
 
-/// A command that asks.
+/// Draws a query command.
 fn ask(alloc: Global, numbers: &mut Numbers, ropes: &[PlainRope]) -> Result<Command, AllocError> {
     let number = rope(numbers, ropes);
     let len = len_of(ropes, number);
@@ -163,7 +163,7 @@ fn ask(alloc: Global, numbers: &mut Numbers, ropes: &[PlainRope]) -> Result<Comm
     Ok(Command::Ask(number, range, query))
 }
 
-/// A command that makes a rope of a text.
+/// Draws a command that makes a rope of a text.
 fn make(alloc: Global, numbers: &mut Numbers) -> Result<Command, AllocError> {
     let most = if numbers.take() % 8 == 0 { 3_000 } else { 40 };
     let text = random_text(alloc, numbers, most)?;
@@ -174,7 +174,7 @@ fn make(alloc: Global, numbers: &mut Numbers) -> Result<Command, AllocError> {
     })
 }
 
-/// A command that edits, or makes a rope of another.
+/// Draws a command that edits, or makes a rope of another.
 fn edit(alloc: Global, numbers: &mut Numbers, ropes: &[PlainRope]) -> Result<Command, AllocError> {
     let number = rope(numbers, ropes);
     let len = len_of(ropes, number);
@@ -194,7 +194,7 @@ fn edit(alloc: Global, numbers: &mut Numbers, ropes: &[PlainRope]) -> Result<Com
     })
 }
 
-/// A command: at first one that makes a rope, later mostly edits and questions.
+/// Draws a command: at first one that makes a rope, later mostly edits and queries.
 pub fn command(
     alloc: Global,
     numbers: &mut Numbers,

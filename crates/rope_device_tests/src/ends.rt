@@ -1,10 +1,10 @@
-//! How a run ended, as its program tells it.
+//! The outcomes of runs, as their program reports them.
 use rope_language::Ended;
 use rope_plain::failure::{Failure, within};
 use rope_plain::same;
 use std::alloc::Global;
 
-/// How a run ends, the program's status then, and its line on standard error.
+/// The outcome of a run, the program's status, and its line on standard error.
 const TOLD: [(Ended, u8, &str); 6] = [
     (Ended::Done, 0, ""),
     (Ended::BadLine(1), 2, "bad line 1"),
@@ -14,7 +14,7 @@ const TOLD: [(Ended, u8, &str); 6] = [
     (Ended::Failed, 4, "input or output failed"),
 ];
 
-/// Fails unless an end has this status, and this text.
+/// Fails unless an outcome has this status, and this text.
 fn expect_told(alloc: Global, ended: Ended, status: u8, wanted: &str) -> Result<(), Failure> {
     let told = format!(in alloc; "{ended}")?;
     same!(told.as_str(), wanted);

@@ -1,13 +1,13 @@
-//! Tests of what goes through devices, and of sessions and the line language.
+//! Tests of devices, and of sessions and the line language.
 //!
 //! No contract shows these:
-//! - a device that failed is not asked again, and its error is the one that is answered;
-//! - which command a line stands for, and at which line and how a run ends;
-//! - a run of commands does all of them where memory is ample;
+//! - a device that failed is not called again, and its error is returned;
+//! - the command of a line, and the line and outcome with which a run ends;
+//! - a run of commands runs all of them if memory is ample;
 //! - replies are flushed before the next read.
 //!
-//! The proofs show these too, and they are run for the compiler's sake: 500 random sessions of 60
-//! commands against lists of characters, and texts that are read and written in any parts.
+//! The proofs show these too, and they are run to test the compiler: 500 random sessions of 60
+//! commands against lists of characters, and texts that are read and written in any pieces.
 #![tactic(auto)]
 
 #[cfg(test)]

@@ -1,4 +1,4 @@
-//! Bytes in parts, bytes that are no UTF-8, and readers that fail.
+//! Bytes in several reads, bytes that are not UTF-8, and readers that fail.
 use crate::devices::{Endless, NEVER, Parts, SINGLY};
 use crate::stumbles::read_kind;
 use rope_plain::compare::expect_few_chunks;
@@ -18,13 +18,13 @@ fn expect_bytes(alloc: Global, rope: &Rope, bytes: &[u8]) -> Result<(), Failure>
     Ok(())
 }
 
-/// Fails unless a reading answers this text.
+/// Fails unless a read returns this text.
 fn expect_text(alloc: Global, answer: Result<Rope, ReadError>, text: &str) -> Result<(), Failure> {
     let rope = answer?;
     expect_bytes(alloc, &rope, text.as_bytes())
 }
 
-/// Fails unless a reading answers that its bytes are no UTF-8.
+/// Fails unless a read returns `InvalidData`.
 fn expect_no_text(answer: Result<Rope, ReadError>) -> Result<(), Failure> {
     match answer {
         Err(ReadError::InvalidData) => Ok(()),
@@ -33,7 +33,7 @@ fn expect_no_text(answer: Result<Rope, ReadError>) -> Result<(), Failure> {
     }
 }
 
-/// Fails unless both calls answer the text of the bytes in parts, and leave no mark.
+/// Fails unless both calls return the text of the bytes, in several reads, and leave no mark.
 fn expect_read(alloc: Global, bytes: &[u8], ends: u64, text: &str) -> Result<(), Failure> {
     let mut source = Watched::new(Parts::new(bytes, ends, NEVER));
     expect_text(alloc, Rope::from_watched(alloc, &mut source), text)?;
@@ -42,7 +42,7 @@ fn expect_read(alloc: Global, bytes: &[u8], ends: u64, text: &str) -> Result<(),
     expect_text(alloc, Rope::from_reader(alloc, reader), text)
 }
 
-/// Fails unless both calls answer that bytes, one a read, are no UTF-8, and leave no mark.
+/// Fails unless both calls return `InvalidData` for bytes that come one a read, and leave no mark.
 fn expect_invalid(alloc: Global, bytes: &[u8]) -> Result<(), Failure> {
     let mut source = Watched::new(Parts::new(bytes, SINGLY, NEVER));
     expect_no_text(Rope::from_watched(alloc, &mut source))?;
@@ -50,8 +50,8 @@ fn expect_invalid(alloc: Global, bytes: &[u8]) -> Result<(), Failure> {
     expect_no_text(Rope::from_reader(alloc, Parts::new(bytes, SINGLY, NEVER)))
 }
 
-/// Fails unless both calls answer the reader's error where the read after so many bytes fails, and
-/// the mark is set.
+/// Fails unless both calls return the reader's error if the read after a number of bytes fails, and
+/// set the mark.
 fn expect_failed(alloc: Global, bytes: &[u8], ends: u64, fails_at: usize) -> Result<(), Failure> {
     let mut source = Watched::new(Parts::new(bytes, ends, fails_at));
     let reader = Parts::new(bytes, ends, fails_at);
@@ -92,7 +92,7 @@ fn a_text_is_read_however_it_is_cut(rt: HostRuntime) -> Result<(), Failure> {
     Ok(())
 }
 
-/// Fails unless the first bytes are read where they are whole characters, and are no UTF-8
+/// Fails unless the first bytes are read if they are complete characters, and are `InvalidData`
 /// elsewhere.
 fn expect_cut_off(alloc: Global, len: usize) -> Result<(), Failure> {
     let front = TEXT.as_bytes().split_at(len.min(TEXT.len())).0;
@@ -111,8 +111,8 @@ fn a_text_cut_off_within_a_character_is_no_utf8(rt: HostRuntime) -> Result<(), F
     Ok(())
 }
 
-/// Fails unless a failure behind so many bytes is answered, where they come one a read, and where
-/// they come so.
+/// Fails unless a failure after a number of bytes is returned, for single bytes a read, and for
+/// such reads.
 fn expect_failed_behind(alloc: Global, fails_at: usize, ends: u64) -> Result<(), Failure> {
     expect_failed(alloc, TEXT.as_bytes(), SINGLY, fails_at)?;
     expect_failed(alloc, TEXT.as_bytes(), ends, fails_at)
@@ -141,8 +141,8 @@ fn bytes_that_are_no_utf8_are_refused(rt: HostRuntime) -> Result<(), Failure> {
     expect_all_invalid(rt.alloc())
 }
 
-/// Fails unless letters without end, with one byte among them that is none, are refused once so
-/// many were read.
+/// Fails unless letters without end, with one wrong byte among them, are refused after a number of
+/// bytes.
 fn expect_refused_after(alloc: Global, before: usize, read: usize) -> Result<(), Failure> {
     let mut source = Watched::new(Endless::new(before, NEVER));
     expect_no_text(Rope::from_watched(alloc, &mut source))?;
@@ -153,7 +153,7 @@ fn expect_refused_after(alloc: Global, before: usize, read: usize) -> Result<(),
     Ok(())
 }
 
-/// Fails unless a failure among the bytes that are still read is answered.
+/// Fails unless a failure among the bytes still to read is returned.
 fn expect_failed_after(alloc: Global, fails_at: usize) -> Result<(), Failure> {
     let mut source = Watched::new(Endless::new(0, fails_at));
     let kind = read_kind(Rope::from_watched(alloc, &mut source));
@@ -169,7 +169,7 @@ fn bytes_that_are_no_utf8_are_refused_before_the_end(rt: HostRuntime) -> Result<
     expect_failed_after(rt.alloc(), 1967)
 }
 
-/// Fails unless a reading is refused, and the mark is set.
+/// Fails unless a read fails and the mark is set.
 fn expect_marked(alloc: Global, source: &mut Watched<Parts<'_>>) -> Result<(), Failure> {
     holds!(Rope::from_watched(alloc, source).is_err());
     holds!(source.failed());
@@ -185,7 +185,7 @@ fn an_old_mark_is_cleared(rt: HostRuntime) -> Result<(), Failure> {
     expect_marked(rt.alloc(), &mut source)
 }
 
-/// Fails unless bytes were read into few chunks, and are written as they were.
+/// Fails unless bytes were read into few chunks, and are written unchanged.
 fn expect_copied(
     alloc: Global,
     answer: Result<Rope, ReadError>,
@@ -196,7 +196,7 @@ fn expect_copied(
     expect_bytes(alloc, &rope, bytes)
 }
 
-/// Fails unless they are where they come in such parts.
+/// Fails unless they are, in such reads.
 fn expect_copied_in_parts(alloc: Global, bytes: &[u8], ends: u64) -> Result<(), Failure> {
     let answer = Rope::from_reader(alloc, Parts::new(bytes, ends, NEVER));
     expect_copied(alloc, answer, bytes)
@@ -221,7 +221,7 @@ fn long_texts_are_read_in_few_chunks(rt: HostRuntime) -> Result<(), Failure> {
     expect_all_copied(rt.alloc(), text.as_str().as_bytes())
 }
 
-/// Fails unless a rope of two lines was read whose line breaks are the LF alone.
+/// Fails unless a rope of two lines was read, with LF alone as line breaks.
 fn expect_lf_lines(answer: Result<Rope, ReadError>) -> Result<(), Failure> {
     let rope = answer?;
     same!(rope.len_lines(), 2);
@@ -249,7 +249,7 @@ fn expect_shown(alloc: Global, error: ReadError, text: &str) -> Result<(), Failu
     Ok(())
 }
 
-/// Fails unless it is displayed and printed for debugging so.
+/// Fails unless it is displayed and printed for debugging as this text.
 fn expect_shown_twice(alloc: Global, error: ReadError, text: &str) -> Result<(), Failure> {
     let shown = format!(in alloc; "{error} {error:?}")?;
     same!(shown.as_str(), text);

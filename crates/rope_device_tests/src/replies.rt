@@ -1,11 +1,11 @@
-//! A run, told by its replies.
+//! The replies of a run.
 use rope_plain::failure::Failure;
 use rope_plain::{holds, same};
 use rope_script::{Command, Query, Reply, Session};
 use ropey::Error;
 use std::alloc::Global;
 
-/// Two commands, and then a third.
+/// Runs two commands, and then a third.
 fn run_three(alloc: Global, session: &mut Session, replies: &mut Vec<Reply>) -> Result<(), Error> {
     let commands = [
         Command::Text(String::new(alloc)),
@@ -32,7 +32,7 @@ fn replies_are_added(rt: HostRuntime) -> Result<(), Failure> {
     expect_added(&replies)
 }
 
-/// A rope of so many letters, each put in at the front.
+/// Makes a rope of a number of letters, each inserted at the front.
 fn type_letters(
     session: &mut Session,
     replies: &mut Vec<Reply>,
@@ -54,7 +54,7 @@ fn shrink_and_ask(session: &mut Session, replies: &mut Vec<Reply>) -> Result<(),
     session.run(&commands, replies)
 }
 
-/// Fails unless the rope was re-chunked, has 5,000 letters, and they lie in six chunks.
+/// Fails unless the rope was re-chunked, and has 5,000 letters in six chunks.
 fn expect_few(replies: &[Reply]) -> Result<(), Failure> {
     holds!(matches!(replies.get(0), Some(Reply::Done)));
     holds!(matches!(replies.get(1), Some(Reply::Lens(5000, 5000, 1, 5000))));

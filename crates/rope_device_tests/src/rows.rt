@@ -1,4 +1,4 @@
-//! Worked rows: talks, each of lines and the replies to them.
+//! Worked rows: dialogues, each of lines and their replies.
 use crate::served::expect;
 use rope_plain::failure::Failure;
 
@@ -204,7 +204,7 @@ fn every_query_is_replied(rt: HostRuntime) -> Result<(), Failure> {
     expect(rt.alloc(), &QUERIES)
 }
 
-/// Lines with two numbers of one form, each with a reply that tells which is which.
+/// Lines with two numbers of one form, each with a reply that distinguishes them.
 const WORDS_IN_ORDER: [(&str, &str); 24] = [
     ("text abcd", "rope 0"),
     ("text xy", "rope 1"),

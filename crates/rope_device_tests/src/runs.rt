@@ -1,4 +1,4 @@
-//! Runs of several commands at once: with ample memory none gives up.
+//! Runs of several commands: with ample memory none fails.
 use rope_plain::failure::{Failure, within};
 use rope_plain::{holds, same};
 use rope_script::{At, Command, Conv, Move, Query, Reply, Session, Unit};
@@ -6,7 +6,7 @@ use ropey::{Error, LineBreaks};
 use std::alloc::{AllocError, Global};
 use std::cmp::Ordering;
 
-/// So many commands, each of which makes a rope.
+/// Returns `count` commands, each of which makes a rope.
 fn makers(alloc: Global, count: usize) -> Result<Vec<Command>, AllocError> {
     let mut commands = Vec::new(alloc);
     for _ in 0..count {
@@ -24,7 +24,7 @@ fn expect_numbers(replies: &[Reply], first: usize) -> Result<(), Failure> {
     Ok(())
 }
 
-/// Fails unless a run of `count` commands, and then another on the same session, do all of them.
+/// Fails unless a run of `count` commands, and then another on the same session, run all of them.
 fn expect_run_of(alloc: Global, count: usize) -> Result<(), Failure> {
     let commands = makers(alloc, count)?;
     let mut session = Session::new(alloc);
@@ -47,7 +47,7 @@ fn a_run_of_any_length_is_done(rt: HostRuntime) -> Result<(), Failure> {
     within("1000 commands", expect_run_of(rt.alloc(), 1000))
 }
 
-/// A run of each command that changes the ropes.
+/// Runs each command that changes the ropes.
 fn run_edits(alloc: Global, session: &mut Session, replies: &mut Vec<Reply>) -> Result<(), Error> {
     let commands = [
         Command::New,
@@ -82,7 +82,7 @@ fn expect_edits(replies: &[Reply]) -> Result<(), Failure> {
     Ok(())
 }
 
-/// A run of each query, of the rope "xzé\ncd" and of others.
+/// Runs each query, of the rope "xzé\ncd" and of others.
 fn run_queries(
     session: &mut Session,
     moves: Vec<Move>,
@@ -106,7 +106,7 @@ fn run_queries(
     session.run(&commands, replies)
 }
 
-/// Fails unless the first replies are those of the ropes that the edits left.
+/// Fails unless the first replies are those of the ropes after the edits.
 fn expect_lens_and_texts(replies: &[Reply]) -> Result<(), Failure> {
     holds!(matches!(replies.get(0), Some(Reply::Lens(7, 6, 2, 6))));
     holds!(matches!(replies.get(1), Some(Reply::Text(text)) if text.as_str() == "b\nc"));
@@ -129,7 +129,7 @@ fn expect_items(replies: &[Reply]) -> Result<(), Failure> {
     Ok(())
 }
 
-/// Fails unless one run does each command, and the next answers each query.
+/// Fails unless one run runs each command, and the next replies to each query.
 fn expect_each(alloc: Global, moves: Vec<Move>) -> Result<(), Failure> {
     let mut session = Session::new(alloc);
     let mut replies = Vec::new(alloc);

@@ -1,5 +1,4 @@
-//! Texts whose long characters and breaks lie where a leaf is cut, read and written by one byte at
-//! a time.
+//! Texts with long characters and breaks at the cut of a leaf, read and written one byte at a time.
 use crate::devices::{NEVER, Narrow, Parts, SINGLY};
 use crate::stumbles::read_kind;
 use rope_plain::compare::{compare_unicode, expect_few_chunks};
@@ -14,7 +13,7 @@ use std::io::ErrorKind;
 /// Line breaks of two and three bytes, and characters of two to four.
 const LETTERS: [&str; 7] = ["\r\n", "\u{85}", "\u{2028}", "\u{2029}", "é", "こ", "🐸"];
 
-/// So many letters before a letter twice, and letters that fill a leaf.
+/// Returns a number of letters before a letter twice, and letters that fill a leaf.
 fn around(alloc: Global, before: usize, letter: &str) -> Result<String, AllocError> {
     let front = repeated(alloc, "a", before)?;
     let back = repeated(alloc, "b", 984)?;
@@ -28,7 +27,7 @@ fn expect_text_in_few_chunks(alloc: Global, rope: &Rope, text: &str) -> Result<(
     expect_few_chunks(rope)
 }
 
-/// Fails unless a reading of the first bytes ends as it has to at their end.
+/// Fails unless a read of the first bytes ends as it must.
 fn ends_well(alloc: Global, text: &str, len: usize) -> Result<(), Failure> {
     let (front, _) = text.as_bytes().split_at(len.min(text.len()));
     match Rope::from_reader(alloc, Parts::new(front, SINGLY, NEVER)) {
@@ -45,15 +44,15 @@ fn ends_well(alloc: Global, text: &str, len: usize) -> Result<(), Failure> {
     }
 }
 
-/// Fails unless a reading that fails behind the first bytes answers the failure.
+/// Fails unless a read that fails after the first bytes returns the failure.
 fn expect_failed(alloc: Global, text: &str, len: usize) -> Result<(), Failure> {
     let failed = Rope::from_reader(alloc, Parts::new(text.as_bytes(), SINGLY, len));
     same!(read_kind(failed), Some(ErrorKind::Interrupted));
     Ok(())
 }
 
-/// Fails unless a writer that keeps one byte a write has the first bytes, and the writing fails
-/// only where it has no room.
+/// Fails unless a writer that keeps one byte a write has the first bytes, and the write fails only
+/// if there is no room.
 fn expect_written(rt: &HostRuntime, rope: &Rope, text: &str, room: usize) -> Result<(), Failure> {
     let mut writer = Narrow::new(rt, 1, room);
     let written = rope.write_to(&mut writer);
@@ -63,7 +62,7 @@ fn expect_written(rt: &HostRuntime, rope: &Rope, text: &str, room: usize) -> Res
     Ok(())
 }
 
-/// Fails unless reading and writing stop well at each of the bytes from one on.
+/// Fails unless reads and writes stop correctly at each of the bytes from one on.
 fn stops_well(rt: &HostRuntime, rope: &Rope, text: &str, before: usize) -> Result<(), Failure> {
     for more in 0..10usize {
         let len = before.saturating_add(more);
@@ -80,8 +79,7 @@ fn stops_well(rt: &HostRuntime, rope: &Rope, text: &str, before: usize) -> Resul
     expect_written(rt, rope, text, text.len())
 }
 
-/// Fails unless what was read by one byte a read is a whole text, and reading and writing it stop
-/// well.
+/// Fails unless a text read one byte a read is complete, and reading and writing it stop correctly.
 fn expect_whole(
     rt: &HostRuntime,
     answer: Result<Rope, ReadError>,
@@ -93,7 +91,7 @@ fn expect_whole(
     stops_well(rt, &rope, text, before)
 }
 
-/// Fails unless a text is read and written well whose letter stands behind so many.
+/// Fails unless a text with a letter after `before` others is read and written correctly.
 fn expect_moved(rt: &HostRuntime, before: usize, letter: &str) -> Result<(), Failure> {
     let text = around(rt.alloc(), before, letter)?;
     let parts = Parts::new(text.as_str().as_bytes(), SINGLY, NEVER);
@@ -101,7 +99,7 @@ fn expect_moved(rt: &HostRuntime, before: usize, letter: &str) -> Result<(), Fai
     expect_whole(rt, answer, text.as_str(), before)
 }
 
-/// Fails unless it is wherever the letter stands near the end of a leaf.
+/// Fails unless it is, for each position of the letter near the end of a leaf.
 fn expect_moved_near_a_seam(rt: &HostRuntime, letter: &str) -> Result<(), Failure> {
     for before in 976..=986usize {
         within(

@@ -1,12 +1,12 @@
-//! Lines that are served, and what has to be written for them.
+//! Lines that are served, and their expected output.
 use crate::talks::{Dripping, Narrow};
 use rope_language::{Ended, serve};
 use rope_plain::failure::Failure;
 use rope_plain::same;
 use std::alloc::{AllocError, Global};
 
-/// Fails unless the run over an input that comes by so many bytes ends so, and this was written and
-/// flushed.
+/// Fails unless the run over an input in reads of a number of bytes has this outcome, and this was
+/// written and flushed.
 pub fn expect_served(
     alloc: Global,
     input: &[u8],
@@ -31,7 +31,7 @@ fn add_line(text: &mut String, line: &str) -> Result<(), AllocError> {
     Ok(())
 }
 
-/// Adds the lines of a talk to its input, and the replies to its output.
+/// Adds the lines of a dialogue to its input, and the replies to its output.
 fn add_talk(
     input: &mut String,
     output: &mut String,
@@ -44,7 +44,7 @@ fn add_talk(
     Ok(())
 }
 
-/// Fails unless the lines of a talk, which are all of the language, have these replies.
+/// Fails unless the lines of a dialogue, all of them valid, have these replies.
 pub fn expect(alloc: Global, talk: &[(&str, &str)]) -> Result<(), Failure> {
     let mut input = String::new(alloc);
     let mut output = String::new(alloc);

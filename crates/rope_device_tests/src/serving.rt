@@ -1,4 +1,4 @@
-//! Lines that come in parts, devices that fail, and how a run ends.
+//! Lines that come in several reads, devices that fail, and outcomes of runs.
 use crate::served::expect_served;
 use crate::talks::{Asking, Dripping, Halting, Narrow, Stumbling, Telling};
 use rope_language::{Ended, serve};
@@ -8,7 +8,7 @@ use rope_plain::{holds, same};
 use std::alloc::{AllocError, Global};
 use std::cell::Cell;
 
-/// Inputs, how the runs over them end, and what is written.
+/// Inputs, the outcomes of the runs over them, and the output.
 const ENDS: [(&[u8], Ended, &str); 18] = [
     (b"", Ended::Done, ""),
     (b"\n", Ended::BadLine(1), ""),
@@ -67,7 +67,7 @@ const ENDS: [(&[u8], Ended, &str); 18] = [
     ),
 ];
 
-/// Fails unless the run over the input of a row ends as told, byte by byte and at once.
+/// Fails unless the run over the input of a row has its outcome, byte by byte and at once.
 fn expect_row(alloc: Global, row: &(&[u8], Ended, &str)) -> Result<(), Failure> {
     let (input, ended, output) = row;
     expect_served(alloc, input, 1, *ended, output)?;
@@ -82,7 +82,7 @@ fn a_run_ends_as_its_input_does(rt: HostRuntime) -> Result<(), Failure> {
     Ok(())
 }
 
-/// Fails unless the run over an input ends well, with these replies.
+/// Fails unless the run over an input succeeds, with these replies.
 fn ends_with(
     alloc: Global,
     input: Result<String, AllocError>,
@@ -100,13 +100,13 @@ fn ends_with(
     }
 }
 
-/// Good lines, and then one that is bad.
+/// Returns good lines, and then a bad one.
 fn bad_after(alloc: Global, count: usize) -> Result<String, AllocError> {
     let good = repeated(alloc, "len 0\n", count)?;
     format!(in alloc; "{}frob\nlen 0\n", good.as_str())
 }
 
-/// Fails unless a bad line after `count` good ones is reported by its number, counted from 1.
+/// Fails unless a bad line after `count` good ones is reported by its number, from 1.
 fn expect_bad_after(alloc: Global, count: u16) -> Result<(), Failure> {
     let input = bad_after(alloc, usize::from(count))?;
     let replies = repeated(alloc, "no rope\n", usize::from(count))?;
@@ -131,16 +131,16 @@ fn a_bad_line_is_reported_by_its_number(rt: HostRuntime) -> Result<(), Failure> 
     Ok(())
 }
 
-/// A text that is joined to itself until it may not grow.
+/// Returns a text that is joined to itself until it may not grow.
 fn doublings(alloc: Global) -> Result<String, AllocError> {
     let joins = repeated(alloc, "join 0 0\n", 62)?;
     format!(in alloc; "text a\n{}len 0\njoin 0 0\nlen 0\n", joins.as_str())
 }
 
-/// The lengths of the text that it is then.
+/// The lengths of the resulting text.
 const LONGEST: &str = "4611686018427387904 4611686018427387904 1 4611686018427387904\n";
 
-/// The replies.
+/// Returns the replies.
 fn replies_to_doublings(alloc: Global) -> Result<String, AllocError> {
     let joined = repeated(alloc, "ok\n", 62)?;
     let refused = "error: Text would be longer than isize::MAX bytes\n";
@@ -154,8 +154,8 @@ fn the_longest_text_is_served(rt: HostRuntime) -> Result<(), Failure> {
     ends_with(rt.alloc(), input, replies)
 }
 
-/// Fails unless a run ends at the reader's failure, and the replies to the two whole lines before
-/// it are flushed.
+/// Fails unless a run ends at the reader's failure, with the replies to the two complete lines
+/// before it flushed.
 fn expect_stopped_by_its_reader(alloc: Global) -> Result<(), Failure> {
     let mut reader = Dripping {
         rest: b"text \nlen 0\nlen 0",
@@ -173,7 +173,7 @@ fn a_failed_read_ends_the_run_behind_its_replies(rt: HostRuntime) -> Result<(), 
     expect_stopped_by_its_reader(rt.alloc())
 }
 
-/// Fails unless a run fails at such a writer, which has kept these bytes then.
+/// Fails unless a run fails at such a writer, which then has these bytes.
 fn expect_stopped_by(
     alloc: Global,
     input: &[u8],
@@ -187,7 +187,7 @@ fn expect_stopped_by(
     Ok(())
 }
 
-/// Fails unless a run fails that has room for three bytes, and one whose writer can't be flushed.
+/// Fails unless a run with room for three bytes fails, and one whose writer can't be flushed.
 fn expect_stopped(alloc: Global, input: &[u8]) -> Result<(), Failure> {
     let mut blocked = Narrow::new(alloc, 1000);
     blocked.fails_to_flush = true;
@@ -201,20 +201,21 @@ fn a_failed_write_ends_the_run(rt: HostRuntime) -> Result<(), Failure> {
     expect_stopped(rt.alloc(), b"text \nfrob\n")
 }
 
-/// A line of 5,000 digits.
+/// Returns a line of 5,000 digits.
 fn long_line(alloc: Global) -> Result<String, AllocError> {
     let digits = repeated(alloc, "0", 5000)?;
     format!(in alloc; "len {}\n", digits.as_str())
 }
 
-/// Three of them, and 2,000 short ones.
+/// Returns three of them, and 2,000 short ones.
 fn long_lines(alloc: Global) -> Result<String, AllocError> {
     let line = long_line(alloc)?;
     let short = repeated(alloc, "len 1\n", 2000)?;
     format!(in alloc; "{line}{line}{line}{short}")
 }
 
-/// How the run over an input ends whose replies have so much room, and how much was written.
+/// Returns the outcome of the run over an input with `room` bytes for replies, and the number of
+/// bytes written.
 fn written(alloc: Global, input: &[u8], room: usize) -> (Ended, usize) {
     let mut reader = input;
     let mut writer = Narrow::new(alloc, room);
@@ -222,8 +223,8 @@ fn written(alloc: Global, input: &[u8], room: usize) -> (Ended, usize) {
     (ended, writer.kept.len())
 }
 
-/// Fails unless long lines are answered where there is room for all replies, and the run fails
-/// where there is not.
+/// Fails unless long lines have replies if there is room for all, and the run fails if there is
+/// not.
 fn expect_all_served(alloc: Global, input: &[u8]) -> Result<(), Failure> {
     let (ended, _) = written(alloc, input, 9000);
     same!(written(alloc, input, 20000), (Ended::Done, 2003 * 8));
@@ -237,13 +238,13 @@ fn long_lines_and_replies_are_served(rt: HostRuntime) -> Result<(), Failure> {
     expect_all_served(rt.alloc(), input.as_str().as_bytes())
 }
 
-/// A text of 9,000 letters that is shown.
+/// Returns a text of 9,000 letters that is shown.
 fn shown(alloc: Global) -> Result<String, AllocError> {
     let letters = repeated(alloc, "a", 9000)?;
     format!(in alloc; "text {}\nshow 0\nlen 0\n", letters.as_str())
 }
 
-/// The replies.
+/// Returns the replies.
 fn replies_to_shown(alloc: Global) -> Result<String, AllocError> {
     let letters = repeated(alloc, "a", 9000)?;
     format!(in alloc; "rope 0\n\"{}\"\n9000 9000 1 9000\n", letters.as_str())
@@ -258,7 +259,7 @@ fn a_reply_longer_than_what_is_gathered_is_written(rt: HostRuntime) -> Result<()
 
 const LONG: &str = "text a\nlen 0\n";
 
-/// Parts of inputs, one a read, and how many replies had been flushed at each read.
+/// Inputs, one piece a read, and the number of replies flushed at each read.
 const SEEN: [(&[&str], &[usize]); 6] = [
     (&["text a\n", "len 0\n", "show 0\n"], &[0, 1, 2, 3]),
     (&["new\n", "b2c 0 0\n", "fit 0\n"], &[0, 1, 2, 3]),
@@ -291,8 +292,8 @@ fn replies_come_before_the_next_read(rt: HostRuntime) -> Result<(), Failure> {
     Ok(())
 }
 
-/// Fails unless a run ends at the read that fails once, with these replies flushed, and asks no
-/// more.
+/// Fails unless a run ends at the read that fails once, with these replies flushed, and doesn't
+/// read again.
 fn expect_stopped_once(alloc: Global, fails_at: usize, replies: &[u8]) -> Result<(), Failure> {
     let parts = ["text a\n", "len 0\nsh", "ow 0\n"];
     let mut reader = Stumbling::new(&parts, fails_at);
@@ -311,8 +312,8 @@ fn a_read_that_fails_once_ends_the_run(rt: HostRuntime) -> Result<(), Failure> {
     expect_stopped_once(rt.alloc(), 3, b"rope 0\n1 1 1 1\n\"a\"\n")
 }
 
-/// Fails unless the run over three lines, of which the last is bad, ends so, and the writer that
-/// stumbles has kept this.
+/// Fails unless the run over three lines, the last of them bad, has this outcome, and the writer
+/// that fails once has this.
 fn expect_halted(
     alloc: Global,
     device: Halting,
@@ -326,7 +327,7 @@ fn expect_halted(
     Ok(())
 }
 
-/// Fails unless a write that takes none after so many bytes ends the run, and one that is
+/// Fails unless a write that takes none after a number of bytes ends the run, and one that is
 /// interrupted is tried again, as the standard library's `write_all` does.
 fn stumbles(alloc: Global, room: usize) -> Result<(), Failure> {
     let replies = b"rope 0\n1 1 1 1\n".as_slice();

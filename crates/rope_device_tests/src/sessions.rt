@@ -12,15 +12,15 @@ use rope_script::{Command, Query, Reply, Session};
 use ropey::{Error, MAX_BYTES};
 use std::alloc::Global;
 
-/// How many sessions there are, and how many commands each has.
+/// The numbers of sessions, and of commands of each.
 const SESSIONS: u64 = 500;
 
 const COMMANDS: usize = 60;
 
-/// How many bytes each chunk but the last has at least in a rope that is re-chunked.
+/// The minimum number of bytes of each chunk but the last in a re-chunked rope.
 const FRESH_BYTES: usize = 981;
 
-/// Fails unless a chunk is neither empty nor too long, and these characters.
+/// Fails unless a chunk is neither empty nor too long, and has these characters.
 fn expect_chunk(chunk: &str, chars: Option<&[char]>) -> Result<(), Failure> {
     let chars = some!(chars);
     holds!(!chunk.is_empty());
@@ -28,7 +28,7 @@ fn expect_chunk(chunk: &str, chars: Option<&[char]>) -> Result<(), Failure> {
     expect_chars(chunk, chars)
 }
 
-/// Whether a place lies between a CR and its LF.
+/// Returns whether an index is between a CR and its LF.
 fn parts_a_pair(text: &[char], place: usize) -> bool {
     match place.checked_sub(1) {
         Some(before) => text.get(before) == Some(&'\r') && text.get(place) == Some(&'\n'),
@@ -36,7 +36,7 @@ fn parts_a_pair(text: &[char], place: usize) -> bool {
     }
 }
 
-/// Adds where each chunk ends, and says whether the chunks are the text, and none ends in a CR
+/// Adds the end of each chunk, and fails unless the chunks are the text, and none ends in a CR
 /// whose LF begins the next.
 fn add_ends(ends: &mut Vec<usize>, chunks: &[String], text: &[char]) -> Result<(), Failure> {
     let mut place: usize = 0;
@@ -85,7 +85,7 @@ fn expect_left(
     Ok(())
 }
 
-/// The texts of the one reply.
+/// Returns the texts of the single reply.
 fn texts_of(replies: &[Reply]) -> Option<&[String]> {
     match replies.first() {
         Some(Reply::Texts(texts)) if replies.len() == 1 => Some(texts),
@@ -93,12 +93,12 @@ fn texts_of(replies: &[Reply]) -> Option<&[String]> {
     }
 }
 
-/// Asks for the chunks of a rope.
+/// Queries the chunks of a rope.
 fn ask_chunks(session: &mut Session, number: usize, replies: &mut Vec<Reply>) -> Result<(), Error> {
     session.run(&[Command::Ask(number, None, Query::Chunks)], replies)
 }
 
-/// Fails unless a rope of the session is as a command with this effect has to leave it.
+/// Fails unless a rope of the session is right after a command with this effect.
 fn expect_rope_left(
     alloc: Global,
     session: &mut Session,
@@ -129,7 +129,7 @@ fn expect_all_left(
     Ok(())
 }
 
-/// Fails unless a query of a rope or of a range of it may be replied so.
+/// Fails unless a query of a rope or of a range of it may have this reply.
 fn expect_answer(
     alloc: Global,
     ropes: &[PlainRope],
@@ -150,7 +150,7 @@ fn expect_answer(
     }
 }
 
-/// Fails unless a command may be replied so, and leaves the ropes as it has to.
+/// Fails unless a command may have this reply, and leaves the ropes right.
 fn expect_right(
     alloc: Global,
     session: &mut Session,
@@ -167,7 +167,7 @@ fn expect_right(
     expect_all_left(alloc, session, ropes, effect)
 }
 
-/// Fails unless a command has its one reply, and leaves the ropes as it has to.
+/// Fails unless a command has its single reply, and leaves the ropes right.
 fn expect_run(
     alloc: Global,
     session: &mut Session,
@@ -209,7 +209,7 @@ fn run_many(
     Ok(())
 }
 
-/// Fails unless a session of random commands, which begin at a number, is as the plain ropes say.
+/// Fails unless a session of random commands, determined by a start, agrees with the plain ropes.
 fn expect_session(alloc: Global, start: u64) -> Result<(), Failure> {
     let seed = start.wrapping_mul(0x9E37_79B9_7F4A_7C15);
     let mut numbers = Numbers::new(seed);

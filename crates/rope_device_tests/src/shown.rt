@@ -1,9 +1,9 @@
-//! Commands and replies, as a failing test tells them.
+//! Commands and replies, as a failed test prints them.
 use rope_plain::failure::Failure;
 use rope_script::{Command, Query, Reply};
 use std::fmt::{self, Debug, Display, Formatter, Write};
 
-/// A command, told by its word and its numbers.
+/// A command, printed by its word and its numbers.
 #[derive(Drop)]
 pub struct Shown<'a>(pub &'a Command);
 
@@ -15,7 +15,7 @@ impl Display for Shown<'_> {
     }
 }
 
-/// The numbers of a command: its rope, and the indices or the other rope that it names.
+/// Returns the numbers of a command: its rope, and its indices or other rope.
 fn numbers_of(command: &Command) -> [Option<usize>; 3] {
     match command {
         Command::New | Command::Text(_) | Command::TextWith(_, _) => [None; 3],
@@ -30,7 +30,7 @@ fn numbers_of(command: &Command) -> [Option<usize>; 3] {
     }
 }
 
-/// A rope's number, and the range of it, where there is one.
+/// Returns a rope's number, and the range of it, if there is one.
 fn with_range(rope: usize, range: Option<(usize, usize)>) -> [Option<usize>; 3] {
     match range {
         Some((start, end)) => [Some(rope), Some(start), Some(end)],
@@ -38,7 +38,7 @@ fn with_range(rope: usize, range: Option<(usize, usize)>) -> [Option<usize>; 3] 
     }
 }
 
-/// What a command does.
+/// Returns the word of a command.
 fn word_of(command: &Command) -> &'static str {
     match command {
         Command::New => "new",
@@ -56,7 +56,7 @@ fn word_of(command: &Command) -> &'static str {
     }
 }
 
-/// What a query asks.
+/// Returns the word of a query.
 fn word_of_query(query: &Query) -> &'static str {
     match query {
         Query::Lens => "lens",
@@ -75,7 +75,7 @@ fn word_of_query(query: &Query) -> &'static str {
     }
 }
 
-/// What a reply is.
+/// Returns the word of a reply.
 fn word_of_reply(reply: &Reply) -> &'static str {
     match reply {
         Reply::Done => "done",
@@ -98,7 +98,8 @@ fn word_of_reply(reply: &Reply) -> &'static str {
     }
 }
 
-/// A reply of another kind than this one, which was wanted; of a refusal its reason.
+/// Returns the failure of a reply of another kind than the expected one; for an error with its
+/// reason.
 pub fn other_reply<D: Debug>(wanted: &D, reply: &Reply) -> Failure {
     if let Reply::Refused(error) = reply {
         return Failure::new(format_args!("refused by {error:?}, not {wanted:?}"));

@@ -1,4 +1,5 @@
-//! Devices that fail once, or move no byte once, and would then go on: they are not asked again.
+//! Devices that fail once, or move no byte once, and would then continue: they are not called
+//! again.
 use crate::devices::{Halting, Stumble, Stumbling};
 use rope_plain::failure::{Failure, within};
 use rope_plain::texts::repeated;
@@ -9,7 +10,7 @@ use std::alloc::Global;
 use std::cell::Cell;
 use std::io::{self, ErrorKind};
 
-/// Failures after which a device may go on.
+/// Failures after which a device may continue.
 const KINDS: [ErrorKind; 4] = [
     ErrorKind::Interrupted,
     ErrorKind::WouldBlock,
@@ -20,7 +21,7 @@ const KINDS: [ErrorKind; 4] = [
 /// Characters of one to four bytes, and a pair, in 12 bytes.
 const TEXT: &str = "aé\r\nこ🐸";
 
-/// The kind of the error of a reading, where the reader's is answered.
+/// Returns the kind of the error of a read, if it is the reader's.
 pub fn read_kind(answer: Result<Rope, ReadError>) -> Option<ErrorKind> {
     match answer {
         Err(ReadError::Read(error)) => Some(error.kind()),
@@ -28,7 +29,7 @@ pub fn read_kind(answer: Result<Rope, ReadError>) -> Option<ErrorKind> {
     }
 }
 
-/// The kind of the error of a writing, if it was refused.
+/// Returns the kind of the error of a write, if it failed.
 pub fn write_kind(written: io::Result<()>) -> Option<ErrorKind> {
     match written {
         Ok(()) => None,
@@ -36,7 +37,7 @@ pub fn write_kind(written: io::Result<()>) -> Option<ErrorKind> {
     }
 }
 
-/// Fails unless a reading answers the one failure after so many bytes, and asks no more.
+/// Fails unless a read returns the single failure after a number of bytes, and doesn't read again.
 fn expect_failed(alloc: Global, before: usize, kind: ErrorKind) -> Result<(), Failure> {
     let calls = Cell::new(0usize);
     let reader = Stumbling::new(TEXT.as_bytes(), before, Stumble::Fails(kind), &calls);
@@ -46,7 +47,7 @@ fn expect_failed(alloc: Global, before: usize, kind: ErrorKind) -> Result<(), Fa
     Ok(())
 }
 
-/// Fails unless a reading that marks its device does the same, and sets the mark.
+/// Fails unless a read from a watched device does so too, and sets the mark.
 fn expect_marked(alloc: Global, before: usize, kind: ErrorKind) -> Result<(), Failure> {
     let calls = Cell::new(0usize);
     let reader = Stumbling::new(TEXT.as_bytes(), before, Stumble::Fails(kind), &calls);
@@ -92,7 +93,7 @@ fn expect_front(alloc: Global, rope: &Rope, len: usize) -> Result<(), Failure> {
     Ok(())
 }
 
-/// Fails unless a reading answers the text up to an end after so many bytes, or that it is none.
+/// Fails unless a read returns the text up to an end after a number of bytes, or `InvalidData`.
 fn ends_well(alloc: Global, answer: Result<Rope, ReadError>, len: usize) -> Result<(), Failure> {
     let is_start = [0usize, 1, 3, 4, 5, 8, 12].contains(&len);
     match answer {
@@ -108,8 +109,8 @@ fn ends_well(alloc: Global, answer: Result<Rope, ReadError>, len: usize) -> Resu
     }
 }
 
-/// Fails unless a reading ends well at the one end that is given after so many bytes, and asks no
-/// more.
+/// Fails unless a read ends correctly at the single end after a number of bytes, and doesn't read
+/// again.
 fn expect_ended(alloc: Global, before: usize) -> Result<(), Failure> {
     let calls = Cell::new(0usize);
     let reader = Stumbling::new(TEXT.as_bytes(), before, Stumble::MovesNone, &calls);
@@ -129,7 +130,7 @@ fn an_end_is_given_once(rt: HostRuntime) -> Result<(), Failure> {
     Ok(())
 }
 
-/// What a writing is refused with at such a stumble.
+/// Returns the error kind of a write at such a failure.
 fn kind_of(stumble: Stumble) -> ErrorKind {
     match stumble {
         Stumble::Fails(kind) => kind,
@@ -137,8 +138,8 @@ fn kind_of(stumble: Stumble) -> ErrorKind {
     }
 }
 
-/// Fails unless a writing stops at the one stumble after so many bytes, with these kept, and asks
-/// no more.
+/// Fails unless a write stops at the single failure after a number of bytes, with these kept, and
+/// doesn't write again.
 fn expect_halted(alloc: Global, rope: &Rope, room: usize, stumble: Stumble) -> Result<(), Failure> {
     let calls = Cell::new(0usize);
     let mut writer = Halting::new(alloc, 1, room, stumble, &calls);
@@ -150,7 +151,7 @@ fn expect_halted(alloc: Global, rope: &Rope, room: usize, stumble: Stumble) -> R
     Ok(())
 }
 
-/// Fails unless a writing that marks its device does the same, and sets the mark.
+/// Fails unless a write to a watched device does so too, and sets the mark.
 fn expect_halted_and_marked(
     alloc: Global,
     rope: &Rope,
@@ -205,8 +206,8 @@ fn a_write_takes_none_once(rt: HostRuntime) -> Result<(), Failure> {
     halts_at_each_byte(rt.alloc(), &rope, Stumble::MovesNone)
 }
 
-/// Fails unless a writing of whole chunks stops at the one stumble after so many bytes, with these
-/// kept.
+/// Fails unless a write of complete chunks stops at the single failure after a number of bytes,
+/// with these kept.
 fn expect_halted_within(
     alloc: Global,
     rope: &Rope,

@@ -1,10 +1,10 @@
-//! Readers that give a few bytes at once, writers with little room, and both ends of a talk.
+//! Readers that give a few bytes at once, writers with little room, and both ends of a dialogue.
 use rope_plain::failure::{Failure, expect_same, within};
 use std::alloc::Global;
 use std::cell::Cell;
 use std::io::{self, ErrorKind, Read, Write};
 
-/// Gives a few bytes a read. At their end it fails, or gives the end.
+/// Gives a few bytes a read. At their end it fails, or returns the end.
 #[derive(Drop)]
 pub struct Dripping<'a> {
     pub rest: &'a [u8],
@@ -25,7 +25,7 @@ impl Read for Dripping<'_> {
     }
 }
 
-/// Fails at the first line of what was written that is not the line wanted, and counts it from 1.
+/// Fails at the first line that is not the expected one, with its number, from 1.
 fn expect_same_lines(found: &str, wanted: &str) -> Result<(), Failure> {
     let mut lines = found.split('\n');
     let mut number: usize = 0;
@@ -42,7 +42,7 @@ fn expect_same_lines(found: &str, wanted: &str) -> Result<(), Failure> {
     )
 }
 
-/// Fails unless the bytes that were written are a text.
+/// Fails unless the bytes written are a text.
 fn expect_same_text(written: &[u8], text: &str) -> Result<(), Failure> {
     let Ok(found) = str::from_utf8(written) else {
         return Err(Failure::new("no UTF-8 was written"));
@@ -50,7 +50,7 @@ fn expect_same_text(written: &[u8], text: &str) -> Result<(), Failure> {
     expect_same_lines(found, text)
 }
 
-/// Keeps so many bytes, and then fails. Its flush may fail too.
+/// Keeps a number of bytes, and then fails. Its flush may fail too.
 #[derive(Drop)]
 pub struct Narrow {
     pub kept: Vec<u8>,
@@ -100,7 +100,7 @@ impl Write for Narrow {
     }
 }
 
-/// Gives one part a read, and notes at each read how many replies had been flushed by then.
+/// Gives one piece a read, and notes at each read the number of replies flushed by then.
 #[derive(Drop)]
 pub struct Asking<'a> {
     parts: &'a [&'a str],
@@ -110,7 +110,7 @@ pub struct Asking<'a> {
 }
 
 impl<'a> Asking<'a> {
-    /// Each part has at most as many bytes as are read at once.
+    /// Returns a reader of pieces, each with at most as many bytes as a read.
     pub fn new(alloc: Global, parts: &'a [&'a str], flushed: &'a Cell<usize>) -> Asking<'a> {
         Asking {
             parts,
@@ -136,7 +136,7 @@ impl Read for Asking<'_> {
     }
 }
 
-/// Counts the replies that were written, and says them where it is flushed.
+/// Counts the replies written, and publishes their number when it is flushed.
 #[derive(Drop)]
 pub struct Telling<'a> {
     written: usize,
@@ -165,8 +165,8 @@ impl Write for Telling<'_> {
     }
 }
 
-/// Gives one part a read. Once so many were given one read is interrupted, and the next would go
-/// on. It counts its reads.
+/// Gives one piece a read. After a number of pieces one read is interrupted, and the next would
+/// continue. It counts its reads.
 #[derive(Drop)]
 pub struct Stumbling<'a> {
     parts: &'a [&'a str],
@@ -177,7 +177,7 @@ pub struct Stumbling<'a> {
 }
 
 impl<'a> Stumbling<'a> {
-    /// Each part has at most as many bytes as are read at once.
+    /// Returns a reader of pieces, each with at most as many bytes as a read.
     pub fn new(parts: &'a [&'a str], fails_at: usize) -> Stumbling<'a> {
         Stumbling {
             parts,
@@ -208,8 +208,8 @@ impl Read for Stumbling<'_> {
     }
 }
 
-/// Keeps one byte a write. Once so many were kept one write is interrupted, or takes none, and the
-/// next would go on.
+/// Keeps one byte a write. After a number of bytes one write is interrupted, or takes none, and the
+/// next would continue.
 #[derive(Drop)]
 pub struct Halting {
     pub kept: Vec<u8>,
@@ -219,7 +219,7 @@ pub struct Halting {
 }
 
 impl Halting {
-    /// It is interrupted once, or else takes none once.
+    /// Returns a writer that is interrupted once, or else takes none once.
     pub fn new(alloc: Global, room: usize, takes_none: bool) -> Halting {
         Halting {
             kept: Vec::new(alloc),

@@ -1,8 +1,8 @@
-//! Walks over so many items, as a place and a direction.
+//! Walks over a number of items, as an index and a direction.
 use rope_plain::plain_cursor::PlainCursor;
 use rope_script::Move;
 
-/// Which item a move gives, or that it gives none; nothing where it turns round.
+/// Returns the item that a move gives, or that it gives none; `None` for a reversal.
 pub fn moved(cursor: &mut PlainCursor, step: &Move) -> Option<Option<usize>> {
     match step {
         Move::Next => Some(cursor.next()),

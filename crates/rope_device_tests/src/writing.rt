@@ -9,7 +9,7 @@ use ropey::io::{Mark, Watched};
 use std::alloc::Global;
 use std::io::ErrorKind;
 
-/// Fails unless a writing is refused with this kind, or with none, and leaves these bytes.
+/// Fails unless a write has an error of this kind, or none, and leaves these bytes.
 fn expect_written(
     rope: &Rope,
     device: Narrow,
@@ -22,8 +22,7 @@ fn expect_written(
     Ok(())
 }
 
-/// Fails unless a writing that marks its device does the same, and sets the mark only where it is
-/// refused.
+/// Fails unless a write to a watched device does so too, and sets the mark only if it fails.
 fn expect_written_and_marked(
     rope: &Rope,
     device: Narrow,
@@ -55,7 +54,7 @@ fn a_write_that_takes_none_is_answered_and_marked(rt: HostRuntime) -> Result<(),
     expect_written(&rope, Narrow::full(&rt), kind, b"")
 }
 
-/// Fails unless a rope is written without a mark, and once more behind its bytes.
+/// Fails unless a rope is written without a mark, and once more after its bytes.
 fn expect_written_twice(alloc: Global, rope: &Rope) -> Result<(), Failure> {
     let mut sink = Watched::new(Vec::new(alloc));
     rope.write_watched(&mut sink)?;
@@ -78,8 +77,8 @@ fn the_empty_text_is_never_refused(rt: HostRuntime) -> Result<(), Failure> {
     expect_written_and_marked(&rope, Narrow::full(&rt), None, b"")
 }
 
-/// Fails unless a writing to a device of so much room keeps as much, and is refused where that is
-/// short.
+/// Fails unless a write to a device with `room` bytes keeps that many, and fails if that is too
+/// few.
 fn expect_stopped(rt: &HostRuntime, rope: &Rope, bytes: &[u8], room: usize) -> Result<(), Failure> {
     let kind = if room < 3000 {
         Some(ErrorKind::Interrupted)

@@ -1,4 +1,4 @@
--- The text that was read is known, and so are those that the edits leave.
+-- The text read is known, and so are those after the edits.
 use Rattle.std.proofs.Common.{arith}
 use Rattle.rope_device_tests.proofs.Texts.{is_first, four_lines, may_remove, ten, may_slice}
 use Rattle.rope_device_tests.proofs.example.a_text_is_read_edited_and_written.Goals as goal
