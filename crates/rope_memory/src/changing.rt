@@ -1,4 +1,4 @@
-//! Changes as values, versions that they lead to, and documents that follow an editor.
+//! Changes as values, versions made by them, and documents that follow an editor.
 use crate::TRIES;
 use crate::edits::{fingerprint, made, repeated, show};
 use rope_changes::{ChangeError, ChangeSet, Edit, Side};
@@ -29,14 +29,14 @@ const EDITS: [Edit<'static>; 3] = [
     },
 ];
 
-/// An insert alone, which is made in place.
+/// A single insert, which is made in place.
 const INSERT: [Edit<'static>; 1] = [Edit {
     start: 5,
     end: 5,
     text: "y",
 }];
 
-/// An edit that both inserts and removes.
+/// An edit that inserts and removes.
 const REPLACE: [Edit<'static>; 1] = [Edit {
     start: 5,
     end: 6,
@@ -46,13 +46,13 @@ const REPLACE: [Edit<'static>; 1] = [Edit {
 /// Changes that are made of others.
 #[derive(Clone, Copy)]
 enum Maker<'a, 'b> {
-    /// Of edits of a text of some length.
+    /// A change of edits of a text of some length.
     Edits(usize, &'a [Edit<'static>]),
-    /// The one that leads back to a rope's text.
+    /// The inverse of a change of a rope's text.
     Inverse(&'a ChangeSet, &'b Rope),
-    /// Two in a row.
+    /// Two changes in a row.
     Both(&'a ChangeSet, &'b ChangeSet),
-    /// The first as it is after the second.
+    /// The first change, rebased over the second.
     Rebased(&'a ChangeSet, &'b ChangeSet),
 }
 
@@ -65,7 +65,7 @@ fn make_once(alloc: Global, maker: Maker<'_, '_>) -> Result<ChangeSet, ChangeErr
     }
 }
 
-/// Makes a change, again where memory was refused.
+/// Makes a change, again if memory was refused.
 fn make(alloc: Global, maker: Maker<'_, '_>) -> Option<ChangeSet> {
     for _ in 0..TRIES {
         match make_once(alloc, maker) {
@@ -77,7 +77,7 @@ fn make(alloc: Global, maker: Maker<'_, '_>) -> Option<ChangeSet> {
     None
 }
 
-/// Applies a change, again where memory was refused, and counts the refusals that changed the rope.
+/// Applies a change, again if memory was refused, and counts the failures that changed the rope.
 fn apply(rope: &mut Rope, change: &ChangeSet, faults: &mut usize) -> bool {
     let before = fingerprint(rope);
     for _ in 0..TRIES {
@@ -94,8 +94,8 @@ fn apply(rope: &mut Rope, change: &ChangeSet, faults: &mut usize) -> bool {
     false
 }
 
-/// Applies a change and the one that leads back, and prints the rope after each. The first is also
-/// composed with the second and rebased over itself.
+/// Applies a change and its inverse, and prints the rope after each. The first is also composed
+/// with the second and rebased over itself.
 fn go_and_come_back(
     rt: &impl Print,
     alloc: Global,
@@ -114,7 +114,7 @@ fn go_and_come_back(
         && show(rt, rope)
 }
 
-/// The history of a text of 4,000 characters, made again where memory was refused.
+/// Returns the history of a text of 4,000 characters, made again if memory was refused.
 fn history(alloc: Global) -> Option<History> {
     for _ in 0..TRIES {
         if let Ok(history) = History::new(alloc, 4_000) {
@@ -124,8 +124,8 @@ fn history(alloc: Global) -> Option<History> {
     None
 }
 
-/// Commits the edits, again where memory was refused, and counts the refusals that changed the rope
-/// or the history.
+/// Commits the edits, again if memory was refused, and counts the failures that changed the rope or
+/// the history.
 fn commit(alloc: Global, history: &mut History, rope: &mut Rope, faults: &mut usize) -> bool {
     let before = fingerprint(rope);
     for _ in 0..TRIES {
@@ -145,8 +145,8 @@ fn commit(alloc: Global, history: &mut History, rope: &mut Rope, faults: &mut us
     false
 }
 
-/// Undoes the last version, again where memory was refused, and counts the refusals that changed
-/// the rope or the history.
+/// Undoes the last version, again if memory was refused, and counts the failures that changed the
+/// rope or the history.
 fn undo(history: &mut History, rope: &mut Rope, faults: &mut usize) -> bool {
     let (before, current) = (fingerprint(rope), history.current());
     for _ in 0..TRIES {
@@ -175,8 +175,8 @@ fn commit_and_undo(rt: &impl Print, alloc: Global, rope: &mut Rope, faults: &mut
     }
 }
 
-/// Follows an editor that replaces a line and then puts one before all, again where memory was
-/// refused, and counts the refusals that changed the document.
+/// Follows an editor that replaces a line and then inserts one before all, again if memory was
+/// refused, and counts the failures that changed the document.
 fn follow(alloc: Global, document: &mut Rope, faults: &mut usize) -> bool {
     let before = fingerprint(document);
     let start = Position { line: 1, column: 0 };
@@ -234,7 +234,7 @@ fn change_lines(rt: &impl Print, alloc: Global, text: &str, faults: &mut usize) 
     }
 }
 
-/// Does all calls of changes, and counts the refusals that changed something.
+/// Runs all calls of changes, and counts the failures that changed something.
 pub fn run(rt: &impl Print, alloc: Global, faults: &mut usize) -> bool {
     match repeated(alloc, "abc\n", 1_000) {
         Some(text) => change_lines(rt, alloc, text.as_str(), faults),

@@ -1,10 +1,10 @@
-//! Ropes that are made, and edits of them.
+//! Making ropes, and edits of them.
 use crate::TRIES;
 use ropey::{Error, Result, Rope};
 use std::alloc::Global;
 use std::io::Print;
 
-/// A number that the text and its cutting decide; it takes no memory.
+/// Returns a number determined by the text and its chunks; takes no memory.
 pub fn fingerprint(rope: &Rope) -> u64 {
     let mut seen: u64 = 0xCBF2_9CE4_8422_2325;
     for chunk in rope.chunks() {
@@ -16,7 +16,7 @@ pub fn fingerprint(rope: &Rope) -> u64 {
     seen
 }
 
-/// Fills an empty string with so many times a text. Only its room takes memory.
+/// Fills an empty string with a text, `count` times. Only its capacity takes memory.
 fn fill(all: &mut String, text: &str, count: usize) -> Result<()> {
     all.reserve(text.len().saturating_mul(count))?;
     for _ in 0..count {
@@ -25,7 +25,7 @@ fn fill(all: &mut String, text: &str, count: usize) -> Result<()> {
     Ok(())
 }
 
-/// So many times a text.
+/// Returns a text, `count` times.
 pub fn repeated(alloc: Global, text: &str, count: usize) -> Option<String> {
     for _ in 0..TRIES {
         let mut all = String::new(alloc);
@@ -36,7 +36,7 @@ pub fn repeated(alloc: Global, text: &str, count: usize) -> Option<String> {
     None
 }
 
-/// A rope of a text, made again where memory was refused.
+/// Returns a rope of a text, made again if memory was refused.
 pub fn made(alloc: Global, text: &str) -> Option<Rope> {
     for _ in 0..TRIES {
         match Rope::from_str(alloc, text) {
@@ -48,7 +48,7 @@ pub fn made(alloc: Global, text: &str) -> Option<Rope> {
     None
 }
 
-/// An empty rope, made again where memory was refused.
+/// Returns an empty rope, made again if memory was refused.
 fn empty(alloc: Global) -> Option<Rope> {
     for _ in 0..TRIES {
         match Rope::new(alloc) {
@@ -60,18 +60,18 @@ fn empty(alloc: Global) -> Option<Rope> {
     None
 }
 
-/// What is done to a rope.
+/// An edit of a rope.
 #[derive(Clone, Copy)]
 pub enum Edit<'a> {
-    /// A text put before a character or at the end.
+    /// Inserts a text before a character or at the end.
     Insert(usize, &'a str),
-    /// A character put before another, or at the end where the place is past it.
+    /// Inserts a character before another, or at the end if the index is past it.
     InsertChar(usize, char),
-    /// The characters from the first place to the second taken out.
+    /// Removes the characters from the first index up to the second.
     Remove(usize, usize),
-    /// A clone of another rope put behind it.
+    /// Appends a clone of another rope.
     Append(&'a Rope),
-    /// The text re-chunked.
+    /// Re-chunks the text.
     ShrinkToFit,
 }
 
@@ -88,8 +88,8 @@ fn apply_once(rope: &mut Rope, edit: Edit<'_>) -> Result<()> {
     }
 }
 
-/// Edits, again where memory was refused, and counts the refusals that changed something. Answers
-/// whether it is done.
+/// Makes an edit, again if memory was refused, and counts the failures that changed something.
+/// Returns whether it succeeded.
 pub fn apply(rope: &mut Rope, edit: Edit<'_>, faults: &mut usize) -> bool {
     let before = fingerprint(rope);
     let bytes = rope.len_bytes();
@@ -107,7 +107,7 @@ pub fn apply(rope: &mut Rope, edit: Edit<'_>, faults: &mut usize) -> bool {
     false
 }
 
-/// Does edits one after the other.
+/// Makes edits one after the other.
 pub fn apply_all(rope: &mut Rope, edits: &[Edit<'_>], faults: &mut usize) -> bool {
     for edit in edits {
         if !apply(rope, *edit, faults) {
@@ -117,7 +117,7 @@ pub fn apply_all(rope: &mut Rope, edits: &[Edit<'_>], faults: &mut usize) -> boo
     true
 }
 
-/// Prints how long a rope is.
+/// Prints the lengths of a rope.
 pub fn show(rt: &impl Print, rope: &Rope) -> bool {
     let bytes = rope.len_bytes();
     let lines = rope.len_lines();
@@ -163,7 +163,7 @@ fn type_and_show(
     }
 }
 
-/// Inserts into an empty rope and another, and prints what they are.
+/// Inserts into an empty rope and another, and prints them.
 fn edit_and_show(rt: &impl Print, alloc: Global, rope: &mut Rope, faults: &mut usize) -> bool {
     match repeated(alloc, "a", 5_000) {
         Some(long) => {
@@ -174,8 +174,7 @@ fn edit_and_show(rt: &impl Print, alloc: Global, rope: &mut Rope, faults: &mut u
     }
 }
 
-/// Makes ropes, inserts into them, prints what they are, and counts the refusals that changed
-/// something.
+/// Makes ropes, inserts into them, prints them, and counts the failures that changed something.
 pub fn run(rt: &impl Print, alloc: Global, faults: &mut usize) -> bool {
     match made(alloc, "") {
         Some(mut rope) => edit_and_show(rt, alloc, &mut rope, faults),

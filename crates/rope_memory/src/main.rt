@@ -1,7 +1,7 @@
-//! Refuses allocations: does every call that takes memory, checks what a refusal left, tries again.
-//! The gate runs it with none refused, and `scripts/refuse_each_allocation.sh` with each in turn.
-//! It prints the same whichever is refused, so that the runs can be compared. No contract shows
-//! that a call succeeds in the end.
+//! Refuses allocations: runs every call that takes memory, checks the state after a failure, and
+//! tries again. The gate runs it with none refused, and `scripts/refuse_each_allocation.sh` with
+//! each in turn. Its output doesn't depend on the refused allocation, so that the runs can be
+//! compared. No contract shows that a call succeeds in the end.
 #![tactic(auto)]
 
 mod changing;
@@ -16,10 +16,10 @@ use std::alloc::Global;
 use std::io::Print;
 use std::process::ExitCode;
 
-/// How often a call is tried: one allocation is refused, so the next try meets no refusal.
+/// The number of tries of a call: one allocation is refused, so the next try succeeds.
 const TRIES: usize = 3;
 
-/// Does all calls, and counts the refusals that changed or forgot something.
+/// Runs all calls, and counts the failures that changed something or were forgotten.
 fn run(rt: &impl Print, alloc: Global, faults: &mut usize) -> bool {
     edits::run(rt, alloc, faults)
         && parts::run(rt, alloc, faults)

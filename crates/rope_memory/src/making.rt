@@ -1,4 +1,4 @@
-//! Ropes that are made of texts, pieces or what an iterator gives, or re-chunked.
+//! Ropes made of texts, pieces or an iterator's items, or re-chunked.
 use crate::TRIES;
 use crate::edits::{Edit, apply_all, made, repeated, show};
 use ropey::{CowStr, Error, Result, Rope, RopeBuilder};
@@ -12,14 +12,14 @@ fn append_all(builder: &mut RopeBuilder, pieces: &[&str]) -> Result<()> {
     Ok(())
 }
 
-/// Whether a builder that was refused answers the same error to every text.
+/// Returns whether a builder that failed returns the same error for every text.
 fn keeps_error(builder: &mut RopeBuilder) -> bool {
     let answers = [builder.append(""), builder.append("x"), builder.append("")];
     answers == [Err(Error::OutOfMemory); 3]
 }
 
-/// A rope of the pieces by a builder. One that was refused has to answer the same error to every
-/// call, or is counted.
+/// Returns a rope of the pieces by a builder. A builder that failed and doesn't return the same
+/// error from every call is counted.
 fn build_once(mut builder: RopeBuilder, pieces: &[&str], faults: &mut usize) -> Option<Rope> {
     let is_taken = append_all(&mut builder, pieces).is_ok();
     let is_kept = is_taken || keeps_error(&mut builder);
@@ -33,7 +33,7 @@ fn build_once(mut builder: RopeBuilder, pieces: &[&str], faults: &mut usize) -> 
     }
 }
 
-/// A rope of the pieces, made again where memory was refused.
+/// Returns a rope of the pieces, made again if memory was refused.
 fn build(alloc: Global, pieces: &[&str], faults: &mut usize) -> Option<Rope> {
     for _ in 0..TRIES {
         let built = match RopeBuilder::new(alloc) {
@@ -65,7 +65,7 @@ const MAKERS: [Maker; 5] = [
     Maker::OfCows,
 ];
 
-/// A text three times, each of its own.
+/// Returns a text three times, as separate strings.
 fn three_of(alloc: Global, text: &str) -> Result<[String; 3]> {
     let first = String::from_str(alloc, text)?;
     let second = String::from_str(alloc, text)?;
@@ -73,7 +73,7 @@ fn three_of(alloc: Global, text: &str) -> Result<[String; 3]> {
     Ok([first, second, third])
 }
 
-/// A rope of a text three times, of which the second is owned.
+/// Returns a rope of a text three times, the second of them owned.
 fn made_of_cows(alloc: Global, text: &str) -> Result<Rope> {
     let owned = String::from_str(alloc, text)?;
     let cows = [
@@ -84,7 +84,7 @@ fn made_of_cows(alloc: Global, text: &str) -> Result<Rope> {
     Rope::from_cow_iter(alloc, cows)
 }
 
-/// A rope of the text, or of the text three times by a call that takes an iterator.
+/// Returns a rope of the text, or of the text three times by a call that takes an iterator.
 fn make_once(alloc: Global, maker: Maker, text: &str) -> Result<Rope> {
     match maker {
         Maker::OfString => Rope::from_string(alloc, String::from_str(alloc, text)?),
@@ -95,7 +95,7 @@ fn make_once(alloc: Global, maker: Maker, text: &str) -> Result<Rope> {
     }
 }
 
-/// A rope by one of the calls, made again where memory was refused.
+/// Returns a rope by one of the calls, made again if memory was refused.
 fn made_by(alloc: Global, maker: Maker, text: &str) -> Option<Rope> {
     for _ in 0..TRIES {
         match make_once(alloc, maker, text) {
@@ -107,7 +107,7 @@ fn made_by(alloc: Global, maker: Maker, text: &str) -> Option<Rope> {
     None
 }
 
-/// A rope of some characters of another, made again where memory was refused.
+/// Returns a rope of some characters of another, made again if memory was refused.
 fn sliced(alloc: Global, rope: &Rope, start: usize, end: usize) -> Option<Rope> {
     for _ in 0..TRIES {
         match Rope::from_slice(alloc, rope.get_slice(start..end)?) {
@@ -119,7 +119,7 @@ fn sliced(alloc: Global, rope: &Rope, start: usize, end: usize) -> Option<Rope> 
     None
 }
 
-/// Prints a rope, where there is one.
+/// Prints a rope, if there is one.
 fn show_made(rt: &impl Print, rope: Option<Rope>) -> bool {
     match rope {
         Some(rope) => show(rt, &rope),
@@ -127,7 +127,7 @@ fn show_made(rt: &impl Print, rope: Option<Rope>) -> bool {
     }
 }
 
-/// Makes ropes by each call, and prints what they are.
+/// Makes ropes by each call, and prints them.
 fn make_all(rt: &impl Print, alloc: Global, long: &str) -> bool {
     for maker in &MAKERS {
         if !show_made(rt, made_by(alloc, *maker, long)) {
@@ -137,8 +137,7 @@ fn make_all(rt: &impl Print, alloc: Global, long: &str) -> bool {
     true
 }
 
-/// Makes a rope of pieces, and prints what it is. A builder that forgot that it was refused is
-/// counted.
+/// Makes a rope of pieces, and prints it. A builder that forgot its error is counted.
 fn build_and_show(rt: &impl Print, alloc: Global, long: &str, faults: &mut usize) -> bool {
     let pieces = ["é", long, "\r", "\n", long, "こ\r\n"];
     show_made(rt, build(alloc, &pieces, faults))
@@ -158,7 +157,7 @@ fn fill(rope: &mut Rope, long: &str, faults: &mut usize) -> bool {
     apply_all(rope, &edits, faults)
 }
 
-/// Prints what a rope and a part of it are.
+/// Prints a rope and a slice of it.
 fn show_with_part(rt: &impl Print, alloc: Global, rope: &Rope) -> bool {
     let chunks = rope.chunks().count();
     show(rt, rope)
@@ -166,7 +165,7 @@ fn show_with_part(rt: &impl Print, alloc: Global, rope: &Rope) -> bool {
         && show_made(rt, sliced(alloc, rope, 1_200, 9_000))
 }
 
-/// Fills a rope and prints what it is.
+/// Fills a rope and prints it.
 fn fill_and_show(rt: &impl Print, alloc: Global, long: &str, faults: &mut usize) -> bool {
     match made(alloc, "") {
         Some(mut rope) => fill(&mut rope, long, faults) && show_with_part(rt, alloc, &rope),
@@ -174,8 +173,8 @@ fn fill_and_show(rt: &impl Print, alloc: Global, long: &str, faults: &mut usize)
     }
 }
 
-/// Makes ropes of pieces and re-chunks a rope, prints what they are, and counts the refusals that
-/// changed or forgot something.
+/// Makes ropes of pieces and re-chunks a rope, prints them, and counts the failures that changed
+/// something or were forgotten.
 pub fn run(rt: &impl Print, alloc: Global, faults: &mut usize) -> bool {
     match repeated(alloc, "a", 2_500) {
         Some(long) => {

@@ -1,11 +1,12 @@
-//! Ropes that are cloned, split, appended, and with a part taken out.
+//! Ropes that are cloned, split, appended, and with a range removed.
 use crate::TRIES;
 use crate::edits::{Edit, apply, fingerprint, made, repeated, show};
 use ropey::{Error, Rope};
 use std::alloc::Global;
 use std::io::Print;
 
-/// A clone, made again where memory was refused; the refusals that changed the rope are counted.
+/// Returns a clone, made again if memory was refused; the failures that changed the rope are
+/// counted.
 fn clone(rope: &Rope, faults: &mut usize) -> Option<Rope> {
     let before = fingerprint(rope);
     for _ in 0..TRIES {
@@ -19,8 +20,7 @@ fn clone(rope: &Rope, faults: &mut usize) -> Option<Rope> {
     None
 }
 
-/// Leaves the front of a rope and answers its back, again where memory was refused, as `clone`
-/// does.
+/// Keeps the front of a rope and returns its back, again if memory was refused, as `clone` does.
 fn split_off(rope: &mut Rope, char_idx: usize, faults: &mut usize) -> Option<Rope> {
     let before = fingerprint(rope);
     let bytes = rope.len_bytes();
@@ -38,7 +38,7 @@ fn split_off(rope: &mut Rope, char_idx: usize, faults: &mut usize) -> Option<Rop
     None
 }
 
-/// Splits between a CR and an LF, and joins the parts.
+/// Splits between a CR and an LF, and joins the halves.
 fn split_and_join(rt: &impl Print, rope: &mut Rope, faults: &mut usize) -> bool {
     match split_off(rope, 5_009, faults) {
         Some(back) => {
@@ -48,7 +48,7 @@ fn split_and_join(rt: &impl Print, rope: &mut Rope, faults: &mut usize) -> bool 
     }
 }
 
-/// Edits of a rope that at last shares its nodes with another. The last but one inserts lines
+/// Edits a rope, which at last shares its nodes with another. The last edit but one inserts lines
 /// between a CR and an LF.
 fn edit<'a>(
     rt: &impl Print,
@@ -76,7 +76,7 @@ fn edit<'a>(
     true
 }
 
-/// Edits of a rope behind which a clone of it is put, with lines that are put in.
+/// Edits a rope, to which a clone of it is appended, and inserts lines.
 fn edit_with_lines(
     rt: &impl Print,
     alloc: Global,
@@ -91,7 +91,7 @@ fn edit_with_lines(
     }
 }
 
-/// Edits of a rope beside a clone of it and one that was kept.
+/// Edits a rope beside a clone of it and one that was kept.
 fn double_and_edit(
     rt: &impl Print,
     alloc: Global,
@@ -105,8 +105,8 @@ fn double_and_edit(
     }
 }
 
-/// Takes the middle out, so that a CR meets an LF, takes the rope apart there and joins its parts,
-/// and doubles it.
+/// Removes the middle, so that a CR meets an LF, splits the rope there and joins its halves, and
+/// doubles it.
 fn edit_beside(
     rt: &impl Print,
     alloc: Global,
@@ -120,7 +120,7 @@ fn edit_beside(
         && double_and_edit(rt, alloc, rope, kept, faults)
 }
 
-/// Keeps a clone of a rope and edits it, and counts it where the edits changed the clone.
+/// Keeps a clone of a rope and edits the rope, and counts a clone that the edits changed.
 fn edit_and_compare(rt: &impl Print, alloc: Global, rope: &mut Rope, faults: &mut usize) -> bool {
     let before = fingerprint(rope);
     match clone(rope, faults) {
@@ -135,7 +135,7 @@ fn edit_and_compare(rt: &impl Print, alloc: Global, rope: &mut Rope, faults: &mu
     }
 }
 
-/// A rope of many lines.
+/// Returns a rope of many lines.
 fn made_of_lines(alloc: Global) -> Option<Rope> {
     match repeated(alloc, "12345678\r\n", 3_000) {
         Some(lines) => made(alloc, lines.as_str()),
@@ -143,8 +143,8 @@ fn made_of_lines(alloc: Global) -> Option<Rope> {
     }
 }
 
-/// Takes a rope apart and joins its parts, prints it after each edit, and counts the refusals or
-/// edits that changed what they had to leave.
+/// Splits a rope and joins its halves, prints it after each edit, and counts the failures or edits
+/// that changed something else.
 pub fn run(rt: &impl Print, alloc: Global, faults: &mut usize) -> bool {
     match made_of_lines(alloc) {
         Some(mut rope) => show(rt, &rope) && edit_and_compare(rt, alloc, &mut rope, faults),

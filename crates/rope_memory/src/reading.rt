@@ -1,4 +1,4 @@
-//! Ropes that are read from a device, again where memory was refused.
+//! Ropes that are read from a device, again if memory was refused.
 use crate::TRIES;
 use crate::edits::{repeated, show};
 use ropey::io::{Mark, ReadError, Watched};
@@ -6,8 +6,8 @@ use ropey::{Error, Rope};
 use std::alloc::Global;
 use std::io::Print;
 
-/// A rope of the bytes, read again from their start where memory was refused, for which the reader
-/// isn't marked.
+/// Returns a rope of the bytes, read again from their start if memory was refused, which doesn't
+/// mark the reader.
 fn read(alloc: Global, bytes: &[u8]) -> Option<Rope> {
     for _ in 0..TRIES {
         let mut source = Watched::new(bytes);
@@ -27,7 +27,7 @@ fn read_and_show(rt: &impl Print, alloc: Global, text: &str) -> bool {
     }
 }
 
-/// Reads a text of some chunks, and prints what it is.
+/// Reads a text of some chunks, and prints it.
 pub fn run(rt: &impl Print, alloc: Global) -> bool {
     match repeated(alloc, "aé\r\nこ🐸", 700) {
         Some(text) => read_and_show(rt, alloc, text.as_str()),

@@ -10,7 +10,7 @@ use std::io::Print;
 const INPUT: &str =
     "text one\\r\\ntwo\nins 0 3 \\u{85}\nlen 0\nchunks 0\nins 0 99 x\nins 7 0 x\ntextb lf a\\r\\nb\nbreaks 1\n";
 
-/// A string, made again where memory was refused.
+/// Returns a string, made again if memory was refused.
 fn owned(alloc: Global, text: &str) -> Option<String> {
     for _ in 0..TRIES {
         if let Ok(text) = String::from_str(alloc, text) {
@@ -20,13 +20,13 @@ fn owned(alloc: Global, text: &str) -> Option<String> {
     None
 }
 
-/// Whether a command is run and its reply added; not where memory was refused.
+/// Returns whether a command is run and its reply added; false if memory was refused.
 fn is_run(session: &mut Session, commands: &[Command], replies: &mut Vec<Reply>) -> bool {
     let is_replied = session.run(commands, replies).is_ok();
     is_replied && !matches!(replies.last(), Some(Reply::Refused(Error::OutOfMemory)))
 }
 
-/// Runs one command, again where memory was refused, and answers its reply.
+/// Runs one command, again if memory was refused, and returns its reply.
 fn reply_to(alloc: Global, session: &mut Session, commands: &[Command]) -> Option<Reply> {
     for _ in 0..TRIES {
         let mut replies = Vec::new(alloc);
@@ -37,7 +37,7 @@ fn reply_to(alloc: Global, session: &mut Session, commands: &[Command]) -> Optio
     None
 }
 
-/// Runs one command; none where it has no reply.
+/// Runs one command; returns `None` if it has no reply.
 fn run_one(alloc: Global, session: &mut Session, command: Command) -> Option<()> {
     let commands = [command];
     match reply_to(alloc, session, &commands) {
@@ -57,7 +57,7 @@ fn make_each(alloc: Global, session: &mut Session) -> Option<()> {
     run_one(alloc, session, Command::Shrink(0))
 }
 
-/// Prints lengths, or how many texts there are.
+/// Prints lengths, or the number of texts.
 fn show_counts(rt: &impl Print, reply: &Reply) -> bool {
     match reply {
         Reply::Lens(bytes, chars, lines, units) => {
@@ -68,7 +68,7 @@ fn show_counts(rt: &impl Print, reply: &Reply) -> bool {
     }
 }
 
-/// Asks a rope of the session for its lengths or its chunks, and prints them or how many they are.
+/// Queries a rope of the session for its lengths or its chunks, and prints them or their number.
 fn ask(rt: &impl Print, alloc: Global, session: &mut Session, rope: usize, query: Query) -> bool {
     let commands = [Command::Ask(rope, None, query)];
     match reply_to(alloc, session, &commands) {
@@ -77,7 +77,7 @@ fn ask(rt: &impl Print, alloc: Global, session: &mut Session, rope: usize, query
     }
 }
 
-/// Prints what the three ropes are.
+/// Prints the three ropes.
 fn show_each(rt: &impl Print, alloc: Global, session: &mut Session) -> bool {
     for rope in 0..3usize {
         if !ask(rt, alloc, session, rope, Query::Lens)
@@ -89,7 +89,7 @@ fn show_each(rt: &impl Print, alloc: Global, session: &mut Session) -> bool {
     true
 }
 
-/// Runs commands on three ropes of a session that begins with none, and prints what they are.
+/// Runs commands on three ropes of a session that begins with none, and prints them.
 fn run_commands(rt: &impl Print, alloc: Global) -> bool {
     let mut session = Session::new(alloc);
     make_each(alloc, &mut session).is_some() && show_each(rt, alloc, &mut session)
@@ -97,12 +97,12 @@ fn run_commands(rt: &impl Print, alloc: Global) -> bool {
 
 const STEPS: [Move; 4] = [Move::Next, Move::Next, Move::Reverse, Move::Next];
 
-/// Fills an empty list with the steps of a walk. Only its room takes memory.
+/// Fills an empty list with the steps of a walk. Only its capacity takes memory.
 fn fill(moves: &mut Vec<Move>) -> bool {
     moves.reserve(STEPS.len()).is_ok() && moves.extend_from_slice(&STEPS).is_ok()
 }
 
-/// Steps of a walk, made again where memory was refused.
+/// Returns the steps of a walk, made again if memory was refused.
 fn moves(alloc: Global) -> Option<Vec<Move>> {
     for _ in 0..TRIES {
         let mut moves = Vec::new(alloc);
@@ -113,7 +113,7 @@ fn moves(alloc: Global) -> Option<Vec<Move>> {
     None
 }
 
-/// Commands of which most take memory, with the two texts and the steps that they take.
+/// Returns commands most of which take memory, with their two texts and steps.
 fn commands_with(text: String, line: String, moves: Vec<Move>) -> [Command; 14] {
     [
         Command::Text(text),
@@ -133,7 +133,7 @@ fn commands_with(text: String, line: String, moves: Vec<Move>) -> [Command; 14] 
     ]
 }
 
-/// The same, made again where memory was refused.
+/// Returns these commands, made again if memory was refused.
 fn many_commands(alloc: Global) -> Option<[Command; 14]> {
     let text = owned(alloc, "a\r\nbこ🐸")?;
     let line = owned(alloc, "x\n")?;
@@ -143,8 +143,8 @@ fn many_commands(alloc: Global) -> Option<[Command; 14]> {
     }
 }
 
-/// Runs the commands, and where memory was refused those that have no reply yet, on the ropes that
-/// the others left.
+/// Runs the commands; if memory was refused, those without a reply again, on the ropes that the
+/// others left.
 fn run_all(session: &mut Session, commands: &[Command], replies: &mut Vec<Reply>) -> bool {
     for _ in 0..TRIES {
         let Some(left) = commands.get(replies.len()..) else {
@@ -157,13 +157,13 @@ fn run_all(session: &mut Session, commands: &[Command], replies: &mut Vec<Reply>
     false
 }
 
-/// The same, on a session that begins with no rope.
+/// Runs the commands on a session that begins without ropes.
 fn run_anew(alloc: Global, commands: &[Command], replies: &mut Vec<Reply>) -> bool {
     let mut session = Session::new(alloc);
     run_all(&mut session, commands, replies)
 }
 
-/// Prints what a reply says, in a line.
+/// Prints a reply, in a line.
 fn show_reply(rt: &impl Print, reply: &Reply) -> bool {
     match reply {
         Reply::Done => println!(rt; "ok").is_ok(),
@@ -186,7 +186,8 @@ fn show_reply(rt: &impl Print, reply: &Reply) -> bool {
     }
 }
 
-/// Whether a command's rope refused memory: that is replied, and what follows goes on without it.
+/// Returns whether a command's rope ran out of memory: the command has that reply, and the rest
+/// continues without it.
 fn is_refused(replies: &[Reply]) -> bool {
     for reply in replies {
         if matches!(reply, Reply::Refused(Error::OutOfMemory)) {
@@ -205,7 +206,7 @@ fn show_all(rt: &impl Print, replies: &[Reply]) -> bool {
     true
 }
 
-/// Runs commands at once, again where memory was refused, and prints their replies.
+/// Runs commands at once, again if memory was refused, and prints their replies.
 fn run_and_show(rt: &impl Print, alloc: Global, commands: &[Command]) -> bool {
     for _ in 0..TRIES {
         let mut replies = Vec::new(alloc);
@@ -226,8 +227,8 @@ fn run_at_once(rt: &impl Print, alloc: Global) -> bool {
     }
 }
 
-/// What was written, where memory was refused for none of it: a command for which it was is given
-/// as a reply, and what follows goes on without it.
+/// Returns the text written, unless memory was refused for a part of it: such a command has the
+/// error as its reply, and the rest continues without it.
 fn complete(written: &[u8]) -> Option<&str> {
     match str::from_utf8(written) {
         Ok(text) if !text.contains("error: Out of memory\n") => Some(text),
@@ -235,7 +236,7 @@ fn complete(written: &[u8]) -> Option<&str> {
     }
 }
 
-/// Serves the lines, again where memory was refused, and prints what was written.
+/// Serves the lines, again if memory was refused, and prints the output.
 fn serve_lines(rt: &impl Print, alloc: Global) -> bool {
     for _ in 0..TRIES {
         let mut written = Vec::new(alloc);
@@ -249,7 +250,7 @@ fn serve_lines(rt: &impl Print, alloc: Global) -> bool {
     false
 }
 
-/// Runs commands and serves lines, and prints what they gave.
+/// Runs commands and serves lines, and prints the output.
 pub fn run(rt: &impl Print, alloc: Global) -> bool {
     run_commands(rt, alloc) && run_at_once(rt, alloc) && serve_lines(rt, alloc)
 }

@@ -1,4 +1,4 @@
-//! Texts that are copied out of ropes and slices.
+//! Texts copied from ropes and slices.
 use crate::TRIES;
 use crate::edits::{fingerprint, made, repeated};
 use ropey::{CowStr, Error, Result, Rope};
@@ -6,7 +6,7 @@ use std::alloc::Global;
 use std::convert::AsStr;
 use std::io::Print;
 
-/// A call that gives a text of its own.
+/// A call that returns a copy of a text.
 #[derive(Clone, Copy)]
 enum Copier {
     ToString,
@@ -40,7 +40,7 @@ fn is_cow(copy: Result<CowStr<'_>>, text: &str) -> Result<bool> {
     }
 }
 
-/// Whether a call gives the text. A call that takes the rope is handed a clone.
+/// Returns whether a call gives the text. A call that takes the rope gets a clone.
 fn copies_once(alloc: Global, copier: Copier, rope: &Rope, text: &str) -> Result<bool> {
     match copier {
         Copier::ToString => is_string(rope.try_to_string(alloc), text),
@@ -52,8 +52,8 @@ fn copies_once(alloc: Global, copier: Copier, rope: &Rope, text: &str) -> Result
     }
 }
 
-/// Copies, again where memory was refused, and counts another text or a refusal that changed the
-/// rope. Answers whether it is done.
+/// Copies, again if memory was refused, and counts a different text or a failure that changed the
+/// rope. Returns whether it succeeded.
 fn copies(alloc: Global, copier: Copier, rope: &Rope, text: &str, faults: &mut usize) -> bool {
     let before = fingerprint(rope);
     let mut is_kept = true;
@@ -82,8 +82,8 @@ fn copy_all(alloc: Global, rope: &Rope, text: &str, faults: &mut usize) -> bool 
     true
 }
 
-/// Copies the text of a rope by each call, and prints how often it was another or a refusal changed
-/// the rope.
+/// Copies the text of a rope by each call, and prints the number of different texts and of failures
+/// that changed the rope.
 fn show_copied(
     rt: &impl Print,
     alloc: Global,
@@ -104,8 +104,8 @@ fn copy_out(rt: &impl Print, alloc: Global, text: &str, faults: &mut usize) -> b
     }
 }
 
-/// Copies the texts of a long and of a short rope, and counts the texts that were others and the
-/// refusals that changed a rope.
+/// Copies the texts of a long and of a short rope, and counts the different texts and the failures
+/// that changed a rope.
 pub fn run(rt: &impl Print, alloc: Global, faults: &mut usize) -> bool {
     match repeated(alloc, "é\r\n", 1_000) {
         Some(long) => {

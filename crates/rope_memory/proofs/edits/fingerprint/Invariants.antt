@@ -1,4 +1,4 @@
--- Each turn takes one of the chunks ahead.
+-- Each iteration takes one of the chunks ahead.
 use Rattle.std.proofs.Common.{length}
 use Rattle.rope_text.specs.Sides.{ahead}
 use Rattle.rope_memory.proofs.edits.fingerprint.Given as goal
