@@ -10,29 +10,29 @@ use rope_changes::{ChangeSet, Side};
 use std::alloc::Global;
 use std::time::CpuClock;
 
-/// How many replacements a change has, in full.
+/// The number of replacements of a change, in full.
 const REPLACEMENTS: usize = 1_000;
 
-/// How many changes are applied to a rope.
+/// The number of changes that are applied to a rope.
 const ROUNDS: usize = 10;
 
-/// The characters that a replacement deletes.
+/// The number of characters that a replacement deletes.
 const WORD: usize = 5;
 
-/// What is done with changes.
+/// A workload with changes.
 #[derive(Clone, Copy)]
 pub enum Changing {
-    /// Characters typed in a row, each by a change of its own.
+    /// Types characters in a row, each by a change of its own.
     Type,
-    /// A character typed at each of many carets.
+    /// Types a character at each of many carets.
     Carets,
-    /// Many words replaced.
+    /// Replaces many words.
     Words,
-    /// The change that leads back from many words replaced.
+    /// Inverts the change of many words.
     Invert,
-    /// Two changes of many words as one.
+    /// Composes two changes of many words.
     Compose,
-    /// Many indices moved through many words replaced.
+    /// Moves many indices through the change of many words.
     Indices,
 }
 
@@ -50,7 +50,7 @@ impl Changing {
     }
 }
 
-/// Makes changes and does with them what is asked for.
+/// Runs the workload.
 pub fn change<C: CpuClock>(clock: &C, sample: &Sample, what: Changing) -> Result<Outcome, Fault> {
     match what {
         Changing::Type => type_in_a_row(clock, sample),
@@ -132,7 +132,7 @@ fn edit_in_rounds<C: CpuClock>(
     })
 }
 
-/// Returns the change of many words that the workloads below are about.
+/// Returns the change of many words of the workloads below.
 fn words(sample: &Sample, len: usize, numbers: &mut Numbers) -> Result<ChangeSet, Fault> {
     let count = sample.operations(REPLACEMENTS);
     change_of(sample.alloc, len, count, WORD, "other", numbers)
@@ -164,7 +164,7 @@ fn compose<C: CpuClock>(clock: &C, sample: &Sample) -> Result<Outcome, Fault> {
     })
 }
 
-/// Returns ten times as many indices as a change has replacements, in order.
+/// Returns ten indices, in order, for each replacement of a change.
 fn sorted_indices(sample: &Sample, len: usize) -> Result<Vec<usize>, Fault>
     ensures within { IfOk result (λ indices. All (λ i. i ≤ len) indices.items) }
 {

@@ -12,34 +12,34 @@ use std::cmp::Ordering;
 use std::hash::{Hash, Hasher};
 use std::time::CpuClock;
 
-/// How many characters are put in and taken out again to cut a rope otherwise, in full.
+/// The number of characters inserted and removed again to move a rope's cuts, in full.
 const CUTS: usize = 20_000;
 
-/// How many characters a slice has.
+/// The number of characters of a slice.
 const CHARS: usize = 1_000;
 
-/// How often lengths are hashed: once takes less than half a millisecond.
+/// The number of times that lengths are hashed: once takes less than half a millisecond.
 const PASSES: usize = 20;
 
-/// What is compared.
+/// A comparison or a hash.
 #[derive(Clone, Copy)]
 pub enum Comparing {
-    /// The rope and one of the same text whose chunks end elsewhere: are they equal?
+    /// Tests the equality of the rope and one of the same text with other chunks.
     Equal,
-    /// The same two: which comes first?
+    /// Orders the rope and one of the same text with other chunks.
     Order,
-    /// Slices of the two.
+    /// Compares slices of those two.
     Slices,
-    /// The rope and its text.
+    /// Compares the rope and its text.
     Text,
-    /// The rope, hashed by its bytes.
+    /// Hashes the rope by its bytes.
     HashFnv,
-    /// The rope, hashed by the lengths that are handed to the hasher.
+    /// Hashes the rope by the lengths of the hasher's writes.
     HashLens,
 }
 
 impl Comparing {
-    /// The name of the workload.
+    /// Returns the name of the workload.
     pub fn name(self) -> &'static str {
         match self {
             Comparing::Equal => "eq_other_cutting",
@@ -51,7 +51,7 @@ impl Comparing {
         }
     }
 
-    /// How often it is done.
+    /// Returns the number of operations.
     fn operations(self, sample: &Sample) -> usize {
         match self {
             Comparing::Slices => sample.operations(100_000),
@@ -60,7 +60,7 @@ impl Comparing {
         }
     }
 
-    /// The rope that the sample's is compared with.
+    /// Returns the rope that the sample's is compared with.
     fn other(self, sample: &Sample) -> Result<Rope, Fault> {
         match self {
             Comparing::Equal | Comparing::Order | Comparing::Slices => {
@@ -72,7 +72,7 @@ impl Comparing {
         }
     }
 
-    /// The answers, in one number.
+    /// Returns the results, in one number.
     fn answer(self, sample: &Sample, other: &Rope, count: usize) -> u64 {
         match self {
             Comparing::Equal => u64::from(sample.rope == *other),
@@ -127,7 +127,7 @@ fn are_equal(rope: &Rope, other: &Rope, start: usize, end: usize) -> bool {
     }
 }
 
-/// A hasher by FNV-1a, whose sum is in a cell, so that no clause speaks of it.
+/// A hasher by FNV-1a, with its sum in a cell, so that no clause mentions it.
 #[derive(Drop)]
 struct FnvHasher {
     sum: Cell<Fnv>,

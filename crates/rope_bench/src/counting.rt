@@ -7,21 +7,21 @@ use rope_text::{LineBreaks, str_utils};
 use ropey::RopeSlice;
 use std::time::CpuClock;
 
-/// What is counted.
+/// A count.
 #[derive(Clone, Copy)]
 pub enum Counting {
     /// Characters.
     Chars,
     /// Line breaks of a set.
     Breaks(LineBreaks),
-    /// Characters that take two code units of UTF-16.
+    /// Characters that take two UTF-16 code units.
     Pairs,
     /// Characters, lines and code units of a slice of the text, which is read to be counted.
     Slice,
 }
 
 impl Counting {
-    /// The name of the workload.
+    /// Returns the name of the workload.
     pub fn name(self) -> &'static str {
         match self {
             Counting::Chars => "count_chars_100MB",
@@ -51,7 +51,7 @@ fn counts_of_slice(text: &str) -> usize {
         .wrapping_add(slice.len_utf16_cu())
 }
 
-/// One count over the text.
+/// Counts once over the text.
 pub fn count<C: CpuClock>(clock: &C, sample: &Sample, what: Counting) -> Result<Outcome, Fault> {
     let text = repeated(sample.alloc, sample.text.as_str(), 10)?;
     let start = now(clock)?;

@@ -8,10 +8,10 @@ use ropey::Rope;
 use ropey::iter::{Bytes, Chars, Chunks, Lines};
 use std::time::CpuClock;
 
-/// How many items are read at each place.
+/// The number of items read at each index.
 const STEPS: usize = 10;
 
-/// What is gone over.
+/// A walk over a rope.
 #[derive(Clone, Copy)]
 pub enum Walk {
     Bytes,
@@ -43,7 +43,7 @@ pub enum Walk {
 }
 
 impl Walk {
-    /// The name of the workload.
+    /// Returns the name of the workload.
     pub fn name(self) -> &'static str {
         match self {
             Walk::Bytes => "iter_bytes",
@@ -75,7 +75,7 @@ impl Walk {
         }
     }
 
-    /// How many operations it has: the items, or the places.
+    /// Returns the number of operations: the items, or the indices.
     fn operations(self, sample: &Sample) -> usize {
         match self {
             Walk::Bytes | Walk::BytesBack | Walk::BytesReversed => sample.rope.len_bytes(),
@@ -96,7 +96,7 @@ impl Walk {
         }
     }
 
-    /// What is read, in one number.
+    /// Returns the items read, in one number.
     fn sum(self, rope: &Rope, count: usize) -> Result<u64, Fault> {
         Ok(match self {
             Walk::Bytes => sum_of_bytes(rope.bytes()),
@@ -129,7 +129,7 @@ impl Walk {
     }
 }
 
-/// Goes over the rope once, or to many places.
+/// Walks over the rope once, or to many indices.
 pub fn go_over<C: CpuClock>(clock: &C, sample: &Sample, what: Walk) -> Result<Outcome, Fault> {
     let operations = what.operations(sample);
     let start = now(clock)?;
@@ -142,7 +142,7 @@ pub fn go_over<C: CpuClock>(clock: &C, sample: &Sample, what: Walk) -> Result<Ou
     })
 }
 
-/// The sum of the bytes ahead.
+/// Returns the sum of the bytes ahead.
 pub fn sum_of_bytes(bytes: Bytes<'_>) -> u64 {
     let mut sum: u64 = 0;
     for byte in bytes {
@@ -151,7 +151,7 @@ pub fn sum_of_bytes(bytes: Bytes<'_>) -> u64 {
     sum
 }
 
-/// The sum of the numbers of the characters ahead.
+/// Returns the sum of the scalar values of the characters ahead.
 pub fn sum_of_chars(chars: Chars<'_>) -> u64 {
     let mut sum: u64 = 0;
     for c in chars {
@@ -160,7 +160,7 @@ pub fn sum_of_chars(chars: Chars<'_>) -> u64 {
     sum
 }
 
-/// The sum of the lengths of the chunks ahead.
+/// Returns the sum of the lengths of the chunks ahead.
 pub fn len_of_chunks(chunks: Chunks<'_>) -> u64 {
     let mut sum: u64 = 0;
     for chunk in chunks {
@@ -169,7 +169,7 @@ pub fn len_of_chunks(chunks: Chunks<'_>) -> u64 {
     sum
 }
 
-/// The lengths of the lines ahead, mixed into a number.
+/// Mixes the lengths of the lines ahead into a number.
 pub fn mix_of_lines(before: u64, lines: Lines<'_>) -> u64 {
     let mut sum = before;
     for line in lines {
@@ -249,7 +249,7 @@ fn chars_at(rope: &Rope, count: usize) -> u64 {
     sum
 }
 
-/// Whether two chunks ahead have text in them, mixed into a number.
+/// Mixes into a number whether two chunks ahead have text.
 fn mix_of_two(before: u64, chunks: &mut Chunks<'_>) -> u64 {
     let mut sum = before;
     for _ in 0..2 {
@@ -260,7 +260,7 @@ fn mix_of_two(before: u64, chunks: &mut Chunks<'_>) -> u64 {
     sum
 }
 
-/// The bytes at random places, and two chunks behind each.
+/// Reads the bytes at random indices, and two chunks after each.
 fn chunks_at_byte(rope: &Rope, count: usize) -> u64 {
     let mut numbers = Numbers::new();
     let most = rope.len_bytes().saturating_sub(5_001);
@@ -276,7 +276,7 @@ fn chunks_at_byte(rope: &Rope, count: usize) -> u64 {
     sum
 }
 
-/// Whether chunks begin at the character that is asked for, or before it; and two chunks behind
+/// Tests that chunks begin at the requested character, or before it; and reads two chunks after
 /// each.
 fn chunks_at_char(rope: &Rope, count: usize) -> u64 {
     let mut numbers = Numbers::new();
@@ -291,8 +291,8 @@ fn chunks_at_char(rope: &Rope, count: usize) -> u64 {
     sum
 }
 
-/// Whether chunks have no more line breaks before them than are asked for; and two chunks behind
-/// each.
+/// Tests that chunks have at most the requested number of line breaks before them; and reads two
+/// chunks after each.
 fn chunks_at_line_break(rope: &Rope, count: usize) -> u64 {
     let mut numbers = Numbers::new();
     let most = rope.len_lines().saturating_sub(501);
@@ -363,7 +363,7 @@ fn clone_lines(rope: &Rope, count: usize) -> Result<u64, Fault> {
     Ok(sum)
 }
 
-/// Returns how many lines to visit: about those of 20,000,000 bytes, at least 100.
+/// Returns the number of lines to visit: about those of 20,000,000 bytes, at least 100.
 fn lines_to_visit(sample: &Sample) -> usize {
     let lines = sample
         .rope

@@ -12,53 +12,53 @@ use crate::texts::first_lines;
 use ropey::Rope;
 use std::time::CpuClock;
 
-/// The bytes of a long text that is put in or taken out, about.
+/// The approximate number of bytes of a long text that is inserted or removed.
 const LONG: usize = 10_000;
 
 /// A text of two lines.
 const TWO_LINES: &str = "hello\nworld ";
 
-/// What is done.
+/// An edit.
 #[derive(Clone, Copy)]
 pub enum Edit {
-    /// A character put in at random places.
+    /// Inserts a character at random indices.
     InsertCharRandom,
-    /// A character put into the middle, and each next one behind it.
+    /// Inserts a character into the middle, and each next one after it.
     InsertCharCoherent,
-    /// A text of two lines put in at random places.
+    /// Inserts a text of two lines at random indices.
     InsertStrRandom,
-    /// About ten thousand bytes put in at random places.
+    /// Inserts about ten thousand bytes at random indices.
     InsertLong,
-    /// One to ten characters taken out at random places.
+    /// Removes one to ten characters at random indices.
     RemoveRandom,
-    /// Three characters taken out at random places, and others put in there.
+    /// Removes three characters at random indices, and inserts others there.
     RemoveInsertRandom,
-    /// About ten thousand bytes taken out at random places.
+    /// Removes about ten thousand bytes at random indices.
     RemoveLong,
-    /// The rope split near its middle, and its two parts joined again.
+    /// Splits the rope near its middle, and joins its two halves again.
     SplitAndAppend,
-    /// The rope split at random places, and its two parts joined again.
+    /// Splits the rope at random indices, and joins its two parts again.
     SplitAnywhere,
-    /// Ropes of single lines put behind it.
+    /// Appends ropes of single lines.
     AppendSmall,
-    /// Ropes of single lines put behind an empty rope and each other.
+    /// Appends ropes of single lines to an empty rope.
     AppendSmallFromEmpty,
-    /// The text's first characters, each put in at the end of what was an empty rope.
+    /// Appends the text's first characters, one by one, to an empty rope.
     TypeFromEmpty,
-    /// A text of two lines put in at random places of what was an empty rope.
+    /// Inserts a text of two lines at random indices of a rope that starts empty.
     GrowFromEmpty,
-    /// The rope re-chunked.
+    /// Re-chunks the rope.
     ShrinkToFit,
-    /// The rope ten times, which shares its nodes with the sample's, re-chunked.
+    /// Re-chunks the rope ten times over, which shares its nodes with the sample's.
     ShrinkToFitLong,
-    /// A portion of a text inserted at random places.
+    /// Inserts a portion of a text at random indices.
     Insert(Portion),
-    /// A portion of the text removed at random places.
+    /// Removes a portion of the text at random indices.
     Remove(Portion),
 }
 
 impl Edit {
-    /// The name of the workload.
+    /// Returns the name of the workload.
     pub fn name(self) -> &'static str {
         match self {
             Edit::InsertCharRandom => "insert_char_random",
@@ -81,7 +81,7 @@ impl Edit {
         }
     }
 
-    /// How often it is done.
+    /// Returns the number of operations.
     fn operations(self, sample: &Sample) -> usize {
         match self {
             Edit::InsertCharRandom
@@ -103,7 +103,7 @@ impl Edit {
         }
     }
 
-    /// The rope that is edited.
+    /// Returns the rope to edit.
     fn start(self, sample: &Sample) -> Result<Rope, Fault> {
         match self {
             Edit::AppendSmallFromEmpty | Edit::TypeFromEmpty | Edit::GrowFromEmpty => {
@@ -114,7 +114,7 @@ impl Edit {
         }
     }
 
-    /// The text that is put in.
+    /// Returns the text to insert.
     fn piece(self, sample: &Sample) -> Result<String, Fault> {
         match self {
             Edit::InsertLong => first_lines(sample.alloc, sample.text.as_str(), LONG),
@@ -123,7 +123,7 @@ impl Edit {
         }
     }
 
-    /// The ropes that are put behind the edited one.
+    /// Returns the ropes to append.
     fn others(self, sample: &Sample, count: usize) -> Result<Vec<Rope>, Fault> {
         match self {
             Edit::AppendSmall | Edit::AppendSmallFromEmpty => ropes_of_lines(sample, count),
@@ -131,7 +131,7 @@ impl Edit {
         }
     }
 
-    /// Does it so many times, with the text and the ropes that are put in.
+    /// Runs the edit `count` times, with the text to insert and the ropes to append.
     fn apply(
         self,
         rope: &mut Rope,
@@ -160,7 +160,7 @@ impl Edit {
         }
     }
 
-    /// The rope in one number: its lengths alone where it is very long.
+    /// Returns the rope in one number: its lengths alone if it is very long.
     fn checksum(self, rope: &Rope) -> u64 {
         match self {
             Edit::ShrinkToFitLong => lens(rope),
@@ -169,7 +169,7 @@ impl Edit {
     }
 }
 
-/// Many edits of one kind.
+/// Runs many edits of one kind.
 pub fn edit_rope<C: CpuClock>(clock: &C, sample: &Sample, what: Edit) -> Result<Outcome, Fault> {
     let operations = what.operations(sample);
     let piece = what.piece(sample)?;
@@ -185,12 +185,12 @@ pub fn edit_rope<C: CpuClock>(clock: &C, sample: &Sample, what: Edit) -> Result<
     })
 }
 
-/// Returns how many portions the text has, at most 10,000.
+/// Returns the number of portions of the text, at most 10,000.
 fn portions_of(sample: &Sample, portion: Portion) -> usize {
     portion.count_in(sample.text.len(), sample.operations(10_000))
 }
 
-/// The sample's rope ten times, in one that shares its nodes with it.
+/// Returns the sample's rope ten times, in one rope that shares its nodes.
 fn ten_times(sample: &Sample) -> Result<Rope, Fault> {
     let mut rope = sample.rope.clone()?;
     for _ in 1..10 {
@@ -199,7 +199,7 @@ fn ten_times(sample: &Sample) -> Result<Rope, Fault> {
     Ok(rope)
 }
 
-/// A rope of each of the first lines.
+/// Returns a rope of each of the first lines.
 fn ropes_of_lines(sample: &Sample, count: usize) -> Result<Vec<Rope>, Fault> {
     let mut ropes = Vec::new(sample.alloc);
     for line in sample.text.as_str().split_inclusive('\n').take(count) {

@@ -3,7 +3,7 @@ use crate::fault::Fault;
 use crate::numbers::Numbers;
 use ropey::Rope;
 
-/// Puts a character in at random places.
+/// Inserts a character at random indices.
 pub fn insert_chars_at_random(rope: &mut Rope, count: usize) -> Result<(), Fault> {
     let mut numbers = Numbers::new();
     for _ in 0..count {
@@ -13,18 +13,18 @@ pub fn insert_chars_at_random(rope: &mut Rope, count: usize) -> Result<(), Fault
     Ok(())
 }
 
-/// Puts a character into the middle, and each next one behind it.
+/// Inserts a character into the middle, and each next one after it.
 pub fn insert_chars_in_a_row(rope: &mut Rope, count: usize) -> Result<(), Fault> {
     let middle = rope.len_chars() / 2;
     for k in 0..count {
-        // Never past the end, where the prover needs the bound.
+        // Never past the end; the prover needs the bound.
         let place = middle.wrapping_add(k).min(rope.len_chars());
         rope.insert_char(place, 'x')?;
     }
     Ok(())
 }
 
-/// Puts a text in at random places.
+/// Inserts a text at random indices.
 pub fn insert_text_at_random(rope: &mut Rope, text: &str, count: usize) -> Result<(), Fault> {
     let mut numbers = Numbers::new();
     for _ in 0..count {
@@ -34,7 +34,7 @@ pub fn insert_text_at_random(rope: &mut Rope, text: &str, count: usize) -> Resul
     Ok(())
 }
 
-/// Puts the first characters of a text in at the end, one after the other.
+/// Appends the first characters of a text, one after the other.
 pub fn type_text(rope: &mut Rope, text: &str, count: usize) -> Result<(), Fault> {
     for c in text.chars().take(count) {
         let end = rope.len_chars();
@@ -43,7 +43,7 @@ pub fn type_text(rope: &mut Rope, text: &str, count: usize) -> Result<(), Fault>
     Ok(())
 }
 
-/// Takes one to ten characters out at random places.
+/// Removes one to ten characters at random indices.
 pub fn remove_at_random(rope: &mut Rope, count: usize) -> Result<(), Fault> {
     let mut numbers = Numbers::new();
     for _ in 0..count {
@@ -57,7 +57,7 @@ pub fn remove_at_random(rope: &mut Rope, count: usize) -> Result<(), Fault> {
     Ok(())
 }
 
-/// Takes so many characters out at random places.
+/// Removes `chars` characters at random indices.
 pub fn remove_long_at_random(rope: &mut Rope, chars: usize, count: usize) -> Result<(), Fault> {
     let mut numbers = Numbers::new();
     for _ in 0..count {
@@ -70,7 +70,7 @@ pub fn remove_long_at_random(rope: &mut Rope, chars: usize, count: usize) -> Res
     Ok(())
 }
 
-/// Takes three characters out at random places, and puts others in there.
+/// Removes three characters at random indices, and inserts others there.
 pub fn replace_at_random(rope: &mut Rope, count: usize) -> Result<(), Fault> {
     let mut numbers = Numbers::new();
     for _ in 0..count {
@@ -84,8 +84,7 @@ pub fn replace_at_random(rope: &mut Rope, count: usize) -> Result<(), Fault> {
     Ok(())
 }
 
-/// Puts characters in at random places and takes them out again: the text stays, its chunks end
-/// elsewhere.
+/// Inserts characters at random indices and removes them again: the text stays, its chunks change.
 pub fn cut_otherwise(rope: &mut Rope, count: usize) -> Result<(), Fault> {
     let mut numbers = Numbers::new();
     for _ in 0..count {
@@ -99,12 +98,12 @@ pub fn cut_otherwise(rope: &mut Rope, count: usize) -> Result<(), Fault> {
     Ok(())
 }
 
-/// Splits the rope near its middle, and joins the two parts again.
+/// Splits the rope near its middle, and joins the two halves again.
 pub fn split_near_middle(rope: &mut Rope, count: usize) -> Result<(), Fault> {
     let mut numbers = Numbers::new();
     let first = (rope.len_chars() / 2).saturating_sub(500);
     for _ in 0..count {
-        // Never past the end, where the prover needs the bound.
+        // Never past the end; the prover needs the bound.
         let place = first.wrapping_add(numbers.up_to(999)).min(rope.len_chars());
         let back = rope.split_off(place)?;
         rope.append(back)?;
@@ -112,7 +111,7 @@ pub fn split_near_middle(rope: &mut Rope, count: usize) -> Result<(), Fault> {
     Ok(())
 }
 
-/// Splits the rope at random places, and joins the two parts again.
+/// Splits the rope at random indices, and joins the two parts again.
 pub fn split_at_random(rope: &mut Rope, count: usize) -> Result<(), Fault> {
     let mut numbers = Numbers::new();
     for _ in 0..count {
@@ -123,7 +122,7 @@ pub fn split_at_random(rope: &mut Rope, count: usize) -> Result<(), Fault> {
     Ok(())
 }
 
-/// Puts other ropes behind it.
+/// Appends other ropes.
 pub fn append_all(rope: &mut Rope, others: Vec<Rope>) -> Result<(), Fault> {
     for other in others {
         rope.append(other)?;

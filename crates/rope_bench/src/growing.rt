@@ -1,4 +1,4 @@
-//! Ropes of a million bytes to a thousand million.
+//! Ropes of 1 MB to 1 GB.
 use crate::edits::insert_chars_at_random;
 use crate::fault::Fault;
 use crate::keeping::edit_and_keep;
@@ -8,10 +8,10 @@ use ropey::{Rope, RopeBuilder};
 use std::alloc::Global;
 use std::time::CpuClock;
 
-/// The bytes of the prose of which longer texts are made.
+/// The number of bytes of the prose that longer texts repeat.
 const PROSE: usize = 10_000_000;
 
-/// How long a text is.
+/// A length of a text.
 #[derive(Clone, Copy)]
 pub enum Length {
     One,
@@ -24,7 +24,7 @@ pub enum Length {
 pub const LENGTHS: [Length; 4] = [Length::One, Length::Ten, Length::Hundred, Length::Thousand];
 
 impl Length {
-    /// How the names of the workloads on such a text end.
+    /// Returns the end of the names of the workloads on such a text.
     pub fn ending(self) -> &'static str {
         match self {
             Length::One => "/1MB",
@@ -34,7 +34,7 @@ impl Length {
         }
     }
 
-    /// Prose of this length.
+    /// Returns prose of this length.
     pub fn text(self, alloc: Global) -> Result<String, Fault> {
         match self {
             Length::One => Text::Prose.make(alloc, PROSE / 10),
@@ -50,15 +50,14 @@ fn prose_repeated(alloc: Global, count: usize) -> Result<String, Fault> {
     repeated(alloc, prose.as_str(), count)
 }
 
-/// What is done to a rope of a hundred million bytes before the process ends, so that its memory
-/// can be seen.
+/// The treatment of a rope of 100 MB before the process ends, so that its memory can be measured.
 #[derive(Clone, Copy)]
 pub enum Memory {
     /// Nothing.
     Made,
-    /// A million characters are put in at random places.
+    /// Inserts a million characters at random indices.
     Inserted,
-    /// Ten thousand clones are kept, and a character put in behind each.
+    /// Keeps ten thousand clones, and inserts a character after each.
     Cloned,
 }
 
@@ -66,7 +65,7 @@ pub enum Memory {
 pub const MEMORIES: [Memory; 3] = [Memory::Made, Memory::Inserted, Memory::Cloned];
 
 impl Memory {
-    /// Its name.
+    /// Returns its name.
     pub fn name(self) -> &'static str {
         match self {
             Memory::Made => "mem_made",
@@ -75,7 +74,7 @@ impl Memory {
         }
     }
 
-    /// How many edits are done.
+    /// Returns the number of edits.
     fn edits(self) -> usize {
         match self {
             Memory::Made => 0,
@@ -85,7 +84,7 @@ impl Memory {
     }
 }
 
-/// Makes the rope and does it.
+/// Makes the rope and runs the edits.
 pub fn fill<C: CpuClock>(clock: &C, alloc: Global, what: Memory) -> Result<Outcome, Fault> {
     let start = now(clock)?;
     let mut rope = long_rope(alloc)?;
@@ -105,8 +104,7 @@ pub fn fill<C: CpuClock>(clock: &C, alloc: Global, what: Memory) -> Result<Outco
     })
 }
 
-/// A rope of a hundred million bytes. Its text is handed over in parts, so that it takes no memory
-/// of its own.
+/// Returns a rope of 100 MB. Its text is passed in pieces, so that it takes no memory of its own.
 fn long_rope(alloc: Global) -> Result<Rope, Fault> {
     let prose = Text::Prose.make(alloc, PROSE)?;
     let mut builder = RopeBuilder::new(alloc)?;

@@ -1,4 +1,4 @@
-//! Clones that are edited, and clones that are kept so that edits can be undone.
+//! Clones that are edited, and clones that are kept for undo.
 use crate::fault::Fault;
 use crate::measure::{Outcome, mix, now, since, whole};
 use crate::numbers::Numbers;
@@ -7,22 +7,22 @@ use ropey::Rope;
 use std::alloc::Global;
 use std::time::CpuClock;
 
-/// How many clones are made in full.
+/// The number of clones, in full.
 const CLONES: usize = 10_000;
 
-/// What is done with clones.
+/// A workload with clones.
 #[derive(Clone, Copy)]
 pub enum Keeping {
-    /// Each is edited and let go.
+    /// Edits and drops each.
     CloneAndInsert,
-    /// Each is kept, and the rope edited.
+    /// Keeps each, and edits the rope.
     Undo,
-    /// All that were kept are let go.
+    /// Drops all that were kept.
     UndoDrop,
 }
 
 impl Keeping {
-    /// The name of the workload.
+    /// Returns the name of the workload.
     pub fn name(self) -> &'static str {
         match self {
             Keeping::CloneAndInsert => "clone_and_insert",
@@ -32,7 +32,7 @@ impl Keeping {
     }
 }
 
-/// Makes clones, or lets them go.
+/// Makes clones, or drops them.
 pub fn keep<C: CpuClock>(clock: &C, sample: &Sample, what: Keeping) -> Result<Outcome, Fault> {
     let count = sample.operations(CLONES);
     match what {
@@ -64,7 +64,7 @@ fn clone_and_insert<C: CpuClock>(
     })
 }
 
-/// Puts characters in at random places, and gives each rope that was before.
+/// Inserts characters at random indices, and returns each earlier rope.
 pub fn edit_and_keep(alloc: Global, rope: &mut Rope, count: usize) -> Result<Vec<Rope>, Fault> {
     let mut numbers = Numbers::new();
     let mut kept = Vec::new(alloc);

@@ -1,4 +1,4 @@
-//! Look-ups at random places of a rope.
+//! Lookups at random indices of a rope.
 ghost use Rattle.std.specs.Prelude.{ℕ, ◌≤◌};
 
 use crate::fault::Fault;
@@ -9,7 +9,7 @@ use rope_position::{Position, Positions};
 use ropey::Rope;
 use std::time::CpuClock;
 
-/// What is asked for.
+/// A lookup.
 #[derive(Clone, Copy)]
 pub enum LookUp {
     CharToByte,
@@ -31,7 +31,7 @@ pub enum LookUp {
 }
 
 impl LookUp {
-    /// The name of the workload.
+    /// Returns the name of the workload.
     pub fn name(self) -> &'static str {
         match self {
             LookUp::CharToByte => "char_to_byte",
@@ -53,7 +53,7 @@ impl LookUp {
         }
     }
 
-    /// How often it is asked in full.
+    /// Returns the number of lookups, in full.
     fn times(self) -> usize {
         match self {
             LookUp::Line => 100_000,
@@ -61,7 +61,7 @@ impl LookUp {
         }
     }
 
-    /// The answers at so many places, in one number.
+    /// Returns the results at `count` indices, in one number.
     fn answers(self, rope: &Rope, count: usize) -> u64 {
         let bytes = rope.len_bytes();
         let chars = rope.len_chars();
@@ -87,7 +87,7 @@ impl LookUp {
     }
 }
 
-/// Many look-ups of one kind.
+/// Runs many lookups of one kind.
 pub fn look_up<C: CpuClock>(clock: &C, sample: &Sample, what: LookUp) -> Result<Outcome, Fault> {
     let count = sample.operations(what.times());
     match what {
@@ -112,7 +112,7 @@ fn ask<C: CpuClock>(
     })
 }
 
-/// The answers at random places from 0 to `most`.
+/// Returns the sum of the results at random indices from 0 to `most`.
 pub fn sum_of<F: Fn(usize) -> usize>(count: usize, most: usize, answer: F) -> u64
     requires { (i : ℕ) → i ≤ most → F.pre answer i }
 {
@@ -125,7 +125,7 @@ pub fn sum_of<F: Fn(usize) -> usize>(count: usize, most: usize, answer: F) -> u6
     sum
 }
 
-/// The bytes at random places before the end.
+/// Returns the sum of the bytes at random indices before the end.
 fn sum_of_bytes(rope: &Rope, count: usize) -> u64 {
     match rope.len_bytes().checked_sub(1) {
         Some(last) => sum_of(count, last, |i| usize::from(rope.byte(i))),
@@ -133,7 +133,7 @@ fn sum_of_bytes(rope: &Rope, count: usize) -> u64 {
     }
 }
 
-/// The numbers of the characters at random places before the end.
+/// Returns the sum of the scalar values of the characters at random indices before the end.
 fn sum_of_chars(rope: &Rope, count: usize) -> u64 {
     match rope.len_chars().checked_sub(1) {
         Some(last) => sum_of(count, last, |i| u32::from(rope.char(i)) as usize),
@@ -141,7 +141,7 @@ fn sum_of_chars(rope: &Rope, count: usize) -> u64 {
     }
 }
 
-/// The bytes at random places before the end, each taken from its chunk.
+/// Returns the sum of the bytes at random indices before the end, each read from its chunk.
 fn sum_of_bytes_in_chunks(rope: &Rope, count: usize) -> u64 {
     match rope.len_bytes().checked_sub(1) {
         Some(last) => sum_of(count, last, |i| {
@@ -152,12 +152,12 @@ fn sum_of_bytes_in_chunks(rope: &Rope, count: usize) -> u64 {
     }
 }
 
-/// The byte of a chunk at a place, or 0.
+/// Returns the byte of a chunk at an index, or 0.
 pub fn byte_of(chunk: &str, place: usize) -> u8 {
     chunk.as_bytes().get(place).copied().unwrap_or(0)
 }
 
-/// How many chunks begin at the character that is asked for, or before it: all of them.
+/// Returns the number of chunks that begin at the requested character, or before it: all of them.
 fn chunks_at_chars(rope: &Rope, count: usize) -> u64 {
     sum_of(count, rope.len_chars(), |i| {
         let (_, _, before, _) = rope.chunk_at_char(i);
@@ -165,7 +165,8 @@ fn chunks_at_chars(rope: &Rope, count: usize) -> u64 {
     })
 }
 
-/// How many chunks have no more line breaks before them than are asked for: all of them.
+/// Returns the number of chunks with at most the requested number of line breaks before them: all
+/// of them.
 fn chunks_at_line_breaks(rope: &Rope, count: usize) -> u64 {
     sum_of(count, rope.len_lines().saturating_sub(1), |i| {
         let (_, _, _, before) = rope.chunk_at_line_break(i);
@@ -173,7 +174,7 @@ fn chunks_at_line_breaks(rope: &Rope, count: usize) -> u64 {
     })
 }
 
-/// The lengths of random lines.
+/// Mixes the lengths of random lines.
 fn mix_of_lines(rope: &Rope, count: usize) -> u64 {
     let mut numbers = Numbers::new();
     let last = rope.len_lines().saturating_sub(1);
@@ -184,7 +185,7 @@ fn mix_of_lines(rope: &Rope, count: usize) -> u64 {
     sum
 }
 
-/// The positions of random characters.
+/// Mixes the positions of random characters.
 fn mix_of_positions(rope: &Rope, count: usize) -> u64 {
     let mut numbers = Numbers::new();
     let most = rope.len_chars();
@@ -196,7 +197,7 @@ fn mix_of_positions(rope: &Rope, count: usize) -> u64 {
     sum
 }
 
-/// The characters at positions that were asked for before.
+/// Converts positions, looked up before, to characters.
 fn positions_to_chars<C: CpuClock>(
     clock: &C,
     sample: &Sample,

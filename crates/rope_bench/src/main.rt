@@ -1,9 +1,9 @@
 //! Times the public calls of ropes, of each kind: on three texts of ten million bytes, on a rope
-//! that many edits have worn, on a person's own edits, and on texts that grow.
+//! fragmented by many edits, on a person's own edits, and on texts that grow.
 //!
-//! The program in Rust of the folder `benchmarks/ropey` does the same work with the Rust crate
-//! ropey 1.6.1. All checksums of the two are the same, in small and in full: so what this crate's
-//! `stdout` expects, which the gate compares, is confirmed by an independent program.
+//! The Rust program in the folder `benchmarks/ropey` does the same work with the Rust crate ropey
+//! 1.6.1. The two have equal checksums, in small and in full: so an independent program confirms
+//! the output that this crate's `stdout` expects and the gate compares.
 #![tactic(auto)]
 
 mod changing;
@@ -35,7 +35,7 @@ use std::env;
 use std::rt::Env;
 use task::{Mode, Task};
 
-/// What the command line asks for: a mode, and words that pick workloads.
+/// Returns the task of the command line: a mode, and words that select workloads.
 fn task_of<R: Env + AllocGlobal>(rt: &R) -> Result<Task, Fault> {
     let mut words = Vec::new(rt.alloc());
     let mut arguments = env::args(rt)?.skip(1);

@@ -7,27 +7,27 @@ use crate::texts::{lines_of, pieces_of};
 use ropey::{Rope, RopeBuilder};
 use std::time::CpuClock;
 
-/// What ropes are made of.
+/// A workload that makes ropes.
 #[derive(Clone, Copy)]
 pub enum Making {
-    /// The whole text.
+    /// Of the whole text.
     FromStr,
-    /// The whole text, which a builder is handed line by line.
+    /// Of the whole text, line by line with a builder.
     BuilderByLines,
-    /// The whole text, line by line of an iterator.
+    /// Of the whole text, line by line from an iterator.
     FromIter,
-    /// Each of the first lines.
+    /// Of each of the first lines.
     FromStrSmall,
-    /// Each piece of about two thousand bytes.
+    /// Of each piece of about two thousand bytes.
     FromStrPieces,
-    /// Slices of a thousand characters.
+    /// Of slices of a thousand characters.
     FromSlice,
-    /// Slices of about a hundred thousand bytes.
+    /// Of slices of about a hundred thousand bytes.
     FromLongSlice,
 }
 
 impl Making {
-    /// The name of the workload.
+    /// Returns the name of the workload.
     pub fn name(self) -> &'static str {
         match self {
             Making::FromStr => "from_str",
@@ -130,7 +130,7 @@ fn from_pieces<C: CpuClock>(clock: &C, sample: &Sample) -> Result<Outcome, Fault
     })
 }
 
-/// Ropes of slices of so many characters.
+/// Makes ropes of slices of a number of characters.
 fn from_slices<C: CpuClock>(
     clock: &C,
     sample: &Sample,

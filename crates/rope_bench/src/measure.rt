@@ -1,21 +1,21 @@
-//! What is measured of a workload.
+//! Measurements of a workload.
 use crate::fault::Fault;
 use crate::numbers::Fnv;
 use ropey::Rope;
 use std::time::CpuClock;
 
-/// What a run of a workload took and gave.
+/// The cost and result of a run of a workload.
 #[derive(Clone, Copy)]
 pub struct Outcome {
-    /// How many operations were done.
+    /// The number of operations.
     pub operations: usize,
     /// The processor time of all of them, in nanoseconds.
     pub nanos: u64,
-    /// What was read or made, in one number.
+    /// The values read or made, in one number.
     pub checksum: u64,
 }
 
-/// The processor time that this thread has used, in nanoseconds.
+/// Returns the processor time that this thread has used, in nanoseconds.
 pub fn now<C: CpuClock>(clock: &C) -> Result<u64, Fault> {
     let time = clock.thread_cpu_time()?;
     let nanos = u64::from(time.subsec_nanos());
@@ -26,12 +26,12 @@ pub fn now<C: CpuClock>(clock: &C) -> Result<u64, Fault> {
     )
 }
 
-/// The nanoseconds of processor time since then.
+/// Returns the nanoseconds of processor time since `start`.
 pub fn since<C: CpuClock>(clock: &C, start: u64) -> Result<u64, Fault> {
     Ok(now(clock)?.wrapping_sub(start))
 }
 
-/// The four lengths of a rope in one number.
+/// Returns the four lengths of a rope in one number.
 pub fn lens(rope: &Rope) -> u64 {
     let bytes = rope.len_bytes() as u64;
     let chars = rope.len_chars() as u64;
@@ -40,7 +40,7 @@ pub fn lens(rope: &Rope) -> u64 {
     bytes ^ (chars << 1) ^ (lines << 2) ^ (units << 3)
 }
 
-/// The bytes of a rope in one number.
+/// Returns the bytes of a rope in one number.
 fn bytes_sum(rope: &Rope) -> u64 {
     let mut sum = Fnv::new();
     for chunk in rope.chunks() {
@@ -49,12 +49,12 @@ fn bytes_sum(rope: &Rope) -> u64 {
     sum.sum()
 }
 
-/// The bytes and the lengths of a rope in one number.
+/// Returns the bytes and the lengths of a rope in one number.
 pub fn whole(rope: &Rope) -> u64 {
     bytes_sum(rope) ^ lens(rope)
 }
 
-/// A number put behind others.
+/// Appends a number to the sum of others.
 pub fn mix(sum: u64, number: usize) -> u64 {
     sum.wrapping_mul(31).wrapping_add(number as u64)
 }

@@ -1,22 +1,22 @@
-//! Numbers that look random, and sums of what was read.
+//! Pseudorandom numbers, and checksums.
 ghost use Rattle.std.specs.Prelude.{◌≡◌, ◌≤◌, ◌+◌, ◌%◌};
 
 use rope_plain::numbers;
 
-/// The row of numbers that all workloads draw from, each from its start.
+/// The sequence of numbers that all workloads draw from, each from its start.
 #[derive(Drop)]
 pub struct Numbers {
     row: numbers::Numbers,
 }
 
 impl Numbers {
-    /// At the start of the row.
+    /// Returns the start of the sequence.
     pub fn new() -> Numbers {
         let row = numbers::Numbers::new(0x9E37_79B9_7F4A_7C15);
         Numbers { row }
     }
 
-    /// The next number, brought into the range from 0 to `most` by its remainder.
+    /// Returns the next number, reduced to the range from 0 to `most` by its remainder.
     pub fn up_to(&mut self, most: usize) -> usize
         ensures within { result ≤ most }
         ensures drawn { result ≡ self.new.row.state % (most + 1) }
@@ -36,28 +36,28 @@ pub struct Fnv {
 }
 
 impl Fnv {
-    /// The sum of no bytes.
+    /// Returns the sum of no bytes.
     pub fn new() -> Fnv {
         Fnv {
             sum: 0xCBF2_9CE4_8422_2325,
         }
     }
 
-    /// The sum of these bytes.
+    /// Returns the sum of these bytes.
     pub fn of(bytes: &[u8]) -> u64 {
         let mut sum = Fnv::new();
         sum.add(bytes);
         sum.sum()
     }
 
-    /// Takes bytes into the sum.
+    /// Adds bytes to the sum.
     pub fn add(&mut self, bytes: &[u8]) {
         for byte in bytes {
             self.sum = (self.sum ^ u64::from(*byte)).wrapping_mul(0x0100_0000_01B3);
         }
     }
 
-    /// The sum.
+    /// Returns the sum.
     pub fn sum(self) -> u64 {
         self.sum
     }

@@ -7,25 +7,25 @@ use crate::texts::{pieces_of, repeated};
 use ropey::Rope;
 use std::time::CpuClock;
 
-/// What is read or written.
+/// A workload that reads or writes.
 #[derive(Clone, Copy)]
 pub enum Reading {
-    /// The text, read.
+    /// Reads the text.
     Text,
-    /// The text ten times, read.
+    /// Reads the text ten times over.
     LongText,
-    /// Each piece of about two thousand bytes, read.
+    /// Reads each piece of about two thousand bytes.
     Pieces,
-    /// The rope, written to a list of bytes.
+    /// Writes the rope to a vector of bytes.
     WriteTo,
-    /// The rope, copied to a string, as by `to_string` of the Rust crate.
+    /// Copies the rope to a string, as `to_string` of the Rust crate does.
     ToString,
-    /// The same, as by its `String::from`.
+    /// Copies the rope to a string, as `String::from` of the Rust crate does.
     IntoString,
 }
 
 impl Reading {
-    /// The name of the workload.
+    /// Returns the name of the workload.
     pub fn name(self) -> &'static str {
         match self {
             Reading::Text => "from_reader_10MB",

@@ -1,4 +1,4 @@
-//! Runs the workloads that are asked for, and prints a line for each.
+//! Runs the selected workloads, and prints a line for each.
 use crate::editing::Edit;
 use crate::fault::Fault;
 use crate::growing::{LENGTHS, MEMORIES, Memory, fill};
@@ -12,13 +12,13 @@ use crate::workloads::{OF_LENGTHS, OF_LINE_LENGTHS, OF_NONE, OF_TEXTS, OF_WORN, 
 use std::alloc::Global;
 use std::time::CpuClock;
 
-/// How often a workload is timed; the least time counts.
+/// The number of times that a workload is timed; the least time counts.
 const RUNS: usize = 5;
 
-/// How the name of the workload of a person's edits reads.
+/// The name of the workload of a person's edits.
 const TRACE: &str = "trace";
 
-/// Does what the task names.
+/// Runs the task.
 pub fn run<R: CpuClock + Print + Input + AllocGlobal>(
     rt: &R,
     alloc: Global,
@@ -49,14 +49,14 @@ fn run_all<R: CpuClock + Print + Input + AllocGlobal>(
     run_trace(rt, alloc, task)
 }
 
-/// Makes a text and lets it go. The memory of a text that is let go tells the allocator how much to
-/// keep when a rope goes, and so what a rope costs: it is to be the same for all workloads.
+/// Makes a text and drops it. The allocator keeps as much memory when a rope is dropped as the last
+/// text dropped had, which decides the cost of a rope: it must be equal for all workloads.
 fn warm_up(alloc: Global, task: &Task) -> Result<(), Fault> {
     let _ = Text::Prose.make(alloc, task.size().bytes())?;
     Ok(())
 }
 
-/// Workloads, and how their names begin and end.
+/// Workloads, with the beginning and the end of their names.
 #[derive(Clone, Copy)]
 struct Round<'a> {
     start: &'a str,
@@ -72,7 +72,7 @@ impl Round<'_> {
         Ok(format!(in alloc; "{start}{plain}{ending}")?)
     }
 
-    /// Whether any of them is asked for.
+    /// Returns whether any of them is selected.
     fn is_wanted(&self, alloc: Global, task: &Task) -> Result<bool, Fault> {
         for workload in self.workloads {
             let name = self.name_of(alloc, *workload)?;
@@ -83,7 +83,7 @@ impl Round<'_> {
         Ok(false)
     }
 
-    /// Those that are asked for, on one sample.
+    /// Runs the selected ones on one sample.
     fn run<R: CpuClock + Print>(&self, rt: &R, task: &Task, sample: &Sample) -> Result<(), Fault> {
         for workload in self.workloads {
             let name = self.name_of(sample.alloc, *workload)?;
@@ -103,7 +103,7 @@ fn runs(task: &Task) -> usize {
     }
 }
 
-/// The workloads of texts on one of them, which is let go.
+/// Runs the workloads of texts on one of them, which is dropped.
 fn run_on_text<R: CpuClock + Print>(
     rt: &R,
     alloc: Global,
@@ -166,7 +166,7 @@ fn run_portions<R: CpuClock + Print>(rt: &R, alloc: Global, task: &Task) -> Resu
     Ok(())
 }
 
-/// Runs those of these workloads that are asked for, on lines of this length.
+/// Runs the selected workloads on lines of this length.
 fn run_scaled<R: CpuClock + Print>(
     rt: &R,
     alloc: Global,
@@ -182,7 +182,7 @@ fn run_scaled<R: CpuClock + Print>(
     round.run(rt, task, &sample)
 }
 
-/// The edits on standard input, which is read only where they are asked for.
+/// Runs the edits on standard input, which is read only if they are selected.
 fn run_trace<R: CpuClock + Print + Input + AllocGlobal>(
     rt: &R,
     alloc: Global,
@@ -199,7 +199,7 @@ fn run_trace<R: CpuClock + Print + Input + AllocGlobal>(
     show(rt, task, TRACE, best)
 }
 
-/// The fastest of so many replays, of one at the least.
+/// Returns the fastest of `runs` replays, at least one.
 fn best_replay<C: CpuClock>(
     clock: &C,
     alloc: Global,
@@ -214,7 +214,7 @@ fn best_replay<C: CpuClock>(
     Ok(best)
 }
 
-/// Few workloads on prose of each length.
+/// Runs a few workloads on prose of each length.
 fn run_lengths<R: CpuClock + Print>(rt: &R, alloc: Global, task: &Task) -> Result<(), Fault> {
     for length in &LENGTHS {
         let round = Round {
@@ -230,7 +230,7 @@ fn run_lengths<R: CpuClock + Print>(rt: &R, alloc: Global, task: &Task) -> Resul
     Ok(())
 }
 
-/// The ropes whose memory is asked for.
+/// Makes the selected ropes to measure their memory.
 fn run_memories<R: CpuClock + Print>(rt: &R, alloc: Global, task: &Task) -> Result<(), Fault> {
     for memory in &MEMORIES {
         if task.wants(memory.name()) {
@@ -241,7 +241,7 @@ fn run_memories<R: CpuClock + Print>(rt: &R, alloc: Global, task: &Task) -> Resu
     Ok(())
 }
 
-/// Prints name, operations, nanoseconds per operation where they are timed, and checksum.
+/// Prints name, operations, nanoseconds per operation if they are timed, and checksum.
 fn show<R: Print>(rt: &R, task: &Task, name: &str, outcome: Outcome) -> Result<(), Fault> {
     let operations = outcome.operations;
     let checksum = outcome.checksum;

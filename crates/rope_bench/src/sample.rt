@@ -1,29 +1,29 @@
-//! The text and the rope that workloads are done on.
+//! The text and the rope of a workload.
 use crate::edits::insert_chars_at_random;
 use crate::fault::Fault;
 use ropey::Rope;
 use std::alloc::Global;
 
-/// The bytes of a text, at the least.
+/// The minimum number of bytes of a text.
 const BYTES: usize = 10_000_000;
 
-/// How many characters are put into a worn rope.
+/// The number of characters inserted to fragment a rope.
 const WEAR: usize = 200_000;
 
-/// How much smaller texts and numbers of operations are where nothing is timed.
+/// The factor by which texts and numbers of operations are smaller if nothing is timed.
 const SHARE: usize = 100;
 
-/// How much is done.
+/// The size of a workload.
 #[derive(Clone, Copy)]
 pub enum Size {
-    /// As much as is timed.
+    /// The size that is timed.
     Full,
     /// A hundredth of it, to compare checksums.
     Small,
 }
 
 impl Size {
-    /// So many in full, or a hundredth of it.
+    /// Returns `full`, or a hundredth of it.
     pub fn of(self, full: usize) -> usize {
         match self {
             Size::Full => full,
@@ -31,23 +31,23 @@ impl Size {
         }
     }
 
-    /// The bytes of a text, at the least.
+    /// Returns the minimum number of bytes of a text.
     pub fn bytes(self) -> usize {
         self.of(BYTES)
     }
 }
 
-/// What was done to a rope since it was made of its text.
+/// The treatment of a rope since it was made of its text.
 #[derive(Clone, Copy)]
 pub enum Wear {
     /// Nothing.
     New,
-    /// Characters were put in at random places.
+    /// Characters were inserted at random indices.
     Worn,
 }
 
 impl Wear {
-    /// How the names of the workloads on such a rope begin.
+    /// Returns the beginning of the names of the workloads on such a rope.
     pub fn start(self) -> &'static str {
         match self {
             Wear::New => "",
@@ -59,9 +59,9 @@ impl Wear {
 /// A text, and a rope of it.
 #[derive(Drop)]
 pub struct Sample {
-    /// Where memory is taken from.
+    /// The allocator.
     pub alloc: Global,
-    /// The text, before any wear.
+    /// The text, before any edits.
     pub text: String,
     /// A rope of the text.
     pub rope: Rope,
@@ -70,7 +70,7 @@ pub struct Sample {
 }
 
 impl Sample {
-    /// A text and its rope.
+    /// Returns a text and its rope.
     pub fn new(alloc: Global, text: String, size: Size, wear: Wear) -> Result<Sample, Fault> {
         let rope = rope_of(alloc, text.as_str(), size, wear)?;
         Ok(Sample {
@@ -82,17 +82,17 @@ impl Sample {
         })
     }
 
-    /// So many operations, or a hundredth of them.
+    /// Returns `full` operations, or a hundredth of them.
     pub fn operations(&self, full: usize) -> usize {
         self.size.of(full)
     }
 
-    /// Another rope as the sample's, which shares nothing.
+    /// Returns another rope like the sample's, without shared nodes.
     pub fn fresh(&self) -> Result<Rope, Fault> {
         rope_of(self.alloc, self.text.as_str(), self.size, self.wear)
     }
 
-    /// About how many characters so many bytes of the text have.
+    /// Returns the approximate number of characters of `bytes` bytes of the text.
     pub fn chars_of_bytes(&self, bytes: usize) -> usize {
         bytes
             .saturating_mul(self.rope.len_chars())
@@ -101,7 +101,7 @@ impl Sample {
     }
 }
 
-/// A rope of the text, as worn as is asked for.
+/// Returns a rope of the text, fragmented if requested.
 fn rope_of(alloc: Global, text: &str, size: Size, wear: Wear) -> Result<Rope, Fault> {
     let mut rope = Rope::from_str(alloc, text)?;
     if let Wear::Worn = wear {

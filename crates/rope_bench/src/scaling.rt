@@ -1,12 +1,12 @@
-//! Texts by the length of their lines, and edits by how much they insert or remove.
+//! Texts by the length of their lines, and edits by the portion that they insert or remove.
 use crate::fault::Fault;
 use crate::texts::letters;
 use std::alloc::Global;
 
-/// The bytes of the text of each of these workloads.
+/// The number of bytes of the text of each of these workloads.
 pub const BYTES: usize = 3_000_000;
 
-/// How the names of these workloads begin.
+/// The beginning of the names of these workloads.
 pub const START: &str = "scale_";
 
 /// A length of lines, in characters without the line break.
@@ -34,7 +34,7 @@ pub const LINE_LENGTHS: [LineLength; 7] = [
 ];
 
 impl LineLength {
-    /// Returns how the names of the workloads on such lines end.
+    /// Returns the end of the names of the workloads on such lines.
     pub fn ending(self) -> &'static str {
         match self {
             LineLength::One => "/1",
@@ -66,7 +66,7 @@ impl LineLength {
     }
 }
 
-/// How much of a text an edit inserts or removes.
+/// The portion of a text that an edit inserts or removes.
 #[derive(Clone, Copy)]
 pub enum Portion {
     One,
@@ -92,7 +92,7 @@ pub const PORTIONS: [Portion; 7] = [
 ];
 
 impl Portion {
-    /// Returns how the names of the workloads with this portion end.
+    /// Returns the end of the names of the workloads with this portion.
     pub fn ending(self) -> &'static str {
         match self {
             Portion::One => "/1B",
@@ -118,7 +118,7 @@ impl Portion {
         }
     }
 
-    /// Returns how many portions a text of `len` bytes has, at most `most`.
+    /// Returns the number of portions of a text of `len` bytes, at most `most`.
     pub fn count_in(self, len: usize, most: usize) -> usize {
         let count = len.checked_div(self.bytes_of(len));
         count.unwrap_or(0).min(most)

@@ -9,29 +9,29 @@ use ropey::{Rope, RopeSlice};
 use std::marker::PhantomData;
 use std::time::CpuClock;
 
-/// How many screens are drawn in full.
+/// The number of screens, in full.
 const SCREENS: usize = 10_000;
 
-/// How many lines a screen has.
+/// The number of lines of a screen.
 const LINES: usize = 50;
 
-/// What is drawn, and which way.
+/// A workload that draws screens.
 #[derive(Clone, Copy)]
 pub enum Screen {
-    /// The bytes of its chunks.
+    /// Reads the bytes of its chunks.
     Bytes,
-    /// The bytes of its chunks, from line to line backward.
+    /// Reads the bytes of its chunks, from line to line backward.
     BytesBack,
-    /// The lengths of its chunks.
+    /// Reads the lengths of its chunks.
     Lengths,
-    /// Its characters.
+    /// Reads its characters.
     Chars,
-    /// Its text, at once where it lies in one piece.
+    /// Reads its text, at once if it is one piece.
     AsStr,
 }
 
 impl Screen {
-    /// The name of the workload.
+    /// Returns the name of the workload.
     pub fn name(self) -> &'static str {
         match self {
             Screen::Bytes => "redraw_50_lines",
@@ -83,7 +83,7 @@ trait Drawing {
     fn lines(lines: &mut Lines<'_>) -> u64;
 }
 
-/// What is read of a line, in one number.
+/// The reading of a line, in one number.
 trait Reading {
     fn line(line: RopeSlice<'_>) -> u64;
 }
@@ -153,7 +153,7 @@ impl Reading for OfText {
     }
 }
 
-/// The sum of the bytes of a text.
+/// Returns the sum of the bytes of a text.
 fn bytes_of_text(text: &str) -> u64 {
     let mut sum: u64 = 0;
     for byte in text.bytes() {
@@ -162,7 +162,7 @@ fn bytes_of_text(text: &str) -> u64 {
     sum
 }
 
-/// The sum of the bytes of a line, chunk by chunk.
+/// Returns the sum of the bytes of a line, chunk by chunk.
 fn bytes_of_line(line: RopeSlice<'_>) -> u64 {
     let mut sum: u64 = 0;
     for chunk in line.chunks() {

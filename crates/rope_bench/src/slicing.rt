@@ -1,4 +1,4 @@
-//! Slices of a thousand characters at random places.
+//! Slices of a thousand characters at random indices.
 use crate::cursors::{mix_of_lines, sum_of_bytes, sum_of_chars};
 use crate::fault::Fault;
 use crate::measure::{Outcome, mix, now, since};
@@ -8,26 +8,26 @@ use ropey::{Rope, RopeSlice};
 use std::alloc::Global;
 use std::time::CpuClock;
 
-/// How many slices are taken in full.
+/// The number of slices, in full.
 const SLICES: usize = 100_000;
 
-/// How many characters a slice has.
+/// The number of characters of a slice.
 const CHARS: usize = 1_000;
 
-/// What is done with slices.
+/// A workload with slices.
 #[derive(Clone, Copy)]
 pub enum Slicing {
     /// The length of a line of each.
     Line,
-    /// Three look-ups in each: from characters to bytes and code units, from bytes to lines.
+    /// Three lookups in each: from characters to bytes and code units, from bytes to lines.
     LookUps,
     /// The five other conversions in each.
     Conversions,
     /// A byte and a character of each.
     Items,
-    /// The chunks that hold a byte, a character and a line break of each.
+    /// The chunks of a byte, a character and a line break of each.
     ChunksAt,
-    /// The items behind a byte, a character and a line of each.
+    /// The items after a byte, a character and a line of each.
     CursorsAt,
     /// The sum of its characters.
     Chars,
@@ -39,16 +39,16 @@ pub enum Slicing {
     OfSlice,
     /// The slice by the bytes at which it starts and ends.
     OfBytes,
-    /// A string of each, as by `to_string` of the Rust crate.
+    /// A string of each, as `to_string` of the Rust crate makes it.
     ToString,
-    /// The same, as by its `String::from`.
+    /// A string of each, as `String::from` of the Rust crate makes it.
     IntoString,
-    /// A string of each, or the text itself where it lies in one piece.
+    /// A string of each, or the text itself if it is one piece.
     ToCow,
 }
 
 impl Slicing {
-    /// The name of the workload.
+    /// Returns the name of the workload.
     pub fn name(self) -> &'static str {
         match self {
             Slicing::Line => "slice_and_line",
@@ -68,7 +68,7 @@ impl Slicing {
         }
     }
 
-    /// What is read of a slice, put behind what was read of others.
+    /// Appends the values read from a slice to those of others.
     fn add(self, sum: u64, slice: RopeSlice<'_>, numbers: &mut Numbers) -> u64 {
         match self {
             Slicing::Line => line(sum, slice, numbers),
@@ -112,12 +112,12 @@ fn read<C: CpuClock>(
     })
 }
 
-/// The last place at which a slice begins.
+/// Returns the last index at which a slice begins.
 fn most_of(rope: &Rope) -> usize {
     rope.len_chars().saturating_sub(CHARS.saturating_add(1))
 }
 
-/// A slice from a random place on.
+/// Returns a slice from a random index on.
 fn slice_at<'a>(rope: &'a Rope, numbers: &mut Numbers, most: usize) -> Option<RopeSlice<'a>> {
     let start = numbers.up_to(most);
     rope.get_slice(start..start.saturating_add(CHARS))
@@ -163,8 +163,8 @@ fn byte_and_char(sum: u64, slice: RopeSlice<'_>, numbers: &mut Numbers) -> u64 {
     mix(mix(sum, usize::from(byte.unwrap_or(0))), number)
 }
 
-/// Whether each chunk begins at the place that is asked for, or before it: which chunk it is
-/// depends on where chunks end.
+/// Tests that each chunk begins at the requested index, or before it: which chunk it is depends on
+/// the cuts.
 fn chunks_at(sum: u64, slice: RopeSlice<'_>, numbers: &mut Numbers) -> u64 {
     let byte = numbers.up_to(slice.len_bytes());
     let (_, bytes, _, _) = slice.chunk_at_byte(byte);
@@ -189,7 +189,7 @@ fn cursors_at(sum: u64, slice: RopeSlice<'_>, numbers: &mut Numbers) -> u64 {
     mix(mix(mix(sum, byte), number), length)
 }
 
-/// The length of a slice of the slice.
+/// Returns the length of a slice of the slice.
 fn part(sum: u64, slice: RopeSlice<'_>, numbers: &mut Numbers) -> u64 {
     let start = numbers.up_to(500);
     match slice.get_slice(start..start.saturating_add(400)) {
@@ -198,7 +198,7 @@ fn part(sum: u64, slice: RopeSlice<'_>, numbers: &mut Numbers) -> u64 {
     }
 }
 
-/// Slices by bytes, whose places were asked for before.
+/// Takes slices by bytes, whose offsets were looked up before.
 fn byte_slices<C: CpuClock>(clock: &C, sample: &Sample, count: usize) -> Result<Outcome, Fault> {
     let ranges = byte_ranges(sample, count)?;
     let start = now(clock)?;
@@ -211,7 +211,7 @@ fn byte_slices<C: CpuClock>(clock: &C, sample: &Sample, count: usize) -> Result<
     })
 }
 
-/// The bytes from which and to which a slice goes.
+/// Returns the byte offsets of the start and end of a slice.
 fn byte_range(rope: &Rope, start: usize) -> (usize, usize) {
     let to = start.saturating_add(CHARS).min(rope.len_chars());
     let from = start.min(to);
@@ -238,7 +238,7 @@ fn mix_of_ranges(rope: &Rope, ranges: &[(usize, usize)]) -> u64 {
     sum
 }
 
-/// Strings of slices.
+/// Makes strings of slices.
 fn strings<C: CpuClock>(clock: &C, sample: &Sample, count: usize) -> Result<Outcome, Fault> {
     let start = now(clock)?;
     let checksum = mix_of_strings(sample.alloc, &sample.rope, count)?;
@@ -263,7 +263,7 @@ fn mix_of_strings(alloc: Global, rope: &Rope, count: usize) -> Result<u64, Fault
     Ok(sum)
 }
 
-/// Strings of slices, made only where a slice lies in several pieces.
+/// Makes strings of slices, only if a slice has several pieces.
 fn texts<C: CpuClock>(clock: &C, sample: &Sample, count: usize) -> Result<Outcome, Fault> {
     let start = now(clock)?;
     let checksum = mix_of_texts(sample.alloc, &sample.rope, count)?;
@@ -288,7 +288,7 @@ fn mix_of_texts(alloc: Global, rope: &Rope, count: usize) -> Result<u64, Fault> 
     Ok(sum)
 }
 
-/// The length of a text and its last byte.
+/// Mixes the length of a text and its last byte.
 fn mix_of_text(sum: u64, text: &str) -> u64 {
     let last = text.as_bytes().last().copied().unwrap_or(0);
     mix(mix(sum, text.len()), usize::from(last))

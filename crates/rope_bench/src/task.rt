@@ -1,22 +1,22 @@
-//! What the command line asks for.
+//! The command line.
 use crate::fault::Fault;
 use crate::sample::Size;
 
-/// What is done, and how much of it.
+/// The kind and the size of the work.
 #[derive(Clone, Copy)]
 pub enum Mode {
     /// Every workload in small, without times: no argument.
     Small,
     /// Workloads in full, with times: `time`.
     Full,
-    /// Few workloads on texts of a million bytes to a thousand million: `grow`.
+    /// A few workloads on texts of 1 MB to 1 GB: `grow`.
     Growth,
-    /// A rope that is made so that the process shows its memory: `mem`.
+    /// A rope whose memory can be measured from outside: `mem`.
     Memory,
 }
 
 impl Mode {
-    /// The mode of the first word.
+    /// Returns the mode of the first word.
     pub fn of_word(word: &str) -> Result<Mode, Fault> {
         match word {
             "time" => Ok(Mode::Full),
@@ -27,23 +27,23 @@ impl Mode {
     }
 }
 
-/// What is to be done, and for which workloads.
+/// The work and the selected workloads.
 #[derive(Drop)]
 pub struct Task {
-    /// What is done, and whether times are printed.
+    /// The kind of work, and whether times are printed.
     pub mode: Mode,
-    /// A workload is done where its name has one of these in it, or where there is none. Behind a
-    /// `=` stands a whole name.
+    /// A workload is selected if its name contains one of these words, or if there is none. A word
+    /// after a `=` is a whole name.
     pub words: Vec<String>,
 }
 
 impl Task {
-    /// Whether a workload of this name is asked for.
+    /// Returns whether a workload of this name is selected.
     pub fn wants(&self, name: &str) -> bool {
         self.words.is_empty() || self.words.iter().any(|word| names(word.as_str(), name))
     }
 
-    /// How much is done of a workload.
+    /// Returns the size of a workload.
     pub fn size(&self) -> Size {
         match self.mode {
             Mode::Small => Size::Small,
@@ -52,7 +52,7 @@ impl Task {
     }
 }
 
-/// Whether a word of the command line names a workload.
+/// Returns whether a word of the command line selects a workload.
 fn names(word: &str, name: &str) -> bool {
     match word.strip_prefix('=') {
         Some(whole) => name == whole,

@@ -1,13 +1,13 @@
-//! The texts that are worked on: the same on every run.
+//! The texts of the workloads, equal in every run.
 use crate::fault::Fault;
 use crate::numbers::Numbers;
 use std::alloc::Global;
 use std::mem;
 
-/// After so many columns a line of prose or of the mixed text ends.
+/// The number of columns after which a line of prose or of the mixed text ends.
 const COLUMNS: usize = 40;
 
-/// What stands behind a word of source code.
+/// The characters after a word of source code.
 const MARKS: [char; 8] = [' ', ' ', ' ', '.', ',', ';', '(', ')'];
 
 /// A kind of text.
@@ -25,7 +25,7 @@ pub enum Text {
 pub const TEXTS: [Text; 3] = [Text::Prose, Text::Mixed, Text::Code];
 
 impl Text {
-    /// How the names of the workloads on it end.
+    /// Returns the end of the names of the workloads on it.
     pub fn ending(self) -> &'static str {
         match self {
             Text::Prose => "/P",
@@ -34,7 +34,7 @@ impl Text {
         }
     }
 
-    /// The text, of at least so many bytes.
+    /// Returns the text, of at least `least` bytes.
     pub fn make(self, alloc: Global, least: usize) -> Result<String, Fault> {
         match self {
             Text::Prose => prose(alloc, least),
@@ -44,7 +44,7 @@ impl Text {
     }
 }
 
-/// Prose of at least so many bytes.
+/// Returns prose of at least `least` bytes.
 fn prose(alloc: Global, least: usize) -> Result<String, Fault> {
     let mut numbers = Numbers::new();
     let mut text = String::new(alloc);
@@ -67,7 +67,7 @@ fn prose(alloc: Global, least: usize) -> Result<String, Fault> {
     Ok(text)
 }
 
-/// A word of so many letters.
+/// Appends a word of `letters` letters.
 fn push_word(text: &mut String, numbers: &mut Numbers, letters: usize) -> Result<(), Fault> {
     for _ in 0..letters {
         text.push(letter(numbers, 'a', 26))?;
@@ -75,7 +75,7 @@ fn push_word(text: &mut String, numbers: &mut Numbers, letters: usize) -> Result
     Ok(())
 }
 
-/// One of so many characters from `first` on.
+/// Draws one of `count` characters from `first` on.
 fn letter(numbers: &mut Numbers, first: char, count: u32) -> char {
     let number = numbers.up_to((count.saturating_sub(1)) as usize);
     let code = u32::from(first).wrapping_add((number & 0xFF) as u32);
@@ -99,7 +99,7 @@ pub fn letters(alloc: Global, width: usize, bytes: usize) -> Result<String, Faul
     Ok(text)
 }
 
-/// A mixed text of at least so many bytes.
+/// Returns a mixed text of at least `least` bytes.
 fn mixed(alloc: Global, least: usize) -> Result<String, Fault> {
     let mut numbers = Numbers::new();
     let mut text = String::new(alloc);
@@ -118,7 +118,7 @@ fn mixed(alloc: Global, least: usize) -> Result<String, Fault> {
     Ok(text)
 }
 
-/// A letter of one of five ranges.
+/// Draws a letter of one of five ranges.
 fn mixed_letter(numbers: &mut Numbers) -> char {
     match numbers.up_to(7) {
         4 => letter(numbers, '\u{E0}', 24),
@@ -129,7 +129,7 @@ fn mixed_letter(numbers: &mut Numbers) -> char {
     }
 }
 
-/// The end of a line of the mixed text.
+/// Draws the end of a line of the mixed text.
 fn line_end(numbers: &mut Numbers) -> &'static str {
     match numbers.up_to(7) {
         0 => "\u{2028}",
@@ -139,7 +139,7 @@ fn line_end(numbers: &mut Numbers) -> &'static str {
     }
 }
 
-/// Source code of at least so many bytes.
+/// Returns source code of at least `least` bytes.
 fn code(alloc: Global, least: usize) -> Result<String, Fault> {
     let mut numbers = Numbers::new();
     let mut text = String::new(alloc);
@@ -155,7 +155,7 @@ fn code(alloc: Global, least: usize) -> Result<String, Fault> {
     Ok(text)
 }
 
-/// Tabs, and words with a mark behind each.
+/// Appends tabs, and words with a mark after each.
 fn push_statement(text: &mut String, numbers: &mut Numbers) -> Result<(), Fault> {
     for _ in 0..numbers.up_to(4) {
         text.push('\t')?;
@@ -168,7 +168,7 @@ fn push_statement(text: &mut String, numbers: &mut Numbers) -> Result<(), Fault>
     Ok(())
 }
 
-/// The text so many times.
+/// Returns the text, `count` times.
 pub fn repeated(alloc: Global, text: &str, count: usize) -> Result<String, Fault> {
     let mut all = String::new(alloc);
     all.reserve(text.len().saturating_mul(count))?;
@@ -178,7 +178,7 @@ pub fn repeated(alloc: Global, text: &str, count: usize) -> Result<String, Fault
     Ok(all)
 }
 
-/// Pieces of whole lines of at least so many bytes each. The rest is left out.
+/// Returns pieces of whole lines of at least `least` bytes each, without the rest.
 pub fn pieces_of(alloc: Global, text: &str, least: usize) -> Result<Vec<String>, Fault> {
     let mut pieces = Vec::new(alloc);
     let mut piece = String::new(alloc);
@@ -191,7 +191,7 @@ pub fn pieces_of(alloc: Global, text: &str, least: usize) -> Result<Vec<String>,
     Ok(pieces)
 }
 
-/// As many of the first lines as have so many bytes together.
+/// Returns the first lines that together have `least` bytes.
 pub fn first_lines(alloc: Global, text: &str, least: usize) -> Result<String, Fault> {
     let mut piece = String::new(alloc);
     for line in text.split_inclusive('\n') {
@@ -203,7 +203,7 @@ pub fn first_lines(alloc: Global, text: &str, least: usize) -> Result<String, Fa
     Ok(piece)
 }
 
-/// The first lines of a text, each with its LF, which the last may lack.
+/// Returns the first lines of a text, each with its LF, which the last may lack.
 pub fn lines_of(alloc: Global, text: &str, most: usize) -> Result<Vec<&str>, Fault> {
     let mut lines = Vec::new(alloc);
     for line in text.split_inclusive('\n').take(most) {

@@ -1,8 +1,8 @@
 //! A person's own edits of a text, in order, on standard input.
 //!
-//! A line is an edit: the character at which it is done, how many characters are taken out there,
-//! and in quotes the one that is put in, if any. A backslash stands before a quote and a backslash,
-//! and \n, \t and \r are written so.
+//! A line is an edit: the index of a character, the number of characters to remove there, and in
+//! quotes the character to insert, if any. A quote and a backslash are escaped by a backslash, and
+//! \n, \t and \r have their usual meaning.
 use crate::fault::Fault;
 use crate::measure::{Outcome, now, since, whole};
 use ropey::Rope;
@@ -10,7 +10,7 @@ use std::alloc::Global;
 use std::io;
 use std::time::CpuClock;
 
-/// Characters taken out, and one put in.
+/// A number of characters to remove, and one to insert.
 #[derive(Clone, Copy)]
 pub struct Keystroke {
     place: usize,
@@ -18,7 +18,7 @@ pub struct Keystroke {
     typed: Option<char>,
 }
 
-/// The edits on standard input. A line that is none is left out.
+/// Returns the edits on standard input, without invalid lines.
 pub fn keystrokes<R: Input + AllocGlobal>(rt: &R) -> Result<Vec<Keystroke>, Fault> {
     let text = io::read_to_string(rt.alloc(), rt.reader())?;
     let mut edits = Vec::new(rt.alloc());
@@ -30,7 +30,7 @@ pub fn keystrokes<R: Input + AllocGlobal>(rt: &R) -> Result<Vec<Keystroke>, Faul
     Ok(edits)
 }
 
-/// The edit on a line, if there is one.
+/// Returns the edit on a line, if there is one.
 fn keystroke_of(line: &str) -> Option<Keystroke> {
     let (place, rest) = line.split_once(' ')?;
     let (removed, quoted) = rest.split_once(' ')?;
@@ -41,7 +41,7 @@ fn keystroke_of(line: &str) -> Option<Keystroke> {
     })
 }
 
-/// The first character of a text in quotes.
+/// Returns the first character of a text in quotes.
 fn first_of(quoted: &str) -> Option<char> {
     let mut chars = quoted.chars().skip(1);
     match chars.next() {
@@ -51,7 +51,7 @@ fn first_of(quoted: &str) -> Option<char> {
     }
 }
 
-/// What a character behind a backslash stands for.
+/// Returns the character that an escape stands for.
 fn unescaped(c: char) -> char {
     match c {
         'n' => '\n',
@@ -61,7 +61,7 @@ fn unescaped(c: char) -> char {
     }
 }
 
-/// Does the edits to an empty rope.
+/// Makes the edits in an empty rope.
 pub fn replay<C: CpuClock>(
     clock: &C,
     alloc: Global,

@@ -1,4 +1,4 @@
-//! The workloads by name, and the lists of those that each kind of sample runs.
+//! The workloads by name, and the lists of those for each kind of sample.
 use crate::changing::{Changing, change};
 use crate::comparing::{Comparing, compare};
 use crate::counting::{Counting, count};
@@ -17,10 +17,10 @@ use crate::slicing::{Slicing, slice};
 use rope_text::LineBreaks;
 use std::time::CpuClock;
 
-/// What is timed.
+/// A workload that is timed.
 #[derive(Clone, Copy)]
 pub enum Workload {
-    /// Nothing: the text itself in one number.
+    /// No call: the text itself in one number.
     Text,
     Make(Making),
     Read(Reading),
@@ -35,7 +35,7 @@ pub enum Workload {
     Count(Counting),
 }
 
-/// Those that are done on each of the texts, in order.
+/// The workloads on each of the texts, in order.
 pub const OF_TEXTS: [Workload; 104] = [
     Workload::Text,
     Workload::Make(Making::FromStr),
@@ -143,7 +143,7 @@ pub const OF_TEXTS: [Workload; 104] = [
     Workload::Count(Counting::Slice),
 ];
 
-/// Those that are done on a worn rope of each of the texts, in order.
+/// The workloads on a fragmented rope of each of the texts, in order.
 pub const OF_WORN: [Workload; 14] = [
     Workload::Edit(Edit::InsertCharRandom),
     Workload::Edit(Edit::RemoveRandom),
@@ -161,10 +161,10 @@ pub const OF_WORN: [Workload; 14] = [
     Workload::Read(Reading::IntoString),
 ];
 
-/// That of no text.
+/// The workload without a text.
 pub const OF_NONE: [Workload; 1] = [Workload::Edit(Edit::GrowFromEmpty)];
 
-/// Those that are done on texts of several lengths, in order.
+/// The workloads on texts of several lengths, in order.
 pub const OF_LENGTHS: [Workload; 4] = [
     Workload::Make(Making::FromStr),
     Workload::LookUp(LookUp::Byte),
@@ -172,7 +172,7 @@ pub const OF_LENGTHS: [Workload; 4] = [
     Workload::Edit(Edit::InsertCharRandom),
 ];
 
-/// Those that are done on lines of several lengths, in order.
+/// The workloads on lines of several lengths, in order.
 pub const OF_LINE_LENGTHS: [Workload; 11] = [
     Workload::Walk(Walk::Lines),
     Workload::Walk(Walk::LinesBack),
@@ -188,7 +188,7 @@ pub const OF_LINE_LENGTHS: [Workload; 11] = [
 ];
 
 impl Workload {
-    /// Its name.
+    /// Returns its name.
     pub fn name(self) -> &'static str {
         match self {
             Workload::Text => "text",
@@ -206,7 +206,7 @@ impl Workload {
         }
     }
 
-    /// The fastest of so many runs, of one at the least.
+    /// Returns the fastest of `runs` runs, at least one.
     pub fn best_of<C: CpuClock>(
         self,
         clock: &C,
@@ -221,7 +221,7 @@ impl Workload {
         Ok(best)
     }
 
-    /// Does it once.
+    /// Runs it once.
     fn run<C: CpuClock>(self, clock: &C, sample: &Sample) -> Result<Outcome, Fault> {
         match self {
             Workload::Text => Ok(Outcome {

@@ -1,4 +1,4 @@
--- Each turn passes one replacement.
+-- Each iteration passes one replacement.
 use Rattle.std.proofs.Common.{length}
 use Rattle.rope_bench.proofs.changing.sum_of_edits.Given as goal
 

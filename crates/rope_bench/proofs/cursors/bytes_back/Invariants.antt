@@ -1,4 +1,4 @@
--- Each turn takes one of the items behind.
+-- Each iteration takes one of the items before the cursor.
 use Rattle.std.proofs.Common.{length}
 use Rattle.rope_text.specs.Sides.{behind}
 use Rattle.rope_bench.proofs.cursors.bytes_back.Given as goal

@@ -1,4 +1,4 @@
--- Each turn takes one of the items ahead.
+-- Each iteration takes one of the items ahead.
 use Rattle.std.proofs.Common.{length}
 use Rattle.rope_text.specs.Sides.{ahead}
 use Rattle.rope_bench.proofs.screens.bytes_of_line.Given as goal
