@@ -48,7 +48,7 @@ fn random_side(numbers: &mut Numbers) -> Side {
     }
 }
 
-/// The index after cuts that are in order and apart.
+/// Returns the index after cuts that are ordered and disjoint.
 fn moved(index: usize, side: Side, cuts: &[Cut]) -> usize {
     let mut added: usize = 0;
     let mut removed: usize = 0;

@@ -112,7 +112,7 @@ fn copy(to: &mut Vec<char>, text: &[char], start: usize, end: usize) -> Result<(
     Ok(())
 }
 
-/// A change of up to three ranges of a text, and the text after it.
+/// Returns a change of up to three ranges of a text, and the text after it.
 fn random_change(
     alloc: Global,
     numbers: &mut Numbers,

@@ -44,7 +44,7 @@ edit_of result old r rope after error idle text e ok refusal same still breaks_a
     (edits_by result (map content old) r (content rope) (content after) error idle text (read_at old r rope e) ok refusal (same_content result rope after same)
     (λ z fine. let s = still z fine in (s.0, ap content s.1)) breaks_are kept.content)
 
--- one more rope
+-- another rope is added
 pushed : (old new : List RopeView) (rope : RopeView) → new ≡ old ++ rope ∷ [] → map content new ≡ map content old ++ content rope ∷ []
 pushed old new rope e = ap (map content) e ∙ map-append content old (rope ∷ [])
 

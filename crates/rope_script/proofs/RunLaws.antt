@@ -50,7 +50,7 @@ one : (x : Content) → IsRope x → All IsRope (x ∷ [])
 one x p zero d h = p
 one x p (suc i) d h = absurd (omega arith)
 
--- one more rope
+-- another rope is added
 added_keep : (old : List Content) (rope : Content) → All IsRope old → IsRope rope → All IsRope (old ++ rope ∷ [])
 added_keep old rope k p = All-append IsRope old (rope ∷ []) k (one rope p)
 

@@ -1,4 +1,4 @@
--- Bytes that are being handed to a hasher.
+-- Bytes that are being written to a hasher.
 use Rattle.std.proofs.Common.{◌≡◌, ℕ, ◌<◌, List, [], ◌++◌, length, take, fold, sym, ap, ◌∙◌, append_assoc, arith}
 use Rattle.std.proofs.lemmas.List.{append-nil, length-take-le}
 use Rattle.rope_text.specs.Compare.{blocks}
@@ -9,7 +9,7 @@ module _ {H : Type 0} (write : H → List ℕ → H) where
   pub record IsFeeding (start now : H) (all left : List ℕ) : Type 0 where
     pub writes : (rest : List ℕ) → fold write now (blocks (left ++ rest)) ≡ fold write start (blocks (all ++ rest))
 
-  -- a whole block is handed over
+  -- a whole block is written
   pub feed_block : (start now : H) (all left front back : List ℕ) → IsFeeding start now all left → left ≡ front ++ back → length front ≡ 256 → IsFeeding start (write now front) all back
   feed_block start now all left front back f e size = record {
     writes = λ rest.
@@ -17,7 +17,7 @@ module _ {H : Type 0} (write : H → List ℕ → H) where
         ∙ f.writes rest;
   }
 
-  -- a block is handed over that was held in part
+  -- a partly filled block is written
   pub held_block : (now : H) (old block front back bytes : List ℕ) (held : ℕ) → length block ≡ 256 → block ≡ take held old ++ front → bytes ≡ front ++ back
       → IsFeeding now (write now block) (take held old ++ bytes) back
   held_block now old block front back bytes held size e f = record {

@@ -188,7 +188,7 @@ module _ (t : Tree) (nodes : List Tree) (at : ℕ) (leaf : List ℕ) (start : �
   pub start_way : byte_len (concat (place_at t.leaves leaf start).before) ≡ start
   start_way = ap (λ p. byte_len (concat p.before)) way_is ∙ sym w.start_is
 
-  -- the node beside it
+  -- the adjacent node
   leaf_at : (i : ℕ) (x : List ℕ) → i < length nodes → ((d : Tree) → (get_or nodes i d).leaves ≡ x ∷ []) → x ≡ get_or t.leaves ((w.index - at) + i) []
   leaf_at i x within own =
       let e : x ∷ [] ≡ get_or t.leaves ((w.index - at) + i) [] ∷ [] = sym (own t) ∙ w.list.each i t within in

@@ -12,7 +12,7 @@ use Rattle.rope_tree.specs.declared.search.Unit.{Unit}
 use Rattle.rope_tree.specs.declared.search.Unit.TheVariants.{Byte, Char, CodeUnit, LineBreak}
 use Rattle.rope_text.specs.Sides.{Sides}
 
--- a chunk and the three numbers are those that the look-up found
+-- a chunk and three numbers are the result of the lookup
 pub record IsFoundChunk (found : FoundChunk) (chunk : List ℕ) (bytes chars count : ℕ) : Type 0 where
   pub text_is : chunk ≡ found.text
   pub bytes_are : bytes ≡ found.bytes

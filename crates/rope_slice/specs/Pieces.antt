@@ -1,4 +1,4 @@
--- The leaves whose bytes are still to come.
+-- The leaves ahead whose bytes are not passed yet.
 use Rattle.std.specs.Prelude.{ℕ, Option, None, Some, List, []}
 use Rattle.rope_slice.specs.Path.{Place}
 

@@ -41,7 +41,7 @@ pub record IsWay (t : Tree) (nodes : List Tree) (at : ℕ) (leaf : List ℕ) (st
 abbrev pub AreListed : List Tree → Option (Bor (List TextInfo)) → Type 0
 AreListed nodes totals = IsSomeAnd totals (λ sums. IsInnerOf (tree_over nodes) nodes sums.now)
 
--- a path whose list, if it has one, comes with its totals
+-- a path whose list, if it has one, has its totals
 pub record IsListedWay (t : Tree) (nodes : List Tree) (totals : Option (Bor (List TextInfo))) (at : ℕ) (leaf : List ℕ) (start : ℕ) : Type 0 where
   pub way : IsWay t nodes at leaf start
   pub listed : 0 < length nodes → AreListed nodes totals

@@ -166,7 +166,7 @@ impl<'a> Path<'a> {
     }
 
     /// Returns whether the next leaf, or backward the previous one, is in the same list and has a
-    /// line break. The list's totals tell, so no leaf is read.
+    /// line break, by the list's totals, without reading a leaf.
     #[inline(always)]
     fn has_break_beside(&self, is_backward: bool) -> bool {
         let Some(totals) = self.totals else {

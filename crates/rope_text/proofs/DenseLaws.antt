@@ -1,4 +1,4 @@
--- Adjacent chunks of which no two are both short.
+-- Adjacent chunks, no two of them both short.
 use Rattle.std.proofs.Common.{◌≡◌, ℕ, ◌+◌, ◌*◌, ◌/◌, ◌≤◌, List, [], ◌∷◌, ◌++◌, length, min, refl, arith, All}
 use Rattle.std.specs.List.{concat}
 use Rattle.std.proofs.lemmas.List.Elements.{All-head, All-tail}

@@ -46,7 +46,7 @@ module _ {A X : Type 0} (view : A → X) where
   pub goes_ahead : (s t : Sides X) (x : A) → StepsAhead view s (Some x) t → GoesAhead view s (Some x) t
   goes_ahead s t x steps = record { on = λ _. (tt, tt, one_less s.is_backward s t x refl steps); keeps = tt; rests = λ _. tt; moves = steps }
 
-  -- a step keeps the items
+  -- a step doesn't change the items
   pub all_items-right : (s t : Sides X) (x : A) → GoesRight view s (Some x) t → all_items t ≡ all_items s
   all_items-right s t x g = rw (g.0, g.1) (append_assoc s.left (view x ∷ []) t.right)
 

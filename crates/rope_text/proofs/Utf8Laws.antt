@@ -219,7 +219,7 @@ block_more bs at n size from over fine block = record { none = go }
         (λ (after : n ≤ k). (let j : ℕ = k - 3 in let same : k ≡ suc (suc (suc j)) = omega arith in ap (fault_at (0 ∷ 0 ∷ 0 ∷ bs)) same ∙ shifted j ∙ block j (omega arith) (omega arith)))
         (cases_lt k n)
 
--- bytes of which none is above ASCII
+-- bytes without one above ASCII
 pub ascii_block : (bs : List ℕ) (i : ℕ) → count_by (λ k. leb 128 (get_or bs k 0)) (range_with_len i 64) ≡ 0 → (k : ℕ) → i ≤ k → k < i + 61 → fault_at bs k ≡ false
 ascii_block bs i none k from to =
     let low : (j : ℕ) → i ≤ j → j < i + 64 → get_or bs j 0 < 128 = λ j p q. leb-false 128 (get_or bs j 0) (at_none (λ m. leb 128 (get_or bs m 0)) i 64 none j p q) in

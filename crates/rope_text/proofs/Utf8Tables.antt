@@ -93,7 +93,7 @@ seen_at in_long z h hz hh = go in_long
     go true = (and_parts (seen true z h) (seen false z h) both).0
     go false = (and_parts (seen true z h) (seen false z h) both).1
 
--- only the upper half of the second byte tells
+-- only the upper half of the second byte matters
 upper_half : (in_long : Bool) (z b : ℕ) → pair_fault in_long z b ≡ pair_fault in_long z (b / 16 * 16)
 upper_half in_long z b =
     let p : leb 128 b ≡ leb 128 (b / 16 * 16) = grind (arith, nat_tests) in

@@ -1,4 +1,4 @@
--- Chunks of which any two adjacent ones have more than half the maximum bytes of one.
+-- Chunks such that any two adjacent ones have more than half the maximum bytes of one.
 use Rattle.std.specs.Prelude.{ℕ, ◌+◌, ◌≤◌, List, [], ◌∷◌, ⊤}
 use Rattle.rope_text.specs.declared.TheConstants.{MIN_TWO_LEAVES_BYTES}
 use Rattle.rope_text.specs.Text.{byte_len}

@@ -64,7 +64,8 @@ fn ones<const N: usize>(x: Simd<u8, N>, y: Simd<u8, N>, mark: Mark) -> Simd<u8, 
     marks.select(Simd::splat(1), Simd::splat(0))
 }
 
-// Never inlined, so that loops over blocks without such bytes stay short.
+// Returns the mask of Unicode's line breaks. Never inlined, so that loops over blocks without
+// multibyte ones stay short.
 #[inline(never)]
 fn unicode_mask(bytes: &[u8], at: usize) -> u64
     requires { at + 34 ≤ length bytes.now }
@@ -146,8 +147,8 @@ pub(crate) fn masks_of(bytes: &[u8], at: usize, breaks: LineBreaks) -> Masks
     }
 }
 
-// Never inlined: with the masks of all three sets side by side, the compiler would assemble the
-// chosen one bit by bit.
+// Returns the mask of the line breaks LF, or LF and CR. Never inlined: with the masks of all three
+// sets side by side, the compiler would assemble the chosen one bit by bit.
 #[inline(never)]
 fn mask_apart<const HAS_CR: bool>(bytes: &[u8], at: usize) -> u64
     requires { (at + 32) + ahead (Mark.Break (lf_or_cr_lf HAS_CR)) ≤ length bytes.now }

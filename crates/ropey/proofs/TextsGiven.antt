@@ -90,7 +90,7 @@ module _ {S A : Type 0} (steps : S → Option A → S → Type 0) (bytes : A →
         subst (λ o. IsRefusal o e) error is,
       )
 
-  -- the end comes
+  -- the end is reached
   pub yields_all : (from t u : S) (old : Building) (text : List ℕ)
       → Appended from t old → steps t None u
       → text ≡ old.text → YieldsAll steps bytes from u text

@@ -1,4 +1,4 @@
--- The tests come in the order of the errors, and past them only memory refuses.
+-- The tests are in the order of the errors; after them only `OutOfMemory` is possible.
 use Rattle.std.proofs.Common.{rules, ◌≡◌, ◌<◌, ◌∙◌, ℕ, List, length, sym, refl, arith, subst, ap, Some, true, false}
 use Rattle.std.proofs.lemmas.Bool.Decides.{nat_tests}
 use Rattle.std.specs.Prelude.{◌==◌}
@@ -95,7 +95,7 @@ returns-in_err-insert_at-clause-kept c = (search rules, search rules, rope_of c.
 pub returns-clause-kept : goal.returns-clause-kept
 returns-clause-kept c = (search rules, search rules, rope_of _ c.in_ok-self-inside.ensures.tree)
 
--- a text that isn't empty goes into the tree
+-- a text that isn't empty is inserted into the tree
 pub returns-in_err-insert_at-clause-outside : goal.returns-in_err-insert_at-clause-outside
 returns-in_err-insert_at-clause-outside c = λ none. some_chars c.args.text.now c.utf8.text (sym c.is_empty.ensures ∙ c.if-is_empty.false) none
 
