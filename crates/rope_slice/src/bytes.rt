@@ -83,6 +83,7 @@ impl<'a> RopeSlice<'a> {
     }
 
     /// Returns a cursor as `bytes_at` does, or `None` exactly if the index is past `len_bytes()`.
+    /// `RopeSlice::from("ab").get_bytes_at(3)` is `None`.
     pub fn get_bytes_at(&self, byte_idx: usize) -> Option<Bytes<'a>>
         ensures { GivesWithin byte_idx (byte_len (text_of self.now)) result
             (λ bytes. bytes ≡ at_place (encode_utf8_all (text_of self.now)) byte_idx) }
@@ -116,6 +117,7 @@ impl<'a> Bytes<'a> {
     }
 
     /// Moves back over one byte and returns it, or returns `None` at that end.
+    /// `RopeSlice::from("ab").bytes_at(1).prev()` is `Some(b'a')`.
     #[inline(always)]
     pub fn prev(&mut self) -> Option<u8>
         ensures { StepsBack (λ x. x) self.old result self.new }
@@ -127,7 +129,8 @@ impl<'a> Bytes<'a> {
         }
     }
 
-    /// Reverses the direction: `next` and `prev` change roles.
+    /// Reverses the direction: `next` and `prev` change roles. After it, `next` of
+    /// `RopeSlice::from("ab").bytes_at(1)` is `Some(b'a')`.
     pub fn reverse(&mut self)
         ensures { self.new ≡ turned self.old }
     {
@@ -135,6 +138,7 @@ impl<'a> Bytes<'a> {
     }
 
     /// Returns the cursor with its direction reversed.
+    /// `RopeSlice::from("ab").bytes_at(1).reversed().next()` is `Some(b'a')`.
     pub fn reversed(mut self) -> Bytes<'a>
         ensures { result ≡ turned self.entry }
     {

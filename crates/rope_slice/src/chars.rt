@@ -81,6 +81,7 @@ impl<'a> RopeSlice<'a> {
     }
 
     /// Returns a cursor as `chars_at` does, or `None` exactly if the index is past `len_chars()`.
+    /// `RopeSlice::from("éa").get_chars_at(3)` is `None`.
     pub fn get_chars_at(&self, char_idx: usize) -> Option<Chars<'a>>
         ensures { GivesWithin char_idx (length (text_of self.now)) result
             (λ chars. chars ≡ at_place (text_of self.now) char_idx) }
@@ -139,6 +140,7 @@ impl<'a> Chars<'a> {
     }
 
     /// Moves back over one character and returns it, or returns `None` at that end.
+    /// `RopeSlice::from("éa").chars_at(1).prev()` is `Some('é')`.
     #[inline(always)]
     pub fn prev(&mut self) -> Option<char>
         ensures { StepsBack (λ x. x) self.old result self.new }
@@ -150,7 +152,8 @@ impl<'a> Chars<'a> {
         }
     }
 
-    /// Reverses the direction: `next` and `prev` change roles.
+    /// Reverses the direction: `next` and `prev` change roles. After it, `next` of
+    /// `RopeSlice::from("éa").chars_at(1)` is `Some('é')`.
     pub fn reverse(&mut self)
         ensures { self.new ≡ turned self.old }
     {
@@ -158,6 +161,7 @@ impl<'a> Chars<'a> {
     }
 
     /// Returns the cursor with its direction reversed.
+    /// `RopeSlice::from("éa").chars_at(1).reversed().next()` is `Some('é')`.
     pub fn reversed(mut self) -> Chars<'a>
         ensures { result ≡ turned self.entry }
     {

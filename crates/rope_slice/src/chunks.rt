@@ -139,7 +139,7 @@ impl<'a> RopeSlice<'a> {
     }
 
     /// Returns a cursor as `chunks_at_byte` does, or `None` exactly if the index is past
-    /// `len_bytes()`.
+    /// `len_bytes()`. `RopeSlice::from("ab").get_chunks_at_byte(3)` is `None`.
     pub fn get_chunks_at_byte(&self, byte_idx: usize) -> Option<ChunksAt<'a>>
         ensures { GivesWithin byte_idx (byte_len (text_of self.now)) result
             (StandsBefore (content_of self.now)
@@ -149,7 +149,7 @@ impl<'a> RopeSlice<'a> {
     }
 
     /// Returns a cursor as `chunks_at_char` does, or `None` exactly if the index is past
-    /// `len_chars()`.
+    /// `len_chars()`. `RopeSlice::from("ab").get_chunks_at_char(3)` is `None`.
     pub fn get_chunks_at_char(&self, char_idx: usize) -> Option<ChunksAt<'a>>
         ensures { GivesWithin char_idx (length (text_of self.now)) result
             (StandsBefore (content_of self.now)
@@ -159,7 +159,7 @@ impl<'a> RopeSlice<'a> {
     }
 
     /// Returns a cursor as `chunks_at_line_break` does, or `None` exactly if the index is past
-    /// `len_lines()`.
+    /// `len_lines()`. `RopeSlice::from("ab").get_chunks_at_line_break(2)` is `None`.
     pub fn get_chunks_at_line_break(&self, line_break_idx: usize) -> Option<ChunksAt<'a>>
         ensures { GivesWithin line_break_idx (line_count (breaks_of self.now) (text_of self.now))
             result (StandsBefore (content_of self.now)
@@ -187,6 +187,7 @@ impl<'a> Chunks<'a> {
     }
 
     /// Moves back over one chunk and returns it, or returns `None` at that end.
+    /// `RopeSlice::from("ab").chunks_at_byte(2).0.prev()` is `Some("ab")`.
     #[inline(always)]
     pub fn prev(&mut self) -> Option<&'a str>
         ensures { StepsBack (λ x. chars x.now) self.old result self.new }
@@ -194,7 +195,8 @@ impl<'a> Chunks<'a> {
         self.step(!self.is_backward)
     }
 
-    /// Reverses the direction: `next` and `prev` change roles.
+    /// Reverses the direction: `next` and `prev` change roles. After it, `next` of
+    /// `RopeSlice::from("ab").chunks_at_byte(2).0` is `Some("ab")`.
     pub fn reverse(&mut self)
         ensures { self.new ≡ turned self.old }
     {
@@ -202,6 +204,7 @@ impl<'a> Chunks<'a> {
     }
 
     /// Returns the cursor with its direction reversed.
+    /// `RopeSlice::from("ab").chunks_at_byte(2).0.reversed().next()` is `Some("ab")`.
     pub fn reversed(mut self) -> Chunks<'a>
         ensures { result ≡ turned self.entry }
     {

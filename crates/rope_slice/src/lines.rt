@@ -176,6 +176,7 @@ impl<'a> RopeSlice<'a> {
 
     /// Returns the line `line_idx`, with its line break, or `None` exactly if the index is
     /// `len_lines()` or more. Costs a few lookups, and counts the line.
+    /// `RopeSlice::from("ab").get_line(1)` is `None`.
     pub fn get_line(&self, line_idx: usize) -> Option<RopeSlice<'a>>
         ensures { MatchOption result (line_count (breaks_of self.now) (text_of self.now) ≤ line_idx)
             (λ slice. (line_idx < line_count (breaks_of self.now) (text_of self.now))
@@ -233,6 +234,7 @@ impl<'a> RopeSlice<'a> {
     }
 
     /// Returns a cursor as `lines_at` does, or `None` exactly if the index is past `len_lines()`.
+    /// `RopeSlice::from("ab").get_lines_at(2)` is `None`.
     pub fn get_lines_at(&self, line_idx: usize) -> Option<Lines<'a>>
         ensures { GivesWithin line_idx (line_count (breaks_of self.now) (text_of self.now)) result
             (λ lines. lines ≡ at_place (lines_of (content_of self.now)) line_idx) }
@@ -270,6 +272,7 @@ impl<'a> Lines<'a> {
     }
 
     /// Moves back over one line and returns it, or returns `None` at that end.
+    /// `RopeSlice::from("a\nb").lines_at(1).prev()` is the line `"a\n"`.
     #[inline(always)]
     pub fn prev(&mut self) -> Option<RopeSlice<'a>>
         ensures { StepsBack (λ x. content_of x) self.old result self.new }
@@ -277,7 +280,8 @@ impl<'a> Lines<'a> {
         self.step(!self.is_backward)
     }
 
-    /// Reverses the direction: `next` and `prev` change roles.
+    /// Reverses the direction: `next` and `prev` change roles. After it, `next` of
+    /// `RopeSlice::from("a\nb").lines_at(1)` is the line `"a\n"`.
     pub fn reverse(&mut self)
         ensures { self.new ≡ turned self.old }
     {
@@ -285,6 +289,7 @@ impl<'a> Lines<'a> {
     }
 
     /// Returns the cursor with its direction reversed.
+    /// `RopeSlice::from("a\nb").lines_at(1).reversed().next()` is the line `"a\n"`.
     pub fn reversed(mut self) -> Lines<'a>
         ensures { result ≡ turned self.entry }
     {

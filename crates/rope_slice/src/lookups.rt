@@ -189,6 +189,7 @@ impl<'a> RopeSlice<'a> {
     }
 
     /// Returns the byte `byte_idx`, or `None` exactly if the index is `len_bytes()` or more.
+    /// `RopeSlice::from("ab").get_byte(2)` is `None`.
     pub fn get_byte(&self, byte_idx: usize) -> Option<u8>
         ensures { result ≡ slice_get (encode_utf8_all (text_of self.now)) byte_idx }
     {
@@ -197,6 +198,7 @@ impl<'a> RopeSlice<'a> {
     }
 
     /// Returns the character `char_idx`, or `None` exactly if the index is `len_chars()` or more.
+    /// `RopeSlice::from("ab").get_char(2)` is `None`.
     pub fn get_char(&self, char_idx: usize) -> Option<char>
         ensures { result ≡ slice_get (text_of self.now) char_idx }
     {
@@ -205,6 +207,8 @@ impl<'a> RopeSlice<'a> {
     }
 
     /// Returns a chunk as `chunk_at_byte` does, for any index.
+    ///
+    /// `RopeSlice::from("ab").try_chunk_at_byte(3)` is `Err(Error::ByteIndexOutOfBounds(3, 2))`.
     ///
     /// # Errors
     ///
@@ -222,7 +226,7 @@ impl<'a> RopeSlice<'a> {
     }
 
     /// Returns a chunk as `chunk_at_char` does, or `None` exactly if the index is past
-    /// `len_chars()`.
+    /// `len_chars()`. `RopeSlice::from("ab").get_chunk_at_char(3)` is `None`.
     pub fn get_chunk_at_char(&self, char_idx: usize) -> Option<ChunkAt<'a>>
         ensures { GivesWithin char_idx (length (text_of self.now)) result
             (ShowsChunk (content_of self.now) (chunk_index_at_char (chunks_of self.now) char_idx)) }
@@ -231,7 +235,7 @@ impl<'a> RopeSlice<'a> {
     }
 
     /// Returns a chunk as `chunk_at_line_break` does, or `None` exactly if the index is past
-    /// `len_lines()`.
+    /// `len_lines()`. `RopeSlice::from("ab").get_chunk_at_line_break(2)` is `None`.
     pub fn get_chunk_at_line_break(&self, line_break_idx: usize) -> Option<ChunkAt<'a>>
         ensures { GivesWithin line_break_idx (line_count (breaks_of self.now) (text_of self.now))
             result (ShowsChunk (content_of self.now)
@@ -303,6 +307,8 @@ impl<'a> RopeSlice<'a> {
 
     /// Converts as `byte_to_char` does, for any index.
     ///
+    /// `RopeSlice::from("éa").try_byte_to_char(4)` is `Err(Error::ByteIndexOutOfBounds(4, 3))`.
+    ///
     /// # Errors
     ///
     /// `ByteIndexOutOfBounds`, with the index and the number of bytes, exactly if the index is past
@@ -328,6 +334,8 @@ impl<'a> RopeSlice<'a> {
 
     /// Converts as `byte_to_line` does, for any index.
     ///
+    /// `RopeSlice::from("éa").try_byte_to_line(4)` is `Err(Error::ByteIndexOutOfBounds(4, 3))`.
+    ///
     /// # Errors
     ///
     /// `ByteIndexOutOfBounds`, with the index and the number of bytes, exactly if the index is past
@@ -351,6 +359,8 @@ impl<'a> RopeSlice<'a> {
     }
 
     /// Converts as `char_to_byte` does, for any index.
+    ///
+    /// `RopeSlice::from("éa").try_char_to_byte(3)` is `Err(Error::CharIndexOutOfBounds(3, 2))`.
     ///
     /// # Errors
     ///
@@ -376,6 +386,8 @@ impl<'a> RopeSlice<'a> {
 
     /// Converts as `char_to_line` does, for any index.
     ///
+    /// `RopeSlice::from("éa").try_char_to_line(3)` is `Err(Error::CharIndexOutOfBounds(3, 2))`.
+    ///
     /// # Errors
     ///
     /// `CharIndexOutOfBounds`, with the index and the number of characters, exactly if the index is
@@ -399,6 +411,8 @@ impl<'a> RopeSlice<'a> {
     }
 
     /// Converts as `char_to_utf16_cu` does, for any index.
+    ///
+    /// `RopeSlice::from("éa").try_char_to_utf16_cu(3)` is `Err(Error::CharIndexOutOfBounds(3, 2))`.
     ///
     /// # Errors
     ///
@@ -425,6 +439,9 @@ impl<'a> RopeSlice<'a> {
 
     /// Converts as `utf16_cu_to_char` does, for any index.
     ///
+    /// `RopeSlice::from("😀a").try_utf16_cu_to_char(4)` is
+    /// `Err(Error::Utf16IndexOutOfBounds(4, 3))`.
+    ///
     /// # Errors
     ///
     /// `Utf16IndexOutOfBounds`, with the index and the number of code units, exactly if the index
@@ -448,6 +465,8 @@ impl<'a> RopeSlice<'a> {
     }
 
     /// Converts as `line_to_byte` does, for any index.
+    ///
+    /// `RopeSlice::from("é\na").try_line_to_byte(3)` is `Err(Error::LineIndexOutOfBounds(3, 2))`.
     ///
     /// # Errors
     ///
@@ -473,6 +492,8 @@ impl<'a> RopeSlice<'a> {
     }
 
     /// Converts as `line_to_char` does, for any index.
+    ///
+    /// `RopeSlice::from("é\na").try_line_to_char(3)` is `Err(Error::LineIndexOutOfBounds(3, 2))`.
     ///
     /// # Errors
     ///

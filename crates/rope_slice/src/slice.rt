@@ -85,6 +85,7 @@ impl<'a> RopeSlice<'a> {
     }
 
     /// Returns the set of line breaks by which lines are counted.
+    /// `RopeSlice::from("a").line_breaks()` is `LineBreaks::Unicode`.
     pub fn line_breaks(&self) -> LineBreaks
         ensures { result ≡ breaks_of self.now }
     {
@@ -224,7 +225,7 @@ impl<'a> RopeSlice<'a> {
     }
 
     /// Returns a slice as `slice` does, or `None` exactly if a bound is past `len_chars()` or the
-    /// range's start is past its end.
+    /// range's start is past its end. `RopeSlice::from("abcd").get_slice(1..9)` is `None`.
     #[inline(always)]
     pub fn get_slice<R: IndexRange>(&self, range: R) -> Option<RopeSlice<'a>>
         ensures { GivesChars (content_of self.now) (R.given_start range) (R.given_end range)
@@ -235,6 +236,9 @@ impl<'a> RopeSlice<'a> {
     }
 
     /// Returns a slice as `byte_slice` does, for any range.
+    ///
+    /// `RopeSlice::from("éa").try_byte_slice(1..2)` is
+    /// `Err(Error::ByteRangeNotCharBoundary(Some(1), Some(2)))`.
     ///
     /// # Errors
     ///
@@ -265,7 +269,7 @@ impl<'a> RopeSlice<'a> {
     }
 
     /// Returns a slice as `byte_slice` does, or `None` exactly if `try_byte_slice` returns an
-    /// error.
+    /// error. `RopeSlice::from("éa").get_byte_slice(1..2)` is `None`.
     #[inline(always)]
     pub fn get_byte_slice<R: IndexRange>(&self, range: R) -> Option<RopeSlice<'a>>
         ensures { GivesBytes (content_of self.now) (R.given_start range) (R.given_end range)

@@ -31,6 +31,8 @@ impl Rope {
     /// line breaks, in at most (n + 980) / 981 chunks for n bytes. Takes time and memory in
     /// proportion to the text.
     ///
+    /// `Rope::from_reader(alloc, b"ab".as_slice())?` is a rope of `"ab"`.
+    ///
     /// # Errors
     ///
     /// `Read`, with the reader's error, at once if a read fails, also an interrupted one.
@@ -48,6 +50,8 @@ impl Rope {
 
     /// Reads a rope as `from_reader` does, from a source that is borrowed. Clears the source's mark
     /// first.
+    ///
+    /// With `Watched::new(b"ab".as_slice())` as the source it returns a rope of `"ab"`.
     ///
     /// # Errors
     ///
@@ -71,6 +75,8 @@ impl Rope {
 
     /// Reads a rope as `from_reader` does, with the given set of line breaks.
     ///
+    /// `Rope::from_reader_with(alloc, b"a\rb".as_slice(), LineBreaks::Lf)?.len_lines()` is 1.
+    ///
     /// # Errors
     ///
     /// `Read`, `InvalidData` and `Rope`, as for `from_reader`.
@@ -88,6 +94,8 @@ impl Rope {
     }
 
     /// Reads a rope as `from_watched` does, with the given set of line breaks.
+    ///
+    /// With `Watched::new(b"a\rb".as_slice())` and `LineBreaks::Lf` it returns a rope of one line.
     ///
     /// # Errors
     ///
@@ -114,6 +122,8 @@ impl Rope {
     /// Writes the whole text as UTF-8, chunk by chunk, without flushing. Takes no memory of its
     /// own.
     ///
+    /// With the text `"ab"`, `write_to(&mut bytes)` appends `b"ab"` to a vector.
+    ///
     /// # Errors
     ///
     /// A write's error, at once, also an interrupted one; of the kind `WriteZero` if the writer
@@ -124,6 +134,8 @@ impl Rope {
 
     /// Writes the text as `write_to` does, to a sink that is borrowed. Clears the sink's mark
     /// first.
+    ///
+    /// With the text `"ab"` and `Watched::new(Vec::new(alloc))`, the vector then has `b"ab"`.
     ///
     /// # Errors
     ///

@@ -97,7 +97,8 @@ impl Rope {
         self.whole().chunk_at_line_break(line_break_idx)
     }
 
-    /// Returns the byte `byte_idx`, or `None` exactly if the index is `len_bytes()` or more.
+    /// Returns the byte `byte_idx`, or `None` exactly if the index is `len_bytes()` or more. With
+    /// the text `"ab"`, `get_byte(2)` is `None`.
     pub fn get_byte(&self, byte_idx: usize) -> Option<u8>
         ensures { result ≡ slice_get (encode_utf8_all self.now.text) byte_idx }
     {
@@ -108,6 +109,7 @@ impl Rope {
     }
 
     /// Returns the character `char_idx`, or `None` exactly if the index is `len_chars()` or more.
+    /// With the text `"ab"`, `get_char(2)` is `None`.
     pub fn get_char(&self, char_idx: usize) -> Option<char>
         ensures { result ≡ slice_get self.now.text char_idx }
     {
@@ -118,7 +120,7 @@ impl Rope {
     }
 
     /// Returns a chunk as `chunk_at_byte` does, or `None` exactly if the index is past
-    /// `len_bytes()`.
+    /// `len_bytes()`. With the text `"ab"`, `get_chunk_at_byte(3)` is `None`.
     pub fn get_chunk_at_byte(&self, byte_idx: usize) -> Option<ChunkAt<'_>>
         ensures { GivesWithin byte_idx (byte_len self.now.text) result
             (ShowsChunk (content self.now) (chunk_index_at_byte self.now.chunks byte_idx)) }
@@ -127,7 +129,7 @@ impl Rope {
     }
 
     /// Returns a chunk as `chunk_at_char` does, or `None` exactly if the index is past
-    /// `len_chars()`.
+    /// `len_chars()`. With the text `"ab"`, `get_chunk_at_char(3)` is `None`.
     pub fn get_chunk_at_char(&self, char_idx: usize) -> Option<ChunkAt<'_>>
         ensures { GivesWithin char_idx (length self.now.text) result
             (ShowsChunk (content self.now) (chunk_index_at_char self.now.chunks char_idx)) }
@@ -136,7 +138,7 @@ impl Rope {
     }
 
     /// Returns a chunk as `chunk_at_line_break` does, or `None` exactly if the index is past
-    /// `len_lines()`.
+    /// `len_lines()`. With the text `"ab"`, `get_chunk_at_line_break(2)` is `None`.
     pub fn get_chunk_at_line_break(&self, line_break_idx: usize) -> Option<ChunkAt<'_>>
         ensures { GivesWithin line_break_idx (line_count self.now.breaks self.now.text) result
             (ShowsChunk (content self.now)
@@ -158,6 +160,8 @@ impl Rope {
     }
 
     /// Converts as `byte_to_char` does, for any index.
+    ///
+    /// With the text `"éa"`, `try_byte_to_char(4)` is `Err(Error::ByteIndexOutOfBounds(4, 3))`.
     ///
     /// # Errors
     ///
@@ -184,6 +188,8 @@ impl Rope {
 
     /// Converts as `byte_to_line` does, for any index.
     ///
+    /// With the text `"éa"`, `try_byte_to_line(4)` is `Err(Error::ByteIndexOutOfBounds(4, 3))`.
+    ///
     /// # Errors
     ///
     /// `ByteIndexOutOfBounds`, with the index and the number of bytes, exactly if the index is past
@@ -207,6 +213,8 @@ impl Rope {
     }
 
     /// Converts as `char_to_byte` does, for any index.
+    ///
+    /// With the text `"éa"`, `try_char_to_byte(3)` is `Err(Error::CharIndexOutOfBounds(3, 2))`.
     ///
     /// # Errors
     ///
@@ -233,6 +241,8 @@ impl Rope {
 
     /// Converts as `char_to_line` does, for any index.
     ///
+    /// With the text `"éa"`, `try_char_to_line(3)` is `Err(Error::CharIndexOutOfBounds(3, 2))`.
+    ///
     /// # Errors
     ///
     /// `CharIndexOutOfBounds`, with the index and the number of characters, exactly if the index is
@@ -256,6 +266,8 @@ impl Rope {
     }
 
     /// Converts as `char_to_utf16_cu` does, for any index.
+    ///
+    /// With the text `"éa"`, `try_char_to_utf16_cu(3)` is `Err(Error::CharIndexOutOfBounds(3, 2))`.
     ///
     /// # Errors
     ///
@@ -282,6 +294,9 @@ impl Rope {
 
     /// Converts as `utf16_cu_to_char` does, for any index.
     ///
+    /// With the text `"😀a"`, `try_utf16_cu_to_char(4)` is
+    /// `Err(Error::Utf16IndexOutOfBounds(4, 3))`.
+    ///
     /// # Errors
     ///
     /// `Utf16IndexOutOfBounds`, with the index and the number of code units, exactly if the index
@@ -305,6 +320,8 @@ impl Rope {
     }
 
     /// Converts as `line_to_byte` does, for any index.
+    ///
+    /// With the text `"é\na"`, `try_line_to_byte(3)` is `Err(Error::LineIndexOutOfBounds(3, 2))`.
     ///
     /// # Errors
     ///
@@ -333,6 +350,8 @@ impl Rope {
     }
 
     /// Converts as `line_to_char` does, for any index.
+    ///
+    /// With the text `"é\na"`, `try_line_to_char(3)` is `Err(Error::LineIndexOutOfBounds(3, 2))`.
     ///
     /// # Errors
     ///
@@ -413,7 +432,8 @@ impl Rope {
 
     /// Converts as `byte_to_char` does, under the same precondition, and sets `steps`: at most one
     /// node a level entered, at most five totals compared in each inner node on the path, none
-    /// made.
+    /// made. With the text `"éa"`, `byte_to_char_counted(1, &mut steps)` is 0, and `steps.nodes` is
+    /// 1.
     pub fn byte_to_char_counted(&self, byte_idx: usize, steps: &mut Steps) -> usize
         requires { byte_idx ≤ byte_len self.now.text }
         ensures value { result ≡ byte_to_char self.now.text byte_idx }
@@ -424,7 +444,8 @@ impl Rope {
 
     /// Converts as `byte_to_line` does, under the same precondition, and sets `steps`: at most one
     /// node a level entered, at most five totals compared in each inner node on the path, none
-    /// made.
+    /// made. With the text `"é\na"`, `byte_to_line_counted(3, &mut steps)` is 1, and `steps.nodes`
+    /// is 1.
     pub fn byte_to_line_counted(&self, byte_idx: usize, steps: &mut Steps) -> usize
         requires { byte_idx ≤ byte_len self.now.text }
         ensures value { result ≡ byte_to_line self.now.breaks self.now.text byte_idx }
@@ -435,7 +456,8 @@ impl Rope {
 
     /// Converts as `char_to_byte` does, under the same precondition, and sets `steps`: at most one
     /// node a level entered, at most five totals compared in each inner node on the path, none
-    /// made.
+    /// made. With the text `"éa"`, `char_to_byte_counted(1, &mut steps)` is 2, and `steps.nodes` is
+    /// 1.
     pub fn char_to_byte_counted(&self, char_idx: usize, steps: &mut Steps) -> usize
         requires { char_idx ≤ length self.now.text }
         ensures value { result ≡ char_to_byte self.now.text char_idx }
@@ -446,7 +468,8 @@ impl Rope {
 
     /// Converts as `char_to_line` does, under the same precondition, and sets `steps`: at most one
     /// node a level entered, at most five totals compared in each inner node on the path, none
-    /// made.
+    /// made. With the text `"é\na"`, `char_to_line_counted(2, &mut steps)` is 1, and `steps.nodes`
+    /// is 1.
     pub fn char_to_line_counted(&self, char_idx: usize, steps: &mut Steps) -> usize
         requires { char_idx ≤ length self.now.text }
         ensures value { result ≡ char_to_line self.now.breaks self.now.text char_idx }
@@ -457,7 +480,8 @@ impl Rope {
 
     /// Converts as `char_to_utf16_cu` does, under the same precondition, and sets `steps`: at most
     /// one node a level entered, at most five totals compared in each inner node on the path, none
-    /// made.
+    /// made. With the text `"😀a"`, `char_to_utf16_cu_counted(1, &mut steps)` is 2, and
+    /// `steps.nodes` is 1.
     pub fn char_to_utf16_cu_counted(&self, char_idx: usize, steps: &mut Steps) -> usize
         requires { char_idx ≤ length self.now.text }
         ensures value { result ≡ char_to_utf16 self.now.text char_idx }
@@ -468,7 +492,8 @@ impl Rope {
 
     /// Converts as `utf16_cu_to_char` does, under the same precondition, and sets `steps`: at most
     /// one node a level entered, at most five totals compared in each inner node on the path, none
-    /// made.
+    /// made. With the text `"😀a"`, `utf16_cu_to_char_counted(1, &mut steps)` is 0, and
+    /// `steps.nodes` is 1.
     pub fn utf16_cu_to_char_counted(&self, utf16_cu_idx: usize, steps: &mut Steps) -> usize
         requires { utf16_cu_idx ≤ utf16_len self.now.text }
         ensures value { result ≡ utf16_to_char self.now.text utf16_cu_idx }
@@ -479,7 +504,8 @@ impl Rope {
 
     /// Converts as `line_to_byte` does, under the same precondition, and sets `steps`: at most one
     /// node a level entered, at most five totals compared in each inner node on the path, none
-    /// made.
+    /// made. With the text `"é\na"`, `line_to_byte_counted(1, &mut steps)` is 3, and `steps.nodes`
+    /// is 1.
     pub fn line_to_byte_counted(&self, line_idx: usize, steps: &mut Steps) -> usize
         requires { line_idx ≤ line_count self.now.breaks self.now.text }
         ensures value { result ≡ line_to_byte self.now.breaks self.now.text line_idx }
@@ -491,7 +517,8 @@ impl Rope {
 
     /// Converts as `line_to_char` does, under the same precondition, and sets `steps`: at most one
     /// node a level entered, at most five totals compared in each inner node on the path, none
-    /// made.
+    /// made. With the text `"é\na"`, `line_to_char_counted(1, &mut steps)` is 2, and `steps.nodes`
+    /// is 1.
     pub fn line_to_char_counted(&self, line_idx: usize, steps: &mut Steps) -> usize
         requires { line_idx ≤ line_count self.now.breaks self.now.text }
         ensures value { result ≡ line_to_char self.now.breaks self.now.text line_idx }
@@ -503,6 +530,7 @@ impl Rope {
 
     /// Returns the byte as `byte` does, under the same precondition, and sets `steps`: exactly one
     /// node a level entered, one to five totals compared in each inner node on the path, none made.
+    /// With the text `"ab"`, `byte_counted(1, &mut steps)` is `b'b'`, and `steps.nodes` is 1.
     pub fn byte_counted(&self, byte_idx: usize, steps: &mut Steps) -> u8
         requires { byte_idx < byte_len self.now.text }
         ensures value { slice_get (encode_utf8_all self.now.text) byte_idx ≡ Some result }
@@ -514,7 +542,7 @@ impl Rope {
 
     /// Returns the character as `char` does, under the same precondition, and sets `steps`: exactly
     /// one node a level entered, one to five totals compared in each inner node on the path, none
-    /// made.
+    /// made. With the text `"éa"`, `char_counted(1, &mut steps)` is `'a'`, and `steps.nodes` is 1.
     pub fn char_counted(&self, char_idx: usize, steps: &mut Steps) -> char
         requires { char_idx < length self.now.text }
         ensures value { slice_get self.now.text char_idx ≡ Some result }

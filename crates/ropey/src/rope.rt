@@ -66,6 +66,8 @@ impl Rope {
     /// Returns a rope of the empty text, with Unicode's line breaks, in no chunk. Takes memory for
     /// one node.
     ///
+    /// `Rope::new(alloc)?.len_bytes()` is 0.
+    ///
     /// # Errors
     ///
     /// `OutOfMemory`.
@@ -97,6 +99,8 @@ impl Rope {
     /// Returns a rope of the empty text, with the given set of line breaks, in no chunk. Takes
     /// memory for one node.
     ///
+    /// `Rope::new_with(alloc, LineBreaks::Lf)?.line_breaks()` is `LineBreaks::Lf`.
+    ///
     /// # Errors
     ///
     /// `OutOfMemory`.
@@ -127,6 +131,7 @@ impl Rope {
     }
 
     /// Returns the set of line breaks by which lines are counted.
+    /// `Rope::from_str(alloc, "a")?.line_breaks()` is `LineBreaks::Unicode`.
     pub fn line_breaks(&self) -> LineBreaks
         ensures { result ≡ self.now.breaks }
     {
@@ -166,7 +171,7 @@ impl Rope {
     }
 
     /// Returns the number of levels of the tree above the chunks: 0 for at most one chunk, never
-    /// more than 18.
+    /// more than 18. With the text `"ab"` it is 0.
     pub fn depth(&self) -> usize
         ensures value { result ≡ self.now.depth }
         ensures kept { IsRope self.now }
@@ -189,6 +194,8 @@ impl Rope {
     /// bytes.
     ///
     /// Takes time and memory in proportion to the text.
+    ///
+    /// With the text `"ab"` it leaves one chunk.
     ///
     /// # Errors
     ///

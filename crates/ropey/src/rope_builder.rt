@@ -36,7 +36,7 @@ impl Model for RopeBuilder {
 
 impl RopeBuilder {
     /// Returns a builder without text, whose rope will have Unicode's line breaks. Always succeeds,
-    /// and takes no memory.
+    /// and takes no memory. `RopeBuilder::new(alloc)?.finish()?` is an empty rope.
     pub fn new(alloc: Global) -> Result<RopeBuilder>
         ensures ok { IsOk result }
         ensures text { IfOk result (λ builder. builder.text ≡ []) }
@@ -47,7 +47,8 @@ impl RopeBuilder {
     }
 
     /// Returns a builder without text, whose rope will have the given set of line breaks. Always
-    /// succeeds, and takes no memory.
+    /// succeeds, and takes no memory. `RopeBuilder::new_with(alloc,
+    /// LineBreaks::Lf)?.finish()?.line_breaks()` is `LineBreaks::Lf`.
     pub fn new_with(alloc: Global, breaks: LineBreaks) -> Result<RopeBuilder>
         ensures ok { IsOk result }
         ensures text { IfOk result (λ builder. builder.text ≡ []) }
@@ -65,6 +66,8 @@ impl RopeBuilder {
     ///
     /// Takes time in proportion to the appended text, and memory for its full chunks; an empty text
     /// takes none unless an earlier call failed.
+    ///
+    /// After `append("a")?` and `append("b")?`, `finish()?` returns a rope of `"ab"`.
     ///
     /// # Errors
     ///
@@ -88,6 +91,8 @@ impl RopeBuilder {
 
     /// Returns the rope of the texts passed in, in at most (n + 980) / 981 chunks for n bytes.
     /// Takes memory for the last chunks and the nodes above them.
+    ///
+    /// After `append("ab")?`, `finish()?` returns a rope of `"ab"`.
     ///
     /// # Errors
     ///

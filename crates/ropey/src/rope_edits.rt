@@ -66,6 +66,8 @@ impl Rope {
 
     /// Inserts a text as `insert` does, at any index.
     ///
+    /// With the text `"ac"`, `try_insert(3, "b")` is `Err(Error::CharIndexOutOfBounds(3, 2))`.
+    ///
     /// # Errors
     ///
     /// First `CharIndexOutOfBounds`, with the index and the number of characters, if the index is
@@ -115,6 +117,8 @@ impl Rope {
     ///
     /// The index is at most `len_chars()`.
     ///
+    /// With the text `"ac"`, `insert_counted(1, "b", &mut steps)` makes `"abc"`.
+    ///
     /// # Errors
     ///
     /// First `TooLong`, then `OutOfMemory`, as for `insert`.
@@ -142,6 +146,8 @@ impl Rope {
     }
 
     /// Inserts a character as `insert_char` does, at any index.
+    ///
+    /// With the text `"ac"`, `try_insert_char(3, 'b')` is `Err(Error::CharIndexOutOfBounds(3, 2))`.
     ///
     /// # Errors
     ///
@@ -184,6 +190,8 @@ impl Rope {
     ///
     /// The index is at most `len_chars()`.
     ///
+    /// With the text `"ac"`, `insert_char_counted(1, 'b', &mut steps)` makes `"abc"`.
+    ///
     /// # Errors
     ///
     /// First `TooLong`, then `OutOfMemory`, as for `insert_char`.
@@ -203,6 +211,8 @@ impl Rope {
     }
 
     /// Splits the rope as `split_off` does, at any index.
+    ///
+    /// With the text `"abc"`, `try_split_off(4)` is `Err(Error::CharIndexOutOfBounds(4, 3))`.
     ///
     /// # Errors
     ///
@@ -244,6 +254,8 @@ impl Rope {
     /// nodes, enters the root and at most 7 d + 5 nodes in all, and compares at most 37 d totals.
     ///
     /// The index is at most `len_chars()`.
+    ///
+    /// With the text `"abc"`, `split_off_counted(1, &mut steps)` leaves `"a"` and returns `"bc"`.
     ///
     /// # Errors
     ///
@@ -301,6 +313,9 @@ impl Rope {
 
     /// Removes a range as `remove` does, for any range.
     ///
+    /// With the text `"abc"`, `try_remove(2..9)` is
+    /// `Err(Error::CharRangeOutOfBounds(Some(2), Some(9), 3))`.
+    ///
     /// # Errors
     ///
     /// First `CharRangeOutOfBounds`, with the bounds and the number of characters, if a bound is
@@ -352,6 +367,8 @@ impl Rope {
     /// compares at most 37 d totals.
     ///
     /// The range's bounds are at most `len_chars()`, and its start is at most its end.
+    ///
+    /// With the text `"abc"`, `remove_counted(1..2, &mut steps)` makes `"ac"`.
     ///
     /// # Errors
     ///
@@ -421,6 +438,8 @@ impl Rope {
     /// this call, also when it fails. They are 0 if a rope is empty, or refused for its set of line
     /// breaks or its length; else the root counts as entered. With d the greater depth of the two,
     /// it makes at most 16 d + 11 nodes, enters at most 7 d + 5 and compares at most 37 d totals.
+    ///
+    /// With the text `"a"` and a rope of `"bc"`, it makes `"abc"`.
     ///
     /// # Errors
     ///

@@ -57,7 +57,7 @@ impl Rope {
     }
 
     /// Returns a slice as `slice` does, or `None` exactly if a bound is past `len_chars()` or the
-    /// range's start is past its end.
+    /// range's start is past its end. With the text `"abcd"`, `get_slice(1..9)` is `None`.
     #[inline(always)]
     pub fn get_slice<R: IndexRange>(&self, range: R) -> Option<RopeSlice<'_>>
         ensures { GivesChars (content self.now) (R.given_start range) (R.given_end range) result }
@@ -80,6 +80,9 @@ impl Rope {
 
     /// Returns a slice as `byte_slice` does, for any range.
     ///
+    /// With the text `"éa"`, `try_byte_slice(1..2)` is
+    /// `Err(Error::ByteRangeNotCharBoundary(Some(1), Some(2)))`.
+    ///
     /// # Errors
     ///
     /// First `ByteRangeInvalid`, if both bounds are given and the start is past the end; then
@@ -95,7 +98,7 @@ impl Rope {
     }
 
     /// Returns a slice as `byte_slice` does, or `None` exactly if `try_byte_slice` returns an
-    /// error.
+    /// error. With the text `"éa"`, `get_byte_slice(1..2)` is `None`.
     #[inline(always)]
     pub fn get_byte_slice<R: IndexRange>(&self, range: R) -> Option<RopeSlice<'_>>
         ensures { GivesBytes (content self.now) (R.given_start range) (R.given_end range) result }
@@ -107,6 +110,8 @@ impl Rope {
     /// rope's tree that are within the slice; a plain text is copied.
     ///
     /// Takes memory for the nodes along the two cuts, or for all of a plain text.
+    ///
+    /// With the text `"abcd"`, `Rope::from_slice(alloc, rope.slice(1..3))?` is a rope of `"bc"`.
     ///
     /// # Errors
     ///
@@ -267,6 +272,7 @@ impl Rope {
     }
 
     /// Returns a cursor as `bytes_at` does, or `None` exactly if the index is past `len_bytes()`.
+    /// With the text `"ab"`, `get_bytes_at(3)` is `None`.
     pub fn get_bytes_at(&self, byte_idx: usize) -> Option<Bytes<'_>>
         ensures { GivesWithin byte_idx (byte_len self.now.text) result
             (λ bytes. bytes ≡ at_place (encode_utf8_all self.now.text) byte_idx) }
@@ -275,6 +281,7 @@ impl Rope {
     }
 
     /// Returns a cursor as `chars_at` does, or `None` exactly if the index is past `len_chars()`.
+    /// With the text `"éa"`, `get_chars_at(3)` is `None`.
     pub fn get_chars_at(&self, char_idx: usize) -> Option<Chars<'_>>
         ensures { GivesWithin char_idx (length self.now.text) result
             (λ chars. chars ≡ at_place self.now.text char_idx) }
@@ -283,7 +290,7 @@ impl Rope {
     }
 
     /// Returns a cursor as `chunks_at_byte` does, or `None` exactly if the index is past
-    /// `len_bytes()`.
+    /// `len_bytes()`. With the text `"ab"`, `get_chunks_at_byte(3)` is `None`.
     pub fn get_chunks_at_byte(&self, byte_idx: usize) -> Option<ChunksAt<'_>>
         ensures { GivesWithin byte_idx (byte_len self.now.text) result
             (StandsBefore (content self.now) (chunk_place_at_byte self.now.chunks byte_idx)) }
@@ -292,7 +299,7 @@ impl Rope {
     }
 
     /// Returns a cursor as `chunks_at_char` does, or `None` exactly if the index is past
-    /// `len_chars()`.
+    /// `len_chars()`. With the text `"ab"`, `get_chunks_at_char(3)` is `None`.
     pub fn get_chunks_at_char(&self, char_idx: usize) -> Option<ChunksAt<'_>>
         ensures { GivesWithin char_idx (length self.now.text) result
             (StandsBefore (content self.now) (chunk_place_at_char self.now.chunks char_idx)) }
@@ -301,7 +308,8 @@ impl Rope {
     }
 
     /// Returns a cursor as `chunks_at_line_break` does, or `None` exactly if the index is past
-    /// `len_lines()`. Costs two lookups.
+    /// `len_lines()`. Costs two lookups. With the text `"ab"`, `get_chunks_at_line_break(2)` is
+    /// `None`.
     pub fn get_chunks_at_line_break(&self, line_break_idx: usize) -> Option<ChunksAt<'_>>
         ensures { GivesWithin line_break_idx (line_count self.now.breaks self.now.text) result
             (StandsBefore (content self.now)
@@ -311,7 +319,8 @@ impl Rope {
     }
 
     /// Returns the line `line_idx`, with its line break, or `None` exactly if the index is
-    /// `len_lines()` or more. Costs two lookups, and counts the line.
+    /// `len_lines()` or more. Costs two lookups, and counts the line. With the text `"ab"`,
+    /// `get_line(1)` is `None`.
     pub fn get_line(&self, line_idx: usize) -> Option<RopeSlice<'_>>
         ensures { MatchOption result (line_count self.now.breaks self.now.text ≤ line_idx)
             (λ slice. (line_idx < line_count self.now.breaks self.now.text)
@@ -321,7 +330,7 @@ impl Rope {
     }
 
     /// Returns a cursor as `lines_at` does, or `None` exactly if the index is past `len_lines()`.
-    /// Costs two lookups.
+    /// Costs two lookups. With the text `"ab"`, `get_lines_at(2)` is `None`.
     pub fn get_lines_at(&self, line_idx: usize) -> Option<Lines<'_>>
         ensures { GivesWithin line_idx (line_count self.now.breaks self.now.text) result
             (λ lines. lines ≡ at_place (lines_of (content self.now)) line_idx) }

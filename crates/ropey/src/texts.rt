@@ -26,6 +26,8 @@ impl Rope {
     ///
     /// Takes time and memory in proportion to the text.
     ///
+    /// With a `String` of `"ab"` it returns a rope of `"ab"`.
+    ///
     /// # Errors
     ///
     /// `OutOfMemory`.
@@ -42,6 +44,8 @@ impl Rope {
     ///
     /// Takes time and memory in proportion to the text.
     ///
+    /// `Rope::from_cow(alloc, CowStr::Borrowed("ab"))?` is a rope of `"ab"`.
+    ///
     /// # Errors
     ///
     /// `OutOfMemory`.
@@ -53,10 +57,12 @@ impl Rope {
         Rope::from_str(alloc, cow.as_str())
     }
 
-    /// Returns a rope of all texts that the iterator yields, joined, with Unicode's line breaks.
-    /// It has at most (n + 980) / 981 chunks for n bytes.
+    /// Returns a rope of all texts that the iterator yields, joined, with Unicode's line breaks. It
+    /// has at most (n + 980) / 981 chunks for n bytes.
     ///
     /// The iterator must end. Takes time and memory in proportion to the text.
+    ///
+    /// `Rope::from_str_iter(alloc, ["a", "b"])?` is a rope of `"ab"`.
     ///
     /// # Errors
     ///
@@ -82,6 +88,8 @@ impl Rope {
     ///
     /// The iterator must end. Takes time and memory in proportion to the text.
     ///
+    /// With strings of `"a"` and `"b"` it returns a rope of `"ab"`.
+    ///
     /// # Errors
     ///
     /// `TooLong` at the first text with which there would be more than `isize::MAX` bytes; else
@@ -102,6 +110,8 @@ impl Rope {
     /// Unicode's line breaks. It has at most (n + 980) / 981 chunks for n bytes.
     ///
     /// The iterator must end. Takes time and memory in proportion to the text.
+    ///
+    /// `Rope::from_cow_iter(alloc, [CowStr::Borrowed("a")])?` is a rope of `"a"`.
     ///
     /// # Errors
     ///
@@ -124,6 +134,8 @@ impl Rope {
 
     /// Returns a copy of the text as a string. Allocates once.
     ///
+    /// With the text `"ab"` it returns a `String` of `"ab"`.
+    ///
     /// # Errors
     ///
     /// `OutOfMemory`.
@@ -136,6 +148,8 @@ impl Rope {
 
     /// Returns the text as a string, by the rope's own allocator, and drops the rope, also when it
     /// fails. Allocates once.
+    ///
+    /// With the text `"ab"` it returns a `String` of `"ab"`.
     ///
     /// # Errors
     ///
@@ -150,6 +164,8 @@ impl Rope {
     /// Returns the text: borrowed exactly if the rope has at most one chunk, which never fails;
     /// else a copy.
     ///
+    /// With the text `"ab"` it borrows `"ab"`.
+    ///
     /// # Errors
     ///
     /// `OutOfMemory`, only if the rope has more than one chunk.
@@ -163,6 +179,8 @@ impl Rope {
     }
 
     /// Returns the text as an owned string, as `try_into_string` does.
+    ///
+    /// With the text `"ab"` it returns an owned `"ab"`.
     ///
     /// # Errors
     ///
