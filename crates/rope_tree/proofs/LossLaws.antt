@@ -105,7 +105,7 @@ removed_twice t a b c first second within =
 stand_twice : (first last : ℕ) (old mid new : List (List ℕ)) → StandFor first last old mid
     → StandFor first last mid new → StandFor first last old new
 stand_twice first last old mid new s t = record {
-  behind = λ n some dense. t.behind n some (s.behind n some dense);
+  after = λ n some dense. t.after n some (s.after n some dense);
   ahead = λ n. omega (arith, s.ahead n, t.ahead n);
 }
 
@@ -119,7 +119,7 @@ lost_twice first last ts us vs a b c le more within sets heights r s = record {
       ∙ removed_twice (joined ts) a b c le more within;
   ends = record {
     before = λ p seam. s.ends.before p (r.ends.before p seam);
-    behind = λ n seam. s.ends.behind n (r.ends.behind n seam);
+    after = λ n seam. s.ends.after n (r.ends.after n seam);
   };
   as_many = s.as_many ∙ r.as_many;
   as_many_leaves = s.as_many_leaves ∙ r.as_many_leaves;
@@ -144,8 +144,8 @@ module _ (br : LineBreaks) (ts : List Tree) (k : ℕ) (c : Tree) (a : AreChildre
         ∙ IsMeasure-byte_len.joined (joined (take k ts)) (text (get_or ts k c))
         ∙ ap (λ t. before + byte_len (text t)) here
 
-    pub enough_behind : (m : ℕ) → 492 ≤ last_bytes m (leaves_of (take (k + 1) ts)) + least
-    enough_behind m =
+    pub enough_after : (m : ℕ) → 492 ≤ last_bytes m (leaves_of (take (k + 1) ts)) + least
+    enough_after m =
         omega (
           arith,
           is,
@@ -155,8 +155,8 @@ module _ (br : LineBreaks) (ts : List Tree) (k : ℕ) (c : Tree) (a : AreChildre
               refl refl m,
         )
 
-    pub enough_ahead : IsDenseBehind least (leaves_of (drop k ts))
-    enough_ahead =
+    pub enough_before : IsDenseBehind least (leaves_of (drop k ts))
+    enough_before =
         let few : ℕ = min (492 - (total - before)) 491 in
         let dense = leaf_next_ahead br 0 ts k a lt refl before total few refl refl refl in
         dense_behind_fewer few few least (leaves_of (drop k ts)) (omega (arith, is, less, own_bytes))

@@ -131,12 +131,12 @@ module _ (br : LineBreaks) (h : ℕ) (ts : List Tree) (k : ℕ) (c : Tree) (a : 
 
     are_leaves : AreLeaves (leaves_of (set ts k u))
     are_leaves =
-        let dense = subst (λ xs. AreDense xs) new_leaves (new_stand.behind 492 (omega arith) a.leaves.dense) in
+        let dense = subst (λ xs. AreDense xs) new_leaves (new_stand.after 492 (omega arith) a.leaves.dense) in
         let behind = dense_alone (last_bytes 492 left) (u.leaves ++ right) (dense_right 492 left (u.leaves ++ right) dense) in
         let old : AreLeaves (left ++ (c.leaves ++ right)) = subst AreLeaves old_leaves a.leaves in
         let front : AreLeaves left = leaves_left left (c.leaves ++ right) old in
         let back : AreLeaves right = leaves_right c.leaves right (leaves_right left (c.leaves ++ right) old) in
-        let seam_right : IsSeam (text u) (concat right) = r.ends.behind (concat right) (seam_after br h ts k c a lt here) in
+        let seam_right : IsSeam (text u) (concat right) = r.ends.after (concat right) (seam_after br h ts k c a lt here) in
         let seam_left : IsSeam (concat left) (concat (u.leaves ++ right)) =
         subst (IsSeam (concat left)) (sym (concat-append u.leaves right)) (seam_begins (concat left) (text u) (concat right) some_text (r.ends.before (concat left) (seam_before br h ts k c a lt here))) in
         subst AreLeaves (sym new_leaves) (leaves-append left (u.leaves ++ right) front (leaves-append u.leaves right r.leaves back seam_right behind) seam_left dense)

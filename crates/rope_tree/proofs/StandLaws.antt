@@ -9,11 +9,11 @@ use Rattle.rope_tree.specs.Tree.{one_leaf}
 
 -- one leaf in another's place
 stand_alone : (first last : ℕ) (old new : List ℕ) → min first (byte_len old) ≤ byte_len new → min last (byte_len old) ≤ byte_len new → StandFor first last (old ∷ []) (new ∷ [])
-stand_alone first last old new kept here = record { behind = λ n half a. (omega (arith, a.0), tt); ahead = λ n. here }
+stand_alone first last old new kept here = record { after = λ n half a. (omega (arith, a.0), tt); ahead = λ n. here }
 
 -- two in the place of one
 stand_two : (old front back : List ℕ) → 491 ≤ byte_len front → 491 ≤ byte_len back → StandFor 491 491 (old ∷ []) (front ∷ back ∷ [])
-stand_two old front back first second = record { behind = λ n half a. (omega arith, (omega arith, tt)); ahead = λ n. omega arith }
+stand_two old front back first second = record { after = λ n half a. (omega arith, (omega arith, tt)); ahead = λ n. omega arith }
 
 pub one_leaf_is : (x : List ℕ) → 1 ≤ length x → one_leaf x ≡ x ∷ []
 one_leaf_is [] some = absurd (omega arith)
@@ -41,10 +41,10 @@ ahead_kept wanted last m n (y ∷ ys) kept more = omega arith
 -- between others that they are enough for
 pub stand_between : (wanted ahead first last : ℕ) (xs old new ys : List (List ℕ)) → IsEnoughBehind wanted first xs → IsEnoughAhead ahead last ys → StandFor first last old new → StandFor wanted ahead (xs ++ (old ++ ys)) (xs ++ (new ++ ys))
 stand_between wanted ahead first last xs old new ys b e s = record {
-  behind = λ n half a.
+  after = λ n half a.
       let before = last_bytes n xs in
       let here = dense_right n xs (old ++ ys) a in
-      let own = s.behind before (b n half) (dense_left before old ys here) in
+      let own = s.after before (b n half) (dense_left before old ys here) in
       let rest = dense_behind_fewer last (last_bytes before old) (last_bytes before new) ys (s.ahead before) e.dense (dense_right before old ys here) in
       dense-append n xs (new ++ ys) (dense_left n xs (old ++ ys) a) (dense-append before new ys own rest);
   ahead = λ n.

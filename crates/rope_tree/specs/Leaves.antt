@@ -30,9 +30,9 @@ pub record Recuts (left right new : List (List ℕ)) : Type 0 where
   pub behind : 1 ≤ length left → (n : ℕ) → IsDenseBehind n left → IsDenseBehind n new
   pub last : 1 ≤ length right → (m n : ℕ) → last_bytes m right ≤ last_bytes n new
 
--- other leaves in the place of old ones: they may stand behind so many bytes as are 492 with `first`, and the last of them is as long as the old one or as `last`
+-- other leaves in the place of old ones: they may follow a leaf of n bytes, if the old ones may and n and `first` are 492 or more; and the last of them is as long as the old one or as `last`
 pub record StandFor (first last : ℕ) (old new : List (List ℕ)) : Type 0 where
-  pub behind : (n : ℕ) → MIN_TWO_LEAVES_BYTES ≤ n + first → IsDenseBehind n old → IsDenseBehind n new
+  pub after : (n : ℕ) → MIN_TWO_LEAVES_BYTES ≤ n + first → IsDenseBehind n old → IsDenseBehind n new
   pub ahead : (n : ℕ) → min last (last_bytes n old) ≤ last_bytes n new
 
 -- so many bytes are enough for a leaf behind these, and where there are none, as many as are wanted there

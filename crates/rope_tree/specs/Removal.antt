@@ -7,10 +7,10 @@ use Rattle.rope_text.specs.Edit.{removed}
 use Rattle.rope_tree.specs.Leaves.{AreLeaves, IsSeam, StandFor}
 use Rattle.rope_tree.specs.Tree.{Tree, text, joined, leaves_of, height_of, breaks_of, AreChildren}
 
--- what may stand before the old text may stand before the new one, and what behind it behind it, with no CR before an LF
+-- what may stand before the old text may stand before the new one, and what may follow it may follow the new one, with no CR before an LF
 pub record KeepsEnds (old new : List ℕ) : Type 0 where
   pub before : (p : List ℕ) → IsSeam p old → IsSeam p new
-  pub behind : (n : List ℕ) → IsSeam old n → IsSeam new n
+  pub after : (n : List ℕ) → IsSeam old n → IsSeam new n
 
 -- a leaf of this text may lose the characters from a up to b: something stays, of as many bytes as are wanted, and neither an LF comes first nor a CR last that didn't
 pub record Spares (least a b : ℕ) (t : List ℕ) : Type 0 where
@@ -39,7 +39,7 @@ pub record AreRemoved (first last : ℕ) (old new : List Tree) (a b : ℕ) : Typ
   pub children : AreChildren (breaks_of old) (height_of old) new
   pub stand : StandFor first last (leaves_of old) (leaves_of new)
 
--- two leaves side by side, of which the one lost its end, from the character a on, and the other its first b characters; so many bytes are wanted at their outer ends, and enough where they meet
+-- two leaves side by side: the first lost its characters from a on, the second its first b; `first` and `last` are the bytes that are wanted where others stand beside them, and the two have enough together
 pub record AreShortened (first last a b : ℕ) (left now right after : Tree) : Type 0 where
   pub end : IsRemoved first (MIN_TWO_LEAVES_BYTES - byte_len (text after)) left now a (length (text left))
   pub start : IsRemoved (MIN_TWO_LEAVES_BYTES - byte_len (text now)) last right after 0 b

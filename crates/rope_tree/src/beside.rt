@@ -41,9 +41,9 @@ fn least_next_to(height: usize, totals: &Totals, place: usize) -> usize
 /// height, by how many are enough at the node's ends.
 pub fn least_at(height: usize, totals: &Totals, place: usize, wanted: Least) -> Least
     requires { place < length totals.now }
-    ensures behind { (ts : List Tree) → AreBelow height totals.now ts
+    ensures first { (ts : List Tree) → AreBelow height totals.now ts
         → IsEnoughBehind wanted.first result.first (leaves_of (take place ts)) }
-    ensures ahead { (ts : List Tree) → AreBelow height totals.now ts
+    ensures last { (ts : List Tree) → AreBelow height totals.now ts
         → IsEnoughAhead wanted.last result.last (leaves_of (drop (place + 1) ts)) }
 {
     let mut least = wanted;

@@ -77,7 +77,7 @@ left t c u done =
     let totals = totals_seen (listed c.self.inside) ts c.self.inside.totals c.self.inside.totals c.self.view_is refl c.self.invariant.totals_right in
     let below : AreBelow c.from.result c.self.inside.totals ts = record { above = omega (arith, c.from.ensures, c.self.invariant.above, ap height_of c.self.view_is); children = d.children; totals_right = totals } in
     children_removed (breaks_of ts) (height_of ts) ts c.in-Some.way.place (get_or c.self.inside.nodes c.in-Some.way.place c.index-self-place.result)
-    d.children d.within d.child_is _ _ c.args.start c.args.end (held t c) c.args.least.first c.args.least.last c.least_at-least.result.first c.least_at-least.result.last u done (c.least_at-least.ensures.behind ts below) (c.least_at-least.ensures.ahead ts below) refl refl
+    d.children d.within d.child_is _ _ c.args.start c.args.end (held t c) c.args.least.first c.args.least.last c.least_at-least.result.first c.least_at-least.result.last u done (c.least_at-least.ensures.first ts below) (c.least_at-least.ensures.last ts below) refl refl
 
 pub Children::remove_in_place-retotal-requires-clause-fits :
     goal.Children::remove_in_place-retotal-requires-clause-fits

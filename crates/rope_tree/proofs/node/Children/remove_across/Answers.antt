@@ -15,7 +15,7 @@ use Rattle.rope_tree.proofs.ChangeLaws.{change_to}
 use Rattle.rope_tree.proofs.CountLaws.{counts_fall}
 use Rattle.rope_tree.proofs.GrownLaws.{totals_seen}
 use Rattle.rope_tree.proofs.ListedLaws.{seen_at, set_seen, set_listed}
-use Rattle.rope_tree.proofs.LossLaws.{lost, lost_part, lost_fits, lost_totals, lost_twice, enough_behind, enough_ahead, both_set}
+use Rattle.rope_tree.proofs.LossLaws.{lost, lost_part, lost_fits, lost_totals, lost_twice, enough_after, enough_before, both_set}
 use Rattle.rope_tree.proofs.NodeLaws.{small_totals, children_of_first, more_at, joined_more, joined_parts}
 use Rattle.rope_tree.proofs.BesideLaws.{some_next}
 use Rattle.rope_tree.proofs.RemovalLaws.{Holds, byte_len-removed}
@@ -162,15 +162,15 @@ first_held c = record {
   within = omega arith;
 }
 
-first_behind : (c : In-Some)
+first_before : (c : In-Some)
     → IsEnoughBehind c.args.least.first c.least_at.result.first
     (leaves_of (take c.args.place c.args.self.now))
-first_behind c = c.least_at.ensures.behind c.args.self.now (below c)
+first_before c = c.least_at.ensures.first c.args.self.now (below c)
 
-first_ahead : (c : In-Some)
+first_after : (c : In-Some)
     → IsEnoughAhead c.args.least.last (492 - byte_len (text (now_right c)))
     (leaves_of (drop (c.args.place + 1) c.args.self.now))
-first_ahead c =
+first_after c =
     let ts = c.args.self.now in
     let n = byte_len (text (now_right c)) in
     let t = text (second c) in
@@ -181,7 +181,7 @@ first_ahead c =
       byte_len-removed t 0 (c.args.end - c.get-past.result.chars) (omega arith),
     ) in
     record {
-      dense = enough_ahead (breaks_of ts) ts (c.args.place + 1) (second c) (leaves c)
+      dense = enough_before (breaks_of ts) ts (c.args.place + 1) (second c) (leaves c)
           (within (old c)) (right_here (old c)) (492 - n) n fewer refl;
       at_end = λ none. absurd (omega (
         arith,
@@ -199,8 +199,8 @@ first_lost c =
     c.args.start c.get-past.result.chars
     c.requires.children c.requires.child (left_here (old c)) (first_held c) c.args.least.first
     c.args.least.last
-    c.least_at.result.first (492 - byte_len (text (now_right c))) (shortened c).end (first_behind c)
-    (first_ahead c)
+    c.least_at.result.first (492 - byte_len (text (now_right c))) (shortened c).end (first_before c)
+    (first_after c)
 
 -- the second
 mid_sets : (c : In-Some) → breaks_of (mid c) ≡ breaks_of c.args.self.now
@@ -262,25 +262,25 @@ second_held c = record {
   within = omega (arith, right_end (old c), right_start (old c), c.if-end-get.false);
 }
 
-second_behind : (c : In-Some)
+second_before : (c : In-Some)
     → IsEnoughBehind c.args.least.first (492 - byte_len (text (now_left c)))
     (leaves_of (take (c.args.place + 1) (mid c)))
-second_behind c = λ n some.
-    enough_behind (breaks_of (mid c)) (mid c) c.args.place (now_left c)
+second_before c = λ n some.
+    enough_after (breaks_of (mid c)) (mid c) c.args.place (now_left c)
     (subst (λ h. AreChildren (breaks_of (mid c)) h (mid c)) (mid_heights c ∙ low c)
     (mid_children c))
     (omega (arith, mid_within c)) (mid_left c) (492 - byte_len (text (now_left c)))
     (byte_len (text (now_left c))) (omega arith) refl n
 
-second_ahead : (c : In-Some)
+second_after : (c : In-Some)
     → IsEnoughAhead c.args.least.last c.least_at-2.result.last
     (leaves_of (drop (c.args.place + 1 + 1) (mid c)))
-second_ahead c =
-    let behind : drop (c.args.place + 1 + 1) (mid c) ≡ drop (c.args.place + 1 + 1) c.args.self.now =
+second_after c =
+    let same : drop (c.args.place + 1 + 1) (mid c) ≡ drop (c.args.place + 1 + 1) c.args.self.now =
     drop-set-lt (c.args.place + 1 + 1) c.args.self.now c.args.place (now_left c) (omega arith) in
     subst (λ xs. IsEnoughAhead c.args.least.last c.least_at-2.result.last (leaves_of xs))
-    (sym behind)
-    (c.least_at-2.ensures.ahead c.args.self.now (below c))
+    (sym same)
+    (c.least_at-2.ensures.last c.args.self.now (below c))
 
 second_lost : (c : In-Some)
     → AreRemoved c.args.least.first c.args.least.last (mid c) (last c) c.args.start
@@ -292,7 +292,7 @@ second_lost c =
     (mid_right c) (second_held c)
     c.args.least.first c.args.least.last (492 - byte_len (text (now_left c)))
     c.least_at-2.result.last
-    (shortened c).start (second_behind c) (second_ahead c)
+    (shortened c).start (second_before c) (second_after c)
 
 both_lost : (c : In-Some)
     → AreRemoved c.args.least.first c.args.least.last c.args.self.now (last c) c.args.start
@@ -336,8 +336,8 @@ retotal-requires-clause-part c =
     (length (text (first e))) c.args.start c.get-past.result.chars
     c.requires.children c.requires.child (left_here (old e)) (first_held e) c.args.least.first
     c.args.least.last
-    c.least_at.result.first (492 - byte_len (text (now_right e))) (shortened e).end (first_behind e)
-    (first_ahead e)
+    c.least_at.result.first (492 - byte_len (text (now_right e))) (shortened e).end (first_before e)
+    (first_after e)
     c.in-Some.losses.left c.new.result (first_change e c.new.result c.new.ensures)
     c.self.inside.totals (totals (old e))
 
@@ -352,8 +352,8 @@ retotal-requires-clause-fits c =
     (length (text (first e))) c.args.start c.get-past.result.chars
     c.requires.children c.requires.child (left_here (old e)) (first_held e) c.args.least.first
     c.args.least.last
-    c.least_at.result.first (492 - byte_len (text (now_right e))) (shortened e).end (first_behind e)
-    (first_ahead e)
+    c.least_at.result.first (492 - byte_len (text (now_right e))) (shortened e).end (first_before e)
+    (first_after e)
     c.in-Some.losses.left c.new.result (first_change e c.new.result c.new.ensures)
     c.self.inside.totals (totals (old e))
 
@@ -367,8 +367,8 @@ mid_totals c =
     (length (text (first e))) c.args.start c.get-past.result.chars
     c.requires.children c.requires.child (left_here (old e)) (first_held e) c.args.least.first
     c.args.least.last
-    c.least_at.result.first (492 - byte_len (text (now_right e))) (shortened e).end (first_behind e)
-    (first_ahead e)
+    c.least_at.result.first (492 - byte_len (text (now_right e))) (shortened e).end (first_before e)
+    (first_after e)
     c.in-Some.losses.left c.new.result (first_change e c.new.result c.new.ensures)
     c.self.inside.totals (totals (old e))
     c.retotal.new.self c.retotal.ensures.len c.retotal.ensures.before c.retotal.ensures.after
@@ -390,7 +390,7 @@ retotal-requires-2-clause-part c =
     (mid_right e) (second_held e)
     c.args.least.first c.args.least.last (492 - byte_len (text (now_left e)))
     c.least_at-2.result.last
-    (shortened e).start (second_behind e) (second_ahead e)
+    (shortened e).start (second_before e) (second_after e)
     c.in-Some.losses.right c.new-2.result (second_change e c.new-2.result c.new-2.ensures)
     c.retotal.new.self (mid_totals p)
 
@@ -410,7 +410,7 @@ retotal-requires-2-clause-fits c =
     (mid_right e) (second_held e)
     c.args.least.first c.args.least.last (492 - byte_len (text (now_left e)))
     c.least_at-2.result.last
-    (shortened e).start (second_behind e) (second_ahead e)
+    (shortened e).start (second_before e) (second_after e)
     c.in-Some.losses.right c.new-2.result (second_change e c.new-2.result c.new-2.ensures)
     c.retotal.new.self (mid_totals p)
 
@@ -485,7 +485,7 @@ module _ (c : After-retotal-2) where
       (mid_right e) (second_held e)
       c.args.least.first c.args.least.last (492 - byte_len (text (now_left e)))
       c.least_at-2.result.last
-      (shortened e).start (second_behind e) (second_ahead e)
+      (shortened e).start (second_before e) (second_after e)
       c.in-Some.losses.right c.new-2.result (second_change e c.new-2.result c.new-2.ensures)
       c.retotal.new.self (mid_totals p)
       c.retotal-2.new.self c.retotal-2.ensures.len c.retotal-2.ensures.before
