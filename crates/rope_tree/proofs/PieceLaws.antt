@@ -141,8 +141,8 @@ pieces_stand breaks old leaf new ts is p few =
       few = few;
       each = All-weaker (IsChild breaks 0) (IsWide breaks (min 12 0) 0) (λ u w. wide_weaker breaks (min 12 0) 12 0 u (omega arith) w) ts p.each;
     }) where
-  some_leaves : (us : List Tree) → 1 ≤ length us → All (IsChild breaks 0) us → 1 ≤ length (leaves_of us)
-  some_leaves [] some each = absurd (omega arith)
-  some_leaves (u ∷ us) some each =
-      let own = All-head (IsChild breaks 0) u us each in
-      omega (arith, own.some, length-append u.leaves (leaves_of us))
+      some_leaves : (us : List Tree) → 1 ≤ length us → All (IsChild breaks 0) us → 1 ≤ length (leaves_of us)
+      some_leaves [] some each = absurd (omega arith)
+      some_leaves (u ∷ us) some each =
+          let own = All-head (IsChild breaks 0) u us each in
+          omega (arith, own.some, length-append u.leaves (leaves_of us))

@@ -9,7 +9,7 @@ use Rattle.rope_tree.specs.Leaves.{AreLeaves, IsSeam, StandFor}
 use Rattle.rope_tree.specs.Tree.{Tree, text, joined, leaves_of, height_of, breaks_of, IsWide}
 use Rattle.rope_tree.specs.Siblings.{AreSiblings, AreParts}
 use Rattle.rope_tree.specs.declared.node.in_place.Cut.{Cut}
-use Rattle.rope_tree.specs.declared.node.in_place.Cut.TheVariants.{Kept, Grown, Parted}
+use Rattle.rope_tree.specs.declared.node.in_place.Cut.TheVariants.{Kept, Grown, Split}
 
 -- a tree takes a text of 1 to 981 bytes before its character `at`, and has fewer than 2^63 bytes with it
 pub record TakesShort (t : Tree) (at : ℕ) (new : List ℕ) : Type 0 where
@@ -59,7 +59,7 @@ pub record IsInserted (old : Tree) (ts : List Tree) (new : List ℕ) : Type 0 wh
 abbrev pub IsCut : Tree → Tree → List ℕ → Cut → Type 0
 IsCut old now new Kept = now ≡ old
 IsCut old now new Grown = IsInserted old (now ∷ []) new
-IsCut old now new (Parted back) = IsInserted old (now ∷ back ∷ []) new
+IsCut old now new (Split back) = IsInserted old (now ∷ back ∷ []) new
 
 -- at least as many trees of the same height as before, and at most 24, of this text
 pub record AreGrown (old ts : List Tree) (new : List ℕ) : Type 0 where

@@ -1,5 +1,5 @@
-//! Edits of whole trees that change one leaf or two: short inserts, and removals of characters that
-//! lie in one leaf or in two side by side.
+//! Edits of whole trees that replace one leaf, or change two: inserts of short and of medium texts,
+//! and removals of characters that lie in one leaf or in two side by side.
 ghost use Rattle.std.specs.Prelude.{◌≡◌, ◌+◌, ◌-◌, ◌*◌, ◌<◌, ◌≤◌, ◌^◌, true, false, length, drop, IfOk, OnOk, OnErr};
 ghost use Rattle.std.specs.Str.{chars};
 ghost use Rattle.rope_text.specs.declared.TheConstants.{MAX_BYTES, MAX_SHORT_BYTES};
@@ -31,9 +31,23 @@ pub fn is_lf(editor: &mut Editor, node: &Node, at: usize) -> bool
     at < node.info().chars && editor.char_at(node, at) == '\n'
 }
 
+/// Returns on which side of a seam between leaves a text goes: a text that ends in CR goes to the
+/// right of it if an LF stands there, so that the two lie in one leaf.
+#[inline(always)]
+fn goes_right(editor: &mut Editor, root: &Node, at: usize, added: &str) -> bool
+    requires { at ≤ length (text root.now) }
+    ensures side { MayInsert root.now at (chars added.now) result }
+    ensures tree { result ≡ true → IsTree root.now }
+    ensures made { editor.new.maker.made ≡ editor.old.maker.made }
+    ensures searched { HasSearched (root.now.height + 1) (5 * root.now.height)
+        editor.old editor.new }
+{
+    ends_in_cr(added) && is_lf(editor, root, at)
+}
+
 /// Inserts a text by splitting full lists where they stand, or else by a new tree, which takes the
 /// old one's place last of all.
-fn insert_splitting(
+fn insert_or_rebuild(
     editor: &mut Editor,
     root: &mut Node,
     at: usize,
@@ -52,7 +66,7 @@ fn insert_splitting(
     ensures searched { HasSearched (2 * root.old.height) (14 * root.old.height)
         editor.old editor.new }
 {
-    if root.insert_parting(editor, at, added, to_right)? {
+    if root.insert_splitting(editor, at, added, to_right)? {
         return Ok(());
     }
     let nodes = insert(editor, root, at, added, to_right)?;
@@ -65,7 +79,7 @@ fn insert_splitting(
 /// 1. Where the nodes stand, if the leaf has room, or can be cut into two, since the list that it
 ///    is in has room for one more. It takes memory for copies of shared nodes, and for a second
 ///    leaf.
-/// 2. By a second descent (`Node::insert_parting`), if that list is full, but one above it isn't:
+/// 2. By a second descent (`Node::insert_splitting`), if that list is full, but one above it isn't:
 ///    each full list below that one becomes two new ones.
 /// 3. Else, as where all lists up to the root are full, by a new tree, which shares the nodes off
 ///    the way. It takes the old one's place last of all, so that a refusal leaves the tree as it
@@ -84,14 +98,12 @@ pub fn insert_at(editor: &mut Editor, root: &mut Node, at: usize, added: &str) -
         + 2) (33 * root.old.height) editor.old editor.new }
 {
     let added = ShortText::new(added);
-    // At a seam between leaves, a text that ends in CR goes to the right if an LF stands there: so
-    // the two come to lie in one leaf.
-    let to_right = ends_in_cr(added.as_str()) && is_lf(editor, root, at);
+    let to_right = goes_right(editor, root, at, added.as_str());
     if root.insert_in_place(editor, at, &added, to_right, true, &mut TextInfo::new())? {
         return Ok(());
     }
     // The first try made the nodes on the way the tree's own, so this one needn't copy any.
-    insert_splitting(editor, root, at, &added.as_medium(), to_right)
+    insert_or_rebuild(editor, root, at, &added.as_medium(), to_right)
 }
 
 /// Inserts a medium text before the character `at` of a tree of more than one leaf: the leaf at its
@@ -112,8 +124,8 @@ pub fn insert_medium_at(editor: &mut Editor, root: &mut Node, at: usize, added: 
         editor.old editor.new }
 {
     let added = MediumText::new(added);
-    let to_right = ends_in_cr(added.as_str()) && is_lf(editor, root, at);
-    insert_splitting(editor, root, at, &added, to_right)
+    let to_right = goes_right(editor, root, at, added.as_str());
+    insert_or_rebuild(editor, root, at, &added, to_right)
 }
 
 /// At a tree's ends no other leaf stands, so the first leaf and the last may have any length.

@@ -88,7 +88,12 @@ pub(crate) fn insert(
             if added.len() > MAX_SHORT_BYTES && child.height() == 0 {
                 let mut pieces = Pieces::new();
                 fill_with(&mut editor.maker, child, inside, added, &mut pieces)?;
-                return pack_over(&mut editor.maker, before, Row::new(pieces.as_slice()), after);
+                return pack_over(
+                    &mut editor.maker,
+                    before,
+                    Row::new(pieces.as_slice()),
+                    after,
+                );
             }
             let middle = insert(editor, child, inside, added, to_right)?;
             pack(&mut editor.maker, before, middle, after)

@@ -7,7 +7,7 @@ ghost use Rattle.rope_text.specs.declared.TheConstants.{MAX_CHILDREN, MAX_SHORT_
 ghost use Rattle.rope_text.specs.Text.{byte_len};
 ghost use Rattle.rope_text.specs.Edit.{inserted};
 ghost use Rattle.rope_tree.specs.Tree.{Tree, text, joined, height_of, tree_over, IsTree, AreFamily};
-ghost use Rattle.rope_tree.specs.declared.node.in_place.Cut.TheVariants.{Kept, Grown, Parted};
+ghost use Rattle.rope_tree.specs.declared.node.in_place.Cut.TheVariants.{Kept, Grown, Split};
 ghost use Rattle.rope_tree.specs.Change.{GrowsBy, FallsBy, GrowBy, FallBy};
 ghost use Rattle.rope_tree.specs.Searched.{HasSearched};
 ghost use Rattle.rope_tree.specs.Insert.{TakesShort, Takes, MayInsert, GoesIn, IsInserted, IsCut, AreGrown, extra_leaves};
@@ -121,7 +121,7 @@ enum Cut {
     /// It took the text.
     Grown,
     /// It has the first part of the text; this node has the second.
-    Parted(Node),
+    Split(Node),
 }
 
 /// Inserts a node behind the one at a place. The last node, an empty one, drops out.
@@ -289,7 +289,7 @@ impl Children {
             (AreGrown self.old self.new (inserted (joined self.old) at added.now)) }
     {
         let before = self.total();
-        if !self.part_child(editor, at, &added.as_medium(), to_right)? {
+        if !self.split_child(editor, at, &added.as_medium(), to_right)? {
             return Ok(false);
         }
         *more = self.total().minus(before);
@@ -297,7 +297,7 @@ impl Children {
     }
 
     /// The same, but doesn't say by how much the counts grew.
-    fn part_child(
+    fn split_child(
         &mut self,
         editor: &mut Editor,
         at: usize,
@@ -339,7 +339,7 @@ impl Children {
                 self.totals.retotal(place, old, new);
                 return Ok(true);
             }
-            Cut::Parted(back) => back,
+            Cut::Split(back) => back,
         };
         let front = node.info();
         let total = total_before(&self.totals, place).plus(front);
@@ -352,10 +352,10 @@ impl Children {
     /// Puts a text before the character `at`, if a list on the way, but for the lowest, has room
     /// for one child more: the full list below it becomes two. Returns whether it did. Nothing has
     /// changed if no list has room, if a node on the way is shared, or if memory is refused.
-    #[cycle(parting)]
+    #[cycle(splitting)]
     #[cold]
     #[inline(never)]
-    fn insert_parting(
+    fn insert_splitting(
         &mut self,
         editor: &mut Editor,
         at: usize,
@@ -384,8 +384,8 @@ impl Children {
         let WayIn { place, inside, .. } = self.way_in(editor, at, to_right, false);
         let node = &mut self.nodes[place];
         let old = node.info();
-        if !node.insert_parting(editor, inside, added, to_right)? {
-            return self.part_child(editor, at, added, to_right);
+        if !node.insert_splitting(editor, inside, added, to_right)? {
+            return self.split_child(editor, at, added, to_right);
         }
         let grown = node.info();
         self.totals.retotal(place, old, grown);
@@ -525,8 +525,8 @@ impl Node {
     /// Inserts a text before the character `at`, and returns whether it did: if a list on the path,
     /// but for the lowest, has room for one more child, and all nodes on the path to it are this
     /// tree's own. If memory is refused, the tree is as it was.
-    #[cycle(parting)]
-    pub(crate) fn insert_parting(
+    #[cycle(splitting)]
+    pub(crate) fn insert_splitting(
         &mut self,
         editor: &mut Editor,
         at: usize,
@@ -549,7 +549,7 @@ impl Node {
     {
         match &mut self.form {
             Form::Inner(children) => match Rc::get_mut(children) {
-                Some(children) => children.insert_parting(editor, at, added, to_right),
+                Some(children) => children.insert_splitting(editor, at, added, to_right),
                 None => Ok(false),
             },
             _ => Ok(false),
@@ -589,7 +589,7 @@ impl Node {
             return Ok(Cut::Kept);
         };
         match leaf.cut(&mut editor.maker, at, &added.as_short())? {
-            Some(back) => Ok(Cut::Parted(back)),
+            Some(back) => Ok(Cut::Split(back)),
             None => Ok(Cut::Kept),
         }
     }
@@ -621,7 +621,7 @@ impl Node {
             }
             Nodes::Two(front, back) => {
                 *self = front;
-                Ok(Cut::Parted(back))
+                Ok(Cut::Split(back))
             }
         }
     }

@@ -5,14 +5,14 @@ use Rattle.rope_text.specs.Edit.{inserted}
 use Rattle.rope_tree.specs.Tree.{text}
 use Rattle.rope_tree.proofs.InsertRoots.{root_children, root_text, root_breaks, root_tree}
 use Rattle.rope_tree.proofs.InsertTrees.{byte_len-inserted}
-use Rattle.rope_tree.proofs.short_edits.insert_splitting.Goals.{In_ok-nodes}
-use Rattle.rope_tree.proofs.short_edits.insert_splitting.Goals as goal
+use Rattle.rope_tree.proofs.short_edits.insert_or_rebuild.Goals.{In_ok-nodes}
+use Rattle.rope_tree.proofs.short_edits.insert_or_rebuild.Goals as goal
 
-kept : (c : In_ok-nodes) → c.insert_parting.new.self ≡ c.args.root.now
-kept c = c.in_ok-insert_parting.ensures.tried.kept c.if-branch.false
+kept : (c : In_ok-nodes) → c.insert_splitting.new.self ≡ c.args.root.now
+kept c = c.in_ok-insert_splitting.ensures.tried.kept c.if-branch.false
 
-fits : (c : In_ok-nodes) → byte_len (inserted (text c.insert_parting.new.self) c.args.at c.args.added.now) < 2 ^ 63
-fits c = omega (arith, byte_len-inserted (text c.insert_parting.new.self) c.args.at c.args.added.now, c.requires.takes.fits, ap (λ t. byte_len (text t)) (kept c))
+fits : (c : In_ok-nodes) → byte_len (inserted (text c.insert_splitting.new.self) c.args.at c.args.added.now) < 2 ^ 63
+fits c = omega (arith, byte_len-inserted (text c.insert_splitting.new.self) c.args.at c.args.added.now, c.requires.takes.fits, ap (λ t. byte_len (text t)) (kept c))
 
 pub root_of-requires : goal.root_of-requires
 root_of-requires c = root_children _ _ _ c.in_ok-nodes.ensures.ok (fits (goal.at.root_of-requires c).In_ok-nodes)
