@@ -1,5 +1,5 @@
-//! Edits of whole trees that change one leaf or two: short inserts, and removals of characters that
-//! lie in one leaf or in two side by side.
+//! Edits of whole trees that replace one leaf, or change two: inserts of short and of medium texts,
+//! and removals of characters that lie in one leaf or in two side by side.
 ghost use Rattle.std.specs.Prelude.{◌≡◌, ◌+◌, ◌-◌, ◌*◌, ◌<◌, ◌≤◌, ◌^◌, true, false, length, drop, IfOk, OnOk, OnErr};
 ghost use Rattle.std.specs.Str.{chars};
 ghost use Rattle.rope_text.specs.declared.TheConstants.{MAX_BYTES, MAX_SHORT_BYTES};
@@ -9,13 +9,14 @@ ghost use Rattle.rope_text.specs.Edit.{inserted, removed};
 ghost use Rattle.rope_tree.specs.Tree.{text, leaf_tree, IsTree};
 ghost use Rattle.rope_tree.specs.View.{trees_in};
 ghost use Rattle.rope_tree.specs.Searched.{HasSearched};
-ghost use Rattle.rope_tree.specs.Insert.{TakesShort, MayInsert, IsInserted};
+ghost use Rattle.rope_tree.specs.declared.TheConstants.{MAX_MEDIUM_BYTES};
+ghost use Rattle.rope_tree.specs.Insert.{Takes, MayInsert, IsInserted, extra_leaves};
 ghost use Rattle.rope_tree.specs.Tries.{IsTried};
 
 use crate::beside::Least;
 use crate::leaf_edits::ends_in_cr;
 use crate::node::anew::insert;
-use crate::{Editor, Made, Node, ShortText, root_of};
+use crate::{Editor, Made, MediumText, Node, ShortText, root_of};
 use rope_text::TextInfo;
 
 /// Returns whether the character at an index is LF. The end of the text has none.
@@ -30,12 +31,55 @@ pub fn is_lf(editor: &mut Editor, node: &Node, at: usize) -> bool
     at < node.info().chars && editor.char_at(node, at) == '\n'
 }
 
+/// Returns on which side of a seam between leaves a text goes: a text that ends in CR goes to the
+/// right of it if an LF stands there, so that the two lie in one leaf.
+#[inline(always)]
+fn goes_right(editor: &mut Editor, root: &Node, at: usize, added: &str) -> bool
+    requires { at ≤ length (text root.now) }
+    ensures side { MayInsert root.now at (chars added.now) result }
+    ensures tree { result ≡ true → IsTree root.now }
+    ensures made { editor.new.maker.made ≡ editor.old.maker.made }
+    ensures searched { HasSearched (root.now.height + 1) (5 * root.now.height)
+        editor.old editor.new }
+{
+    ends_in_cr(added) && is_lf(editor, root, at)
+}
+
+/// Inserts a text by splitting full lists where they stand, or else by a new tree, which takes the
+/// old one's place last of all.
+fn insert_or_rebuild(
+    editor: &mut Editor,
+    root: &mut Node,
+    at: usize,
+    added: &MediumText<'_>,
+    to_right: bool,
+) -> Made<()>
+    requires takes { Takes root.old at added.now }
+    requires low { root.old.height ≡ 0 → byte_len added.now ≤ MAX_SHORT_BYTES }
+    requires side { MayInsert root.old at added.now to_right }
+    ensures text { OnOk result (text root.new ≡ inserted (text root.old) at added.now) }
+    ensures breaks { root.new.breaks ≡ root.old.breaks }
+    ensures tree { IsTree root.new }
+    ensures err { OnErr result (root.new ≡ root.old) }
+    ensures made { editor.new.maker.made ≤ editor.old.maker.made + 2 * root.old.height + 3
+        + extra_leaves (byte_len added.now) }
+    ensures searched { HasSearched (2 * root.old.height) (14 * root.old.height)
+        editor.old editor.new }
+{
+    if root.insert_splitting(editor, at, added, to_right)? {
+        return Ok(());
+    }
+    let nodes = insert(editor, root, at, added, to_right)?;
+    *root = root_of(&mut editor.maker, nodes)?;
+    Ok(())
+}
+
 /// Puts a text of 1 to 981 bytes before the character `at`, by the first of three ways that can:
 ///
 /// 1. Where the nodes stand, if the leaf has room, or can be cut into two, since the list that it
 ///    is in has room for one more. It takes memory for copies of shared nodes, and for a second
 ///    leaf.
-/// 2. By a second descent (`Node::insert_parting`), if that list is full, but one above it isn't:
+/// 2. By a second descent (`Node::insert_splitting`), if that list is full, but one above it isn't:
 ///    each full list below that one becomes two new ones.
 /// 3. Else, as where all lists up to the root are full, by a new tree, which shares the nodes off
 ///    the way. It takes the old one's place last of all, so that a refusal leaves the tree as it
@@ -54,19 +98,34 @@ pub fn insert_at(editor: &mut Editor, root: &mut Node, at: usize, added: &str) -
         + 2) (33 * root.old.height) editor.old editor.new }
 {
     let added = ShortText::new(added);
-    // At a seam between leaves, a text that ends in CR goes to the right if an LF stands there: so
-    // the two come to lie in one leaf.
-    let to_right = ends_in_cr(added.as_str()) && is_lf(editor, root, at);
+    let to_right = goes_right(editor, root, at, added.as_str());
     if root.insert_in_place(editor, at, &added, to_right, true, &mut TextInfo::new())? {
         return Ok(());
     }
     // The first try made the nodes on the way the tree's own, so this one needn't copy any.
-    if root.insert_parting(editor, at, &added, to_right)? {
-        return Ok(());
-    }
-    let nodes = insert(editor, root, at, &added, to_right)?;
-    *root = root_of(&mut editor.maker, nodes)?;
-    Ok(())
+    insert_or_rebuild(editor, root, at, &added.as_medium(), to_right)
+}
+
+/// Inserts a medium text before the character `at` of a tree of more than one leaf: the leaf at its
+/// index is replaced by up to six, by the second or the third way of [`insert_at`].
+pub fn insert_medium_at(editor: &mut Editor, root: &mut Node, at: usize, added: &str) -> Made<()>
+    requires within { at ≤ length (text root.old) }
+    requires inner { 1 ≤ root.old.height }
+    requires some { 1 ≤ length added.now }
+    requires medium { length added.now ≤ MAX_MEDIUM_BYTES }
+    requires fits { byte_len (text root.old) + length added.now < 2 ^ 63 }
+    ensures text { OnOk result (text root.new ≡ inserted (text root.old) at (chars added.now)) }
+    ensures breaks { root.new.breaks ≡ root.old.breaks }
+    ensures tree { IsTree root.new }
+    ensures err { OnErr result (root.new ≡ root.old) }
+    ensures made { editor.new.maker.made ≤ editor.old.maker.made + 2 * root.old.height + 3
+        + extra_leaves (length added.now) }
+    ensures searched { HasSearched (3 * root.old.height + 1) (19 * root.old.height)
+        editor.old editor.new }
+{
+    let added = MediumText::new(added);
+    let to_right = goes_right(editor, root, at, added.as_str());
+    insert_or_rebuild(editor, root, at, &added, to_right)
 }
 
 /// At a tree's ends no other leaf stands, so the first leaf and the last may have any length.

@@ -22,8 +22,8 @@ use Rattle.rope_tree.proofs.GrownLaws.{totals_seen, children_grown, grown_by_one
 use Rattle.rope_tree.proofs.ListedLaws.{put_in_place, more_seen, more_listed}
 use Rattle.rope_tree.proofs.ChildLaws.{Finds, found_at, read, part, child_fits, may, small, still_narrow, fields_after, all_grown}
 use Rattle.rope_tree.proofs.CutLaws.{Cuts, own_first, own_second, small_both, cut_fits, few_bytes, first_narrow, totals_cut}
-use Rattle.rope_tree.proofs.node.Children.part_child.Goals.{After-info-old, After-info-front, After-put_behind, then-count-ge-MAX_CHILDREN-via-then-count-ge-MAX_CHILDREN, then-count-ge-MAX_CHILDREN-via-else-count-ge-MAX_CHILDREN+then-not-has_room_for}
-use Rattle.rope_tree.proofs.node.Children.part_child.Goals as goal
+use Rattle.rope_tree.proofs.node.Children.split_child.Goals.{After-info-old, After-info-front, After-put_behind, then-count-ge-MAX_CHILDREN-via-then-count-ge-MAX_CHILDREN, then-count-ge-MAX_CHILDREN-via-else-count-ge-MAX_CHILDREN+then-not-has_room_for}
+use Rattle.rope_tree.proofs.node.Children.split_child.Goals as goal
 
 -- the child that takes the text, before it is cut
 found : (c : After-info-old) → Finds c.self.inside c.args.self.now c.way_in-place.result.place (get_or c.self.inside.nodes c.way_in-place.result.place c.index-self-place.result) c.args.at c.way_in-place.result.inside c.args.to_right
@@ -43,7 +43,7 @@ parted_at c =
 pub cut-requires-clause-takes : goal.cut-requires-clause-takes
 cut-requires-clause-takes c =
     let f = found (goal.at.cut-requires-clause-takes c).After-info-old in
-    record { within = f.taken.goes.within; some = c.requires.takes.some; short = c.requires.takes.short; fits = child_fits _ _ _ _ _ _ _ f c.args.added.now c.requires.takes.some c.requires.side c.requires.takes.fits }
+    record { within = f.taken.goes.within; some = c.requires.takes.some; fits = child_fits _ _ _ _ _ _ _ f c.args.added.now c.requires.takes.some c.requires.side c.requires.takes.fits }
 
 pub cut-requires-clause-side : goal.cut-requires-clause-side
 cut-requires-clause-side c =
@@ -115,7 +115,7 @@ returns-in-Grown-clause-tried c = record {
 
 -- the children with both parts of the leaf
 abbrev parts : After-info-front → List Tree
-parts c = insert (set c.args.self.now c.way_in-place.result.place c.cut.new.self) (c.way_in-place.result.place + 1) c.in-Parted.back
+parts c = insert (set c.args.self.now c.way_in-place.result.place c.cut.new.self) (c.way_in-place.result.place + 1) c.in-Split.back
 
 parted : (c : After-info-front) → AreGrown c.args.self.now (parts c) (inserted (joined c.args.self.now) c.args.at c.args.added.now)
 parted c =
@@ -125,15 +125,15 @@ parted c =
     let d = (parted_at c).taken in
     let g = d.goes in
     let new = inserted (text (child c)) c.way_in-place.result.inside c.args.added.now in
-    let done : IsInserted (child c) (u ∷ c.in-Parted.back ∷ []) new = rw c.in-Parted.is at c.in_ok-cut.ensures.cut in
+    let done : IsInserted (child c) (u ∷ c.in-Split.back ∷ []) new = rw c.in-Split.is at c.in_ok-cut.ensures.cut in
     let few : length ts < 24 = omega (arith, c.if-count-ge-MAX_CHILDREN.false, c.len-count.ensures, c.self.invariant.totals_right.as_many, ap length c.self.view_is) in
-    grown_by_one (breaks_of ts) (height_of ts) ts k (child c) u c.in-Parted.back d.children d.within d.child_is c.args.at c.way_in-place.result.inside c.args.added.now c.requires.takes.some
+    grown_by_one (breaks_of ts) (height_of ts) ts k (child c) u c.in-Split.back d.children d.within d.child_is c.args.at c.way_in-place.result.inside c.args.added.now c.requires.takes.some
     d.place g.within c.args.to_right g.inside g.outside c.requires.side done c.requires.takes.fits refl refl few
 
 children : (c : After-info-front) → AreChildren (breaks_of c.args.self.now) (height_of c.args.self.now) (parts c)
 children c = children_grown c.args.self.now (parts c) _ c.requires.children (parted c)
 
-cut : (c : After-info-front) → Cuts c.args.self.now (parts c) c.way_in-place.result.place (child c) c.cut.new.self c.in-Parted.back
+cut : (c : After-info-front) → Cuts c.args.self.now (parts c) c.way_in-place.result.place (child c) c.cut.new.self c.in-Split.back
 cut c = record { children = c.requires.children; within = c.way_in-place.ensures.child; child_is = (parted_at c).taken.child_is; after = children c; is = refl }
 
 totals : (c : After-info-front) → HasTotals (breaks_of c.args.self.now) c.self.inside.totals c.args.self.now
@@ -168,12 +168,12 @@ module _ (c : After-info-front) where
   small_front : IsSmall c.info-front.result
   small_front = rw (front_counts c) (small_info br (text u) (own_first _ _ _ _ _ _ (cut c)).tree.fits)
 
-  small_back : (back : TextInfo) → back ≡ info_of c.in-Parted.back.breaks (text c.in-Parted.back) → IsSmall back
-  small_back back is = rw is (small_info c.in-Parted.back.breaks (text c.in-Parted.back) (own_second _ _ _ _ _ _ (cut c)).tree.fits)
+  small_back : (back : TextInfo) → back ≡ info_of c.in-Split.back.breaks (text c.in-Split.back) → IsSmall back
+  small_back back is = rw is (small_info c.in-Split.back.breaks (text c.in-Split.back) (own_second _ _ _ _ _ _ (cut c)).tree.fits)
 
-  both_are : (back both : TextInfo) → back ≡ info_of c.in-Parted.back.breaks (text c.in-Parted.back) → both ≡ info_sum c.info-front.result back → both ≡ info_sum (info_of br (text u)) (info_of br (text c.in-Parted.back))
+  both_are : (back both : TextInfo) → back ≡ info_of c.in-Split.back.breaks (text c.in-Split.back) → both ≡ info_sum c.info-front.result back → both ≡ info_sum (info_of br (text u)) (info_of br (text c.in-Split.back))
   both_are back both is sum =
-      let own = is ∙ ap (λ b. info_of b (text c.in-Parted.back)) (own_second _ _ _ _ _ _ (cut c)).same_breaks in
+      let own = is ∙ ap (λ b. info_of b (text c.in-Split.back)) (own_second _ _ _ _ _ _ (cut c)).same_breaks in
       sum ∙ ap (λ x. info_sum x back) (front_counts c) ∙ ap (λ x. info_sum (info_of br (text u)) x) own
 
   first_is : (before first : TextInfo) → before ≡ info_of br (joined front) → first ≡ info_sum before c.info-front.result → first ≡ info_sum (info_of br (joined front)) (info_of br (text u))
@@ -222,9 +222,9 @@ insert-requires-clause-narrow c = λ narrow.
     rw (first_is f c.total_before.result c.plus-total.result before c.plus-total.ensures.sum) (first_narrow _ _ _ _ _ _ (cut f) few)
 
 -- the nodes in use, with the second part of the leaf behind the first
-placed : (c : After-put_behind) → c.put_behind.new.nodes ≡ insert (set c.args.self.now c.way_in-place.result.place c.cut.new.self) (c.way_in-place.result.place + 1) c.in-Parted.back
+placed : (c : After-put_behind) → c.put_behind.new.nodes ≡ insert (set c.args.self.now c.way_in-place.result.place c.cut.new.self) (c.way_in-place.result.place + 1) c.in-Split.back
 placed c =
-    put_in_place c.self.inside c.args.self.now c.way_in-place.result.place c.cut.new.self c.in-Parted.back c.len-count.result c.put_behind.new.nodes c.self.invariant c.self.view_is c.way_in-place.ensures.child
+    put_in_place c.self.inside c.args.self.now c.way_in-place.result.place c.cut.new.self c.in-Split.back c.len-count.result c.put_behind.new.nodes c.self.invariant c.self.view_is c.way_in-place.ensures.child
     c.len-count.ensures (omega (arith, c.if-count-ge-MAX_CHILDREN.false)) c.put_behind.ensures
 
 -- as many as there are places for
@@ -234,10 +234,10 @@ as_many c =
     let k = c.way_in-place.result.place in
     let u = c.cut.new.self in
     let within = c.way_in-place.ensures.child in
-    omega (arith, ap length (placed c), length-insert (set ts k u) (k + 1) c.in-Parted.back (omega (arith, length-set ts k u, within)), length-set ts k u, c.len-count.ensures, c.self.invariant.totals_right.as_many, ap length c.self.view_is)
+    omega (arith, ap length (placed c), length-insert (set ts k u) (k + 1) c.in-Split.back (omega (arith, length-set ts k u, within)), length-set ts k u, c.len-count.ensures, c.self.invariant.totals_right.as_many, ap length c.self.view_is)
 
 module _ (c : After-info-front) (total back both : TextInfo) (mid after : List TextInfo) (first : total ≡ info_sum (info_of (breaks_of c.args.self.now) (joined (take c.way_in-place.result.place c.args.self.now))) (info_of (breaks_of c.args.self.now) (text c.cut.new.self)))
-    (parts_are : both ≡ info_sum (info_of (breaks_of c.args.self.now) (text c.cut.new.self)) (info_of (breaks_of c.args.self.now) (text c.in-Parted.back)))
+    (parts_are : both ≡ info_sum (info_of (breaks_of c.args.self.now) (text c.cut.new.self)) (info_of (breaks_of c.args.self.now) (text c.in-Split.back)))
     (len : length mid ≡ length c.self.inside.totals) (before : (j : ℕ) (d : TextInfo) → j < c.way_in-place.result.place → get_or mid j d ≡ get_or c.self.inside.totals j d)
     (past : (j : ℕ) (d : TextInfo) → c.way_in-place.result.place ≤ j → j < length c.self.inside.totals → info_sum (get_or mid j d) c.info-old.result ≡ info_sum (get_or c.self.inside.totals j d) both)
     (more : length after ≡ length mid + 1) (early : (j : ℕ) (d : TextInfo) → j < c.way_in-place.result.place → get_or after j d ≡ get_or mid j d) (own : (d : TextInfo) → get_or after c.way_in-place.result.place d ≡ total)
