@@ -197,7 +197,7 @@ impl Marks {
 
     /// Moves the marks through a change of the text: each end to where `ChangeSet::map` puts it. An
     /// end that would come before its start, as it may where text is inserted at an empty mark,
-    /// comes to the start. Takes no memory.
+    /// moves to the start. Takes no memory.
     ///
     /// # Errors
     ///
