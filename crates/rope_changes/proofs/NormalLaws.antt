@@ -43,7 +43,7 @@ normal_after (keep ∷ a) = ap suc (normal_after a)
 normal_after (delete ∷ a) = delete_after_after (normal_form a) ∙ normal_after a
 normal_after (insert c ∷ a) = ap suc (normal_after a)
 
--- the normal form of a part may stand for it
+-- a part can be replaced by its normal form
 delete_after_append : (a b : List Op)
     → normal_form (delete_after a ++ b) ≡ delete_after (normal_form (a ++ b))
 delete_after_append [] b = refl

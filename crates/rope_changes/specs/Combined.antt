@@ -1,4 +1,4 @@
--- Changes made of changes: two in a row as one, the way back, and one carried over another.
+-- Changes made of changes: two in a row as one, the inverse of one, and one carried over another.
 use Rattle.std.specs.Prelude.{ℕ, List, [], ◌∷◌}
 use Rattle.rope_changes.specs.Ops.{Op, keep, delete, insert, len_after}
 use Rattle.rope_changes.specs.Change.{keeping}
@@ -48,7 +48,7 @@ past_deleted rest (keep ∷ ops) = rest ops
 past_deleted rest (delete ∷ ops) = rest ops
 past_deleted rest (insert c ∷ ops) = insert c ∷ past_deleted rest ops
 
--- the second change as a change of the text after the first; where both insert at one place, what
+-- the second change as a change of the text after the first; where both insert at one index, what
 -- the first inserts comes first
 abbrev pub rebase_second : List Op → List Op → List Op
 rebase_second [] second = second
@@ -69,7 +69,7 @@ over_deleted rest (keep ∷ second) = delete ∷ rest second
 over_deleted rest (delete ∷ second) = rest second
 over_deleted rest (insert c ∷ second) = keep ∷ over_deleted rest second
 
--- the first change as a change of the text after the second; where both insert at one place, what
+-- the first change as a change of the text after the second; where both insert at one index, what
 -- the first inserts comes first
 abbrev pub rebase_first : List Op → List Op → List Op
 rebase_first [] second = keeping (len_after second) []

@@ -5,12 +5,12 @@ use std::test::Fail;
 
 #[test]
 fn a_change_is_built_mapped_applied_and_undone(rt: HostRuntime) -> Result<(), Fail> {
-    let mut rope = Rope::from_str(rt.alloc(), "one two")?;
-    let mut change = ChangeSet::new(rt.alloc(), 7)?;
+    let mut rope = Rope::from_str(rt.alloc(), "one two").expect(&rt, "there is memory");
+    let mut change = ChangeSet::new(rt.alloc(), 7).expect(&rt, "there is memory");
     assert!(rt; change.is_empty());
-    change.replace(0, 3, "1")?;
-    change.replace(4, 4, "and ")?;
-    change.replace(4, 7, "2")?;
+    change.replace(0, 3, "1").expect(&rt, "there is memory");
+    change.replace(4, 4, "and ").expect(&rt, "there is memory");
+    change.replace(4, 7, "2").expect(&rt, "there is memory");
     assert!(rt; !change.is_empty());
     assert_eq!(rt; change.len_before(), 7);
     assert_eq!(rt; change.len_after(), 7);
@@ -19,27 +19,27 @@ fn a_change_is_built_mapped_applied_and_undone(rt: HostRuntime) -> Result<(), Fa
     assert_eq!(rt; change.map(3, Side::Before), 1);
     assert_eq!(rt; change.map(4, Side::Before), 2);
     assert_eq!(rt; change.map(4, Side::After), 7);
-    let back = change.invert(&rope)?;
-    change.apply(&mut rope)?;
+    let back = change.invert(&rope).expect(&rt, "there is memory");
+    change.apply(&mut rope).expect(&rt, "there is memory");
     assert!(rt; rope.eq_str("1 and 2"));
-    back.apply(&mut rope)?;
+    back.apply(&mut rope).expect(&rt, "there is memory");
     assert!(rt; rope.eq_str("one two"));
     Ok(())
 }
 
 #[test]
 fn edits_have_their_ranges_in_both_texts(rt: HostRuntime) -> Result<(), Fail> {
-    let mut change = ChangeSet::new(rt.alloc(), 7)?;
-    change.replace(0, 3, "1")?;
-    change.replace(4, 4, "and ")?;
+    let mut change = ChangeSet::new(rt.alloc(), 7).expect(&rt, "there is memory");
+    change.replace(0, 3, "1").expect(&rt, "there is memory");
+    change.replace(4, 4, "and ").expect(&rt, "there is memory");
     let mut edits = change.edits();
-    let first = edits.next().ok_or("no edit")?;
+    let first = edits.next().expect(&rt, "an edit is left");
     assert_eq!(rt;
         [first.start, first.end, first.new_start, first.new_end],
         [0, 3, 0, 1]
     );
     assert_eq!(rt; first.text, "1");
-    let second = edits.next().ok_or("one edit")?;
+    let second = edits.next().expect(&rt, "an edit is left");
     assert_eq!(rt;
         [second.start, second.end, second.new_start, second.new_end],
         [4, 4, 2, 6]
@@ -51,8 +51,8 @@ fn edits_have_their_ranges_in_both_texts(rt: HostRuntime) -> Result<(), Fail> {
 
 #[test]
 fn errors_name_both_numbers(rt: HostRuntime) -> Result<(), Fail> {
-    let mut change = ChangeSet::new(rt.alloc(), 7)?;
-    change.replace(2, 5, "x")?;
+    let mut change = ChangeSet::new(rt.alloc(), 7).expect(&rt, "there is memory");
+    change.replace(2, 5, "x").expect(&rt, "there is memory");
     assert_eq!(rt;
         change.replace(6, 5, ""),
         Err(ChangeError::RangeInvalid(6, 5))
@@ -65,7 +65,7 @@ fn errors_name_both_numbers(rt: HostRuntime) -> Result<(), Fail> {
         change.replace(4, 6, ""),
         Err(ChangeError::OutOfOrder(4, 5))
     );
-    let mut rope = Rope::from_str(rt.alloc(), "one")?;
+    let mut rope = Rope::from_str(rt.alloc(), "one").expect(&rt, "there is memory");
     assert_eq!(rt;
         change.apply(&mut rope),
         Err(ChangeError::LengthDiffers(7, 3))
@@ -88,7 +88,7 @@ fn a_change_is_built_from_edits_and_moves_sorted_indices(rt: HostRuntime) -> Res
             text: "and ",
         },
     ];
-    let change = ChangeSet::of_edits(rt.alloc(), 7, &edits)?;
+    let change = ChangeSet::of_edits(rt.alloc(), 7, &edits).expect(&rt, "there is memory");
     assert_eq!(rt; change.len_after(), 9);
     let mut ascending = [0, 2, 4, 4, 7];
     change.map_sorted(&mut ascending, Side::After);
@@ -103,23 +103,23 @@ fn a_change_is_built_from_edits_and_moves_sorted_indices(rt: HostRuntime) -> Res
 
 #[test]
 fn composed_changes_do_what_both_do(rt: HostRuntime) -> Result<(), Fail> {
-    let mut rope = Rope::from_str(rt.alloc(), "one two")?;
-    let mut first = ChangeSet::new(rt.alloc(), 7)?;
-    first.replace(0, 3, "1, ")?;
-    first.replace(4, 7, "2")?;
-    let mut later = ChangeSet::new(rt.alloc(), 5)?;
-    later.replace(1, 2, "")?;
-    later.replace(5, 5, "!")?;
-    let both = first.compose(&later)?;
+    let mut rope = Rope::from_str(rt.alloc(), "one two").expect(&rt, "there is memory");
+    let mut first = ChangeSet::new(rt.alloc(), 7).expect(&rt, "there is memory");
+    first.replace(0, 3, "1, ").expect(&rt, "there is memory");
+    first.replace(4, 7, "2").expect(&rt, "there is memory");
+    let mut later = ChangeSet::new(rt.alloc(), 5).expect(&rt, "there is memory");
+    later.replace(1, 2, "").expect(&rt, "there is memory");
+    later.replace(5, 5, "!").expect(&rt, "there is memory");
+    let both = first.compose(&later).expect(&rt, "there is memory");
     let mut edits = both.edits();
-    let start = edits.next().ok_or("no edit")?;
+    let start = edits.next().expect(&rt, "an edit is left");
     assert_eq!(rt; [start.start, start.end], [0, 3]);
     assert_eq!(rt; start.text, "1 ");
-    let end = edits.next().ok_or("one edit")?;
+    let end = edits.next().expect(&rt, "an edit is left");
     assert_eq!(rt; [end.start, end.end], [4, 7]);
     assert_eq!(rt; end.text, "2!");
     assert!(rt; edits.next().is_none());
-    both.apply(&mut rope)?;
+    both.apply(&mut rope).expect(&rt, "there is memory");
     assert!(rt; rope.eq_str("1  2!"));
     let wrong = later.compose(&first);
     assert_eq!(rt; wrong.err(), Some(ChangeError::LengthDiffers(7, 5)));
@@ -128,23 +128,30 @@ fn composed_changes_do_what_both_do(rt: HostRuntime) -> Result<(), Fail> {
 
 #[test]
 fn rebased_changes_lead_to_one_text(rt: HostRuntime) -> Result<(), Fail> {
-    let mut one = ChangeSet::new(rt.alloc(), 4)?;
-    one.replace(1, 1, "x")?;
-    one.replace(2, 4, "")?;
-    let mut other = ChangeSet::new(rt.alloc(), 4)?;
-    other.replace(1, 1, "y")?;
-    other.replace(3, 3, "z")?;
-    let mut left = Rope::from_str(rt.alloc(), "abcd")?;
-    one.apply(&mut left)?;
+    let mut one = ChangeSet::new(rt.alloc(), 4).expect(&rt, "there is memory");
+    one.replace(1, 1, "x").expect(&rt, "there is memory");
+    one.replace(2, 4, "").expect(&rt, "there is memory");
+    let mut other = ChangeSet::new(rt.alloc(), 4).expect(&rt, "there is memory");
+    other.replace(1, 1, "y").expect(&rt, "there is memory");
+    other.replace(3, 3, "z").expect(&rt, "there is memory");
+    let mut left = Rope::from_str(rt.alloc(), "abcd").expect(&rt, "there is memory");
+    one.apply(&mut left).expect(&rt, "there is memory");
     assert!(rt; left.eq_str("axb"));
-    other.rebase(&one, Side::After)?.apply(&mut left)?;
+    other
+        .rebase(&one, Side::After)
+        .expect(&rt, "there is memory")
+        .apply(&mut left)
+        .expect(&rt, "there is memory");
     assert!(rt; left.eq_str("axybz"));
-    let mut right = Rope::from_str(rt.alloc(), "abcd")?;
-    other.apply(&mut right)?;
+    let mut right = Rope::from_str(rt.alloc(), "abcd").expect(&rt, "there is memory");
+    other.apply(&mut right).expect(&rt, "there is memory");
     assert!(rt; right.eq_str("aybczd"));
-    one.rebase(&other, Side::Before)?.apply(&mut right)?;
+    one.rebase(&other, Side::Before)
+        .expect(&rt, "there is memory")
+        .apply(&mut right)
+        .expect(&rt, "there is memory");
     assert!(rt; right.eq_str("axybz"));
-    let short = ChangeSet::new(rt.alloc(), 3)?;
+    let short = ChangeSet::new(rt.alloc(), 3).expect(&rt, "there is memory");
     let wrong = one.rebase(&short, Side::Before);
     assert_eq!(rt; wrong.err(), Some(ChangeError::LengthDiffers(4, 3)));
     Ok(())
@@ -152,7 +159,10 @@ fn rebased_changes_lead_to_one_text(rt: HostRuntime) -> Result<(), Fail> {
 
 #[test]
 fn errors_print_both_numbers(rt: HostRuntime) -> Result<(), Fail> {
-    let text = format!(in rt.alloc(); "{}", ChangeError::LengthDiffers(7, 3))?;
+    let text = format!(in rt.alloc(); "{}", ChangeError::LengthDiffers(7, 3)).expect(
+        &rt,
+        "there is memory",
+    );
     assert_eq!(rt;
         text.as_str(),
         "Text length differs: char length 3, the change is for 7"

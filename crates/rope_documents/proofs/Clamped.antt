@@ -152,7 +152,7 @@ module _ (breaks : LineBreaks) (text : List ℕ) (i : ℕ) (within : i ≤ lengt
     one_or_two true = omega arith
     one_or_two false = omega arith
 
-    -- the place lies before the line's break
+    -- the index lies before the line's break
     break_fits : i + last_break_len breaks here ≤ end
     break_fits =
         let pair : Bool = is_break_char breaks 13 && ends_in_crlf here in

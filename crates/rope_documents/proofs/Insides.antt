@@ -1,4 +1,4 @@
--- Places between CR and LF, and the nearest places outside.
+-- Indices between CR and LF, and the nearest indices outside.
 use Rattle.std.proofs.Common.{◌≡◌, ℕ, zero, suc, ◌+◌, ◌-◌, ◌<◌, ◌≤◌, Bool, true, false, ◌&&◌, eqb, inl, inr, List, [], ◌∷◌, ◌++◌, length, take, drop, get_or, refl, ap, ap₂, sym, ◌∙◌, arith, add-one}
 use Rattle.std.specs.Prelude.{Some, if◌then◌else◌}
 use Rattle.std.specs.List.{slice_get}
@@ -21,7 +21,7 @@ pub begins_first : (text : List ℕ) (i : ℕ) → i < length text
     → begins_with_lf (drop i text) ≡ eqb (get_or text i 0) 10
 begins_first text i within = ap begins_with_lf (drop_more text i 0 within)
 
--- the characters about a place between CR and LF
+-- the characters around an index between CR and LF
 pub record IsInside (text : List ℕ) (i : ℕ) : Type 0 where
   pub some : 1 ≤ i
   pub less : i < length text
@@ -61,7 +61,7 @@ inside_is text k less cr lf =
     ap₂ (λ x y. x && y) (ends_last text k (omega arith) ∙ ap (λ c. eqb c 13) cr)
     (begins_first text (k + 1) less ∙ ap (λ c. eqb c 10) lf)
 
--- a place before CR, or after LF, isn't inside
+-- an index before CR, or after LF, isn't inside
 pub cr_outside : (text : List ℕ) (i : ℕ) → i < length text → get_or text i 0 ≡ 13
     → is_inside_crlf text i ≡ false
 cr_outside text i less cr =
@@ -72,7 +72,7 @@ pub lf_outside : (text : List ℕ) (i : ℕ) → i < length text → get_or text
     → ends_in_cr (take (i + 1) text) ≡ false
 lf_outside text i less lf = ends_last text i less ∙ ap (λ c. eqb c 13) lf
 
--- the last place outside up to a place
+-- the last index outside up to an index
 pub record IsStart (text : List ℕ) (i j : ℕ) (before : List ℕ) : Type 0 where
   pub le : j ≤ i
   pub outside : is_inside_crlf text j ≡ false
@@ -100,7 +100,7 @@ begins_take : (text : List ℕ) → begins_with_lf (take 1 text) ≡ begins_with
 begins_take [] = refl
 begins_take (c ∷ text) = refl
 
--- texts that begin with the same characters, one more than come before a place
+-- texts that begin with the same characters, one more than come before an index
 module _ (text new : List ℕ) (i : ℕ) (same : take (i + 1) new ≡ take (i + 1) text) where
   pub front_same : (j : ℕ) → j ≤ i + 1 → take j new ≡ take j text
   front_same j le =
@@ -115,7 +115,7 @@ module _ (text new : List ℕ) (i : ℕ) (same : take (i + 1) new ≡ take (i + 
       (next new ∙ ap (λ t. begins_with_lf (drop j t)) (front_same (j + 1) (omega arith))
       ∙ sym (next text))
 
-  -- the first place outside from a place on
+  -- the first index outside from an index on
   pub record IsEnd (j : ℕ) (after : List ℕ) : Type 0 where
     pub ge : i ≤ j
     pub le : j ≤ length text
@@ -158,7 +158,7 @@ module _ (text new : List ℕ) (i : ℕ) (same : take (i + 1) new ≡ take (i + 
           joins = refl;
         }
 
--- the two characters about a place tell whether it is inside
+-- the two characters around an index tell whether it is inside
 pub inside_test : (text : List ℕ) (i c d : ℕ) → 1 ≤ i → slice_get text i ≡ Some c
     → slice_get text (i - 1) ≡ Some d → is_inside_crlf text i ≡ (eqb d 13 && eqb c 10)
 inside_test text zero c d some here before = absurd (omega arith)

@@ -23,7 +23,7 @@ use Rattle.rope_documents.proofs.Batches.{changed_append, error_append}
 use Rattle.rope_documents.proofs.Clamped.{clamped_returns, position_same}
 use Rattle.rope_documents.proofs.Insides.{IsStart, start_is, front_same, inside_same, IsEnd, end_is}
 
--- a text that is changed from a place on, by replacements that keep the character there
+-- a text that is changed from an index on, by replacements that keep the character there
 abbrev pub changed_from : List ℕ → ℕ → List Edit → ℕ → List ℕ
 changed_from text at edits rest = take at text ++ run (ops_of edits rest) (drop at text)
 
@@ -46,7 +46,7 @@ kept_front text at (e ∷ edits) rest apart fits =
     ∙ take-append-le (at + 1) (take (at + e.kept) text) later (omega arith)
     ∙ take-take (at + 1) (at + e.kept) text (omega arith)
 
--- a place of the text before, read in a text that begins with the same characters
+-- an index of the text before, read in a text that begins with the same characters
 module _ (encoding : Encoding) (breaks : LineBreaks) (text new : List ℕ) (i : ℕ)
     (within : i ≤ length text) (same : take i new ≡ take i text)
     (apart : is_inside_crlf text i ≡ false) (outside : is_inside_crlf new i ≡ false) where

@@ -17,8 +17,8 @@ use Rattle.rope_documents.specs.declared.content_change.ContentChange.{ContentCh
 use Rattle.rope_documents.specs.declared.error.DocumentError.{DocumentError}
 use Rattle.rope_documents.specs.declared.error.DocumentError.TheVariants.{RangeInvalid, TooLong}
 
--- a change of a document: the range that is replaced, or none for the whole text, and the text in
--- its place
+-- a change of a document: the range that is replaced, or none for the whole text, and the text that
+-- replaces it
 pub record TextChange : Type 0 where
   pub range : Option Range
   pub text : List ℕ

@@ -15,14 +15,14 @@ use Rattle.rope_documents.specs.Received.{TextChange}
 abbrev pub is_inside_crlf : List ℕ → ℕ → Bool
 is_inside_crlf text i = parts_crlf (take i text) (drop i text)
 
--- the last place up to i that isn't between CR and LF, and the characters from there to i
+-- the last index up to i that isn't between CR and LF, and the characters from there to i
 abbrev pub start_outside : List ℕ → ℕ → ℕ
 start_outside text i = if is_inside_crlf text i then i - 1 else i
 
 abbrev pub cr_before : List ℕ → ℕ → List ℕ
 cr_before text i = if is_inside_crlf text i then 13 ∷ [] else []
 
--- the first place from i on that isn't between CR and LF, and the characters from i to there
+-- the first index from i on that isn't between CR and LF, and the characters from i to there
 abbrev pub end_outside : List ℕ → ℕ → ℕ
 end_outside text i = if is_inside_crlf text i then i + 1 else i
 

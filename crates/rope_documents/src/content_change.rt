@@ -17,6 +17,6 @@ pub struct Range {
 pub struct ContentChange<'a> {
     /// The part that is replaced, or `None` for the whole document.
     pub range: Option<Range>,
-    /// The text in its place.
+    /// The text that replaces it.
     pub text: CowStr<'a>,
 }

@@ -262,7 +262,7 @@ ascent_take h [] (suc n) up = tt
 ascent_take h (p ∷ parents) zero up = tt
 ascent_take h (p ∷ parents) (suc n) up = (up.0, ascent_take (back_at h (Some p)) parents n up.1)
 
--- each parent on a way up is the one of the version before
+-- each parent of an ascent is the one of the version before
 pub ascent_at : (h : Versions) (parents : List ℕ) (i : ℕ) → i < length parents → IsAscent h parents
     → parent_of (ascended h (take i parents)) (ascended h (take i parents)).current
     ≡ Some (get_or parents i 0)

@@ -26,10 +26,10 @@
 //! after `commit` and `redo` pass it `change` of the current version, and after `undo` `inverse` of
 //! the version that was left. Contracts see marks as a list in order of the starts.
 //!
-//! `add` takes memory for one mark; no other call of marks takes any. `add` takes time for the
-//! marks that start later, `get` and `remove` for the marks, `apply` for two calls of
-//! `ChangeSet::map` per mark and for sorting the marks, which are nearly in order, and a cursor for
-//! the marks that it passes.
+//! `add` takes memory for one mark and its index; no other call of marks takes any. `get` takes
+//! logarithmic time in the number of marks, `add` time for the marks that start later, `remove` for
+//! the marks, `apply` for two calls of `ChangeSet::map` per mark and for sorting the marks, which
+//! are nearly in order, and a cursor for the marks that it passes.
 //!
 //! Modules:
 //! - `history`: the versions of a text

@@ -1,10 +1,11 @@
 //! Marks: ranges of a text that move with its changes.
 ghost use Rattle.std.specs.Prelude.{◌≡◌, ◌≢◌, ◌∷◌, ◌+◌, ◌<◌, ◌≤◌, ◌↔◌, [], ℕ, length, map, filter, Some, IfSome, IfNone, IsOk, IfOk, IfErr, OnOk, OnErr, IsTrue, MatchOption, slice_index_or};
 ghost use Rattle.std.specs.List.{All, Contains};
-ghost use Rattle.std.specs.List.Sorted.{IsPermutation};
+ghost use Rattle.std.specs.List.Sorted.{IsNonDecreasingBy, IsPermutation};
 ghost use Rattle.rope_changes.specs.declared.error.ChangeError.TheVariants.{LengthDiffers, OutOfMemory, RangeInvalid, RangeOutOfBounds};
 ghost use Rattle.rope_changes.specs.Change.{after, before, ops};
-ghost use Rattle.rope_history.specs.Marking.{IsMarking, moved_mark, touches};
+ghost use Rattle.rope_history.specs.Marking.{IsMarking, IsWithin, id_of, moved_mark, start_of, touches};
+ghost use Rattle.rope_history.specs.MarkLists.{closed, mark_at, marks_in};
 
 use rope_changes::{ChangeError, ChangeSet, Side};
 use std::alloc::Global;
@@ -29,7 +30,10 @@ pub struct Mark {
 /// numbers of the marks.
 #[derive(Drop)]
 pub struct Marks {
+    /// In order of their numbers.
     marks: Vec<Mark>,
+    /// The indices of the marks, in order of their starts.
+    order: Vec<usize>,
     len: usize,
     next_id: usize,
 }
@@ -52,6 +56,7 @@ impl Marks {
     {
         Marks {
             marks: Vec::new(alloc),
+            order: Vec::new(alloc),
             len,
             next_id: 0,
         }
@@ -62,14 +67,14 @@ impl Marks {
         ensures value { result ≡ length self.now.marks }
         ensures kept { IsMarking self.now }
     {
-        self.marks.len()
+        self.order.len()
     }
 
     /// Returns whether there are no marks.
     pub fn is_empty(&self) -> bool
         ensures { IsTrue result ↔ (self.now.marks ≡ []) }
     {
-        self.marks.is_empty()
+        self.order.is_empty()
     }
 
     /// Returns the length of the text, in characters.
@@ -124,47 +129,16 @@ impl Marks {
             start_side,
             end_side,
         };
-        let index = self.index_after(start);
-        if self.marks.insert(index, mark).is_err() {
+        let position = position_after(self.marks.as_slice(), self.order.as_slice(), start);
+        let index = self.marks.len();
+        if self.marks.reserve(1).is_err() || self.order.insert(position, index).is_err() {
             return Err(ChangeError::OutOfMemory);
+        }
+        if self.marks.push(mark).is_err() {
+            unreachable!();
         }
         self.next_id = next_id;
         Ok(id)
-    }
-
-    // Returns the index after the marks that start at or before `start`.
-    fn index_after(&self, start: usize) -> usize
-        ensures within { result ≤ length self.now.marks }
-        ensures before { (k : ℕ) (d : Mark) → k < result
-            → (slice_index_or self.now.marks k d).start ≤ start }
-        ensures after { (k : ℕ) (d : Mark) → result ≤ k → k < length self.now.marks
-            → start ≤ (slice_index_or self.now.marks k d).start }
-        ensures kept { IsMarking self.now }
-    {
-        let mut index = self.len();
-        while index > 0 {
-            if self.marks[index - 1].start <= start {
-                return index;
-            }
-            index -= 1;
-        }
-        0
-    }
-
-    // Returns the index of a mark by its number, or the number of marks.
-    fn index_of(&self, id: usize) -> usize
-        ensures within { result ≤ length self.now.marks }
-        ensures found { (d : Mark) → result < length self.now.marks
-            → (slice_index_or self.now.marks result d).id ≡ id }
-        ensures none { result ≡ length self.now.marks → All (λ m. m.id ≢ id) self.now.marks }
-        ensures kept { IsMarking self.now }
-    {
-        for (index, mark) in self.marks.iter().enumerate() {
-            if mark.id == id {
-                return index;
-            }
-        }
-        self.len()
     }
 
     /// Returns a mark by its number, or `None` if there is none or it was removed.
@@ -172,8 +146,8 @@ impl Marks {
         ensures found { IfSome result (λ m. (m.id ≡ id) × Contains self.now.marks m) }
         ensures none { IfNone result (All (λ m. m.id ≢ id) self.now.marks) }
     {
-        let index = self.index_of(id);
-        if index < self.len() {
+        let index = index_of(self.marks.as_slice(), id);
+        if index < self.marks.len() {
             return Some(self.marks[index]);
         }
         None
@@ -188,16 +162,19 @@ impl Marks {
         ensures len { self.new.len ≡ self.old.len }
         ensures next_id { self.new.next_id ≡ self.old.next_id }
     {
-        let index = self.index_of(id);
-        if index < self.len() {
-            return Some(self.marks.remove(index));
+        let index = index_of(self.marks.as_slice(), id);
+        if index == self.marks.len() {
+            return None;
         }
-        None
+        let position = position_of(self.order.as_slice(), index);
+        self.order.remove(position);
+        close_gap(self.order.as_mut_slice(), index);
+        Some(self.marks.remove(index))
     }
 
     /// Moves the marks through a change of the text: each end to where `ChangeSet::map` puts it. An
     /// end that would come before its start, as it may where text is inserted at an empty mark,
-    /// comes to the start. Takes no memory.
+    /// moves to the start. Takes no memory.
     ///
     /// # Errors
     ///
@@ -216,10 +193,8 @@ impl Marks {
         if change.len_before() != self.len {
             return Err(ChangeError::LengthDiffers(change.len_before(), self.len));
         }
-        for mark in self.marks.iter_mut() {
-            *mark = moved(*mark, change);
-        }
-        self.marks.sort_unstable_by_key(|mark| mark.start);
+        move_all(self.marks.as_mut_slice(), change);
+        sort_by_start(self.order.as_mut_slice(), self.marks.as_slice());
         self.len = change.len_after();
         Ok(())
     }
@@ -232,11 +207,107 @@ impl Marks {
     {
         Within {
             marks: self.marks.as_slice(),
+            order: self.order.as_slice(),
             index: 0,
             start,
             end,
         }
     }
+}
+
+// Returns the start of a mark by its index.
+fn start_at(marks: &[Mark], index: usize) -> usize
+    ensures { result ≡ (mark_at marks.now index).start }
+{
+    match marks.get(index) {
+        Some(mark) => mark.start,
+        None => 0,
+    }
+}
+
+// Returns the index in `order` after the marks that start at or before `start`.
+fn position_after(marks: &[Mark], order: &[usize], start: usize) -> usize
+    requires in_order { IsNonDecreasingBy start_of (marks_in marks.now order.now) }
+    ensures within { result ≤ length order.now }
+    ensures before { (k : ℕ) (d : Mark) → k < result
+        → (slice_index_or (marks_in marks.now order.now) k d).start ≤ start }
+    ensures after { (k : ℕ) (d : Mark) → result ≤ k → k < length order.now
+        → start ≤ (slice_index_or (marks_in marks.now order.now) k d).start }
+{
+    let mut position = order.len();
+    while position > 0 {
+        if start_at(marks, order[position - 1]) <= start {
+            return position;
+        }
+        position -= 1;
+    }
+    0
+}
+
+// Returns the index of a mark by its number, or the number of marks, which are in order of their
+// numbers.
+fn index_of(marks: &[Mark], id: usize) -> usize
+    requires in_order { IsNonDecreasingBy id_of marks.now }
+    ensures within { result ≤ length marks.now }
+    ensures found { (d : Mark) → result < length marks.now
+        → (slice_index_or marks.now result d).id ≡ id }
+    ensures none { result ≡ length marks.now → All (λ m. m.id ≢ id) marks.now }
+{
+    match marks.binary_search_by_key(&id, |mark| mark.id) {
+        Ok(index) => index,
+        Err(_) => marks.len(),
+    }
+}
+
+// Returns where an index stands in `order`, or the length of `order`.
+fn position_of(order: &[usize], index: usize) -> usize
+    ensures within { result ≤ length order.now }
+    ensures found { result < length order.now → slice_index_or order.now result 0 ≡ index }
+    ensures none { result ≡ length order.now → All (λ i. i ≢ index) order.now }
+{
+    for (position, other) in order.iter().enumerate() {
+        if *other == index {
+            return position;
+        }
+    }
+    order.len()
+}
+
+// Returns an index after the mark at `gap` was removed.
+fn lowered(index: usize, gap: usize) -> usize
+    ensures { result ≡ closed gap index }
+{
+    if index > gap {
+        return index - 1;
+    }
+    index
+}
+
+// Lowers the indices above `gap` by one.
+fn close_gap(order: &mut [usize], gap: usize)
+    ensures { order.new ≡ map (closed gap) order.old }
+{
+    for index in order.iter_mut() {
+        *index = lowered(*index, gap);
+    }
+}
+
+// Moves each mark through a change.
+fn move_all(marks: &mut [Mark], change: &ChangeSet)
+    requires { All (IsWithin (before change.now)) marks.old }
+    ensures { marks.new ≡ map (moved_mark (ops change.now)) marks.old }
+{
+    for mark in marks.iter_mut() {
+        *mark = moved(*mark, change);
+    }
+}
+
+// Sorts indices of marks by the starts of these.
+fn sort_by_start(order: &mut [usize], marks: &[Mark])
+    ensures moved { IsPermutation order.old order.new }
+    ensures in_order { IsNonDecreasingBy start_of (marks_in marks.now order.new) }
+{
+    order.sort_unstable_by_key(|index| start_at(marks, *index));
 }
 
 // A mark after a change.
@@ -260,6 +331,7 @@ fn moved(mark: Mark, change: &ChangeSet) -> Mark
 #[derive(Drop)]
 pub struct Within<'a> {
     marks: &'a [Mark],
+    order: &'a [usize],
     index: usize,
     start: usize,
     end: usize,
@@ -283,9 +355,8 @@ impl Within<'_> {
         ensures { MatchOption result ((self.old ≡ []) × (self.new ≡ []))
             (λ m. self.old ≡ m ∷ self.new) }
     {
-        let marks = self.marks;
-        while self.index < marks.len() {
-            let mark = marks[self.index];
+        while self.index < self.order.len() {
+            let mark = self.marks[self.order[self.index]];
             if mark.start > self.end {
                 return None;
             }

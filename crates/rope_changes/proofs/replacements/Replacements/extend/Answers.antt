@@ -9,7 +9,7 @@ use Rattle.rope_changes.proofs.Parts.{grown, edits_grown, counted_grown, last_by
 use Rattle.rope_changes.proofs.replacements.Replacements.extend.Goals.{After-index-last}
 use Rattle.rope_changes.proofs.replacements.Replacements.extend.Goals as goal
 
--- any replacement, for a place that is never read
+-- any replacement, for an index that is never read
 abbrev edit : Edit
 edit = record { kept = 0; text = []; deleted = 0 }
 

@@ -3,9 +3,9 @@ use Rattle.std.proofs.Common.{◌≡◌, ◌++◌, take, drop}
 use Rattle.std.specs.Prelude.{map}
 use Rattle.rope_changes.specs.Change.{ops}
 use Rattle.rope_history.specs.Marking.{moved_mark}
-use Rattle.rope_history.proofs.marks.Marks.apply.Given as goal
+use Rattle.rope_history.proofs.marks.move_all.Given as goal
 
 abbrev pub invariant-loop-mark : goal.invariant-loop-mark
 invariant-loop-mark l =
-    l.mark-items ≡ map (moved_mark (ops l.change)) (take l.mark-index l.fn.self.marks)
-    ++ drop l.mark-index l.fn.self.marks
+    l.marks ≡ map (moved_mark (ops l.change)) (take l.mark-index l.fn.marks)
+    ++ drop l.mark-index l.fn.marks
