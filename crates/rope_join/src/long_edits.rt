@@ -274,9 +274,9 @@ fn insert(editor: &mut Editor, node: &Node, at: usize, added: &str) -> Made<Node
     }
 }
 
-/// Inserts a text of at least one byte before the character `at`. A short text goes into the leaf at
-/// its index. A medium one, in a tree of more than one leaf, goes into some leaves that replace that
-/// one. Any other makes a new tree, which takes the old one's place last of all.
+/// Inserts a text of at least one byte before the character `at`. A short text goes into the leaf
+/// at its index. A medium one and that leaf become some leaves, if the tree has more than one. Any
+/// other text makes a new tree, which replaces the old one last.
 #[inline(always)]
 pub fn insert_into(editor: &mut Editor, root: &mut Node, at: usize, added: &str) -> Made<()>
     requires within { at ≤ length (text root.old) }

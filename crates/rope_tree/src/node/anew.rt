@@ -51,9 +51,9 @@ fn insert_into_leaf(
     Ok(Nodes::Two(first, second))
 }
 
-/// Returns the tree with a text before its character `at`, as one tree or as two of the same height.
-/// The old tree stays as it is, and shares its nodes off the path. A medium text goes into a tree
-/// of more than one leaf: the leaf at its index becomes up to six.
+/// Returns the tree with a text before its character `at`, as one tree or as two of the same
+/// height. The old tree stays as it is, and shares its nodes off the path. A medium text needs a
+/// tree of more than one leaf: the leaf at its index becomes up to six.
 pub(crate) fn insert(
     editor: &mut Editor,
     node: &Node,
