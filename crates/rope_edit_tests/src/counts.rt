@@ -53,6 +53,26 @@ fn an_insert_beside_a_clone_counts_the_copies(rt: HostRuntime) -> Result<(), Fai
     counts_copies(&mut clone)
 }
 
+/// The leaf is found once. With 2,000 letters in it, it becomes four in a new list of 24: two of
+/// 984 and two of 508. With 4,096, it becomes six, and two lists of 13 take the place of the root's.
+fn counts_medium_texts(rope: &mut Rope, text: &str, expected: [u64; 3]) -> Result<(), Failure> {
+    let mut steps = LEFT_OVER;
+    holds!(rope.len_chars() == 20_000);
+    rope.insert_counted(10_000, text, &mut steps)?;
+    same!(counts(steps), expected);
+    Ok(())
+}
+
+#[test]
+fn a_medium_insert_counts_its_leaves_and_their_lists(rt: HostRuntime) -> Result<(), Failure> {
+    for (letters, expected) in [(2_000, [2, 5, 5]), (4_096, [2, 5, 9])] {
+        let mut rope = rope_of(rt.alloc(), "a", 20_000)?;
+        let text = repeated(rt.alloc(), "z", letters)?;
+        counts_medium_texts(&mut rope, text.as_str(), expected)?;
+    }
+    Ok(())
+}
+
 /// A leaf of 6,500 bytes becomes seven, the last of 596 bytes, with a list over them.
 fn counts_a_long_text(alloc: Global, rope: &mut Rope) -> Result<(), Failure> {
     let text = repeated(alloc, "z", 6_000)?;

@@ -71,10 +71,15 @@ pub fn random_text(
     Ok(text)
 }
 
-/// Returns a text to insert: of at most 12 bytes and three more, and one in four of at most 1,196.
+/// Returns a text to insert: of at most 12 bytes and three more, one in four of at most 1,196, and
+/// one in 32 of at most 4,200.
 pub fn random_edit_text(alloc: Global, numbers: &mut Numbers) -> Result<String, AllocError> {
-    let is_long = numbers.take() % 4 == 0;
-    random_text(alloc, numbers, if is_long { 1_196 } else { 12 })
+    let most = match numbers.take() % 32 {
+        0 => 4_200,
+        1..=8 => 1_196,
+        _ => 12,
+    };
+    random_text(alloc, numbers, most)
 }
 
 /// Returns the list with a text before the character `at`.
