@@ -243,13 +243,14 @@ fn insert(editor: &mut Editor, node: &Node, at: usize, added: &str) -> Made<Node
     ensures text { IfOk result (λ new. text new ≡ inserted (text node.now) at (chars added.now)) }
     ensures breaks { IfOk result (λ new. new.breaks ≡ node.now.breaks) }
     ensures tree { IfOk result (λ new. IsTree new) }
+    ensures own { IsTree node.now }
     ensures made { editor.new.maker.made
         ≤ editor.old.maker.made + 2 * (length added.now / MIN_CUT_BYTES) + 298 * node.now.height
         + 603 }
     ensures searched { HasSearched (37 * node.now.height + 148) (185 * node.now.height
         + 720) editor.old editor.new }
 {
-    if added.len() > MAX_AMONG_BYTES || at >= node.info().chars {
+    if at >= node.info().chars || added.len() > MAX_AMONG_BYTES {
         return insert_apart(editor, node, at, added);
     }
     match node.view() {

@@ -83,10 +83,7 @@ pub(crate) fn leaf_with(
     ensures len { length result.0.bytes ≡ byte_len leaf.now + byte_len added.now }
     ensures info { result.1 ≡ info_of breaks (inserted leaf.now at added.now) }
 {
-    let text = leaf.as_str();
-    let place = leaf.char_to_byte_idx(at);
-    let front = &text[..place];
-    let back = &text[place..];
+    let (front, back) = leaf.split_at_char(at);
     let added = added.as_str();
     let info = info_between(info, front, added, back, breaks);
     (text_of_parts(front, added, back), info)

@@ -1,7 +1,7 @@
 //! Texts on their way into leaves, and those of leaves: short ones, which fit in a leaf, and medium
 //! ones, which become some leaves side by side.
-ghost use Rattle.std.specs.Prelude.{◌≡◌, ◌≤◌, true, length};
-ghost use Rattle.std.specs.Str.{chars, all_scalars, encode_utf8_all, IsCharBoundary};
+ghost use Rattle.std.specs.Prelude.{◌≡◌, ◌+◌, ◌≤◌, true, length, take, drop};
+ghost use Rattle.std.specs.Str.{chars, all_scalars, encode_utf8_all, IsCharBoundary, IsUtf8};
 ghost use Rattle.rope_text.specs.declared.TheConstants.{MAX_BYTES};
 ghost use Rattle.rope_text.specs.Text.{byte_len};
 ghost use Rattle.rope_text.specs.Conversions.{char_to_byte};
@@ -77,6 +77,20 @@ impl<'a> ShortText<'a> {
         } else {
             str_utils::char_to_byte_idx(self.text, char_idx)
         }
+    }
+
+    /// Splits the text before a character; past the end, the second part is empty.
+    #[inline(always)]
+    pub(crate) fn split_at_char(&self, char_idx: usize) -> (&'a str, &'a str)
+        ensures front { chars result.0.now ≡ take char_idx self.now }
+        ensures back { chars result.1.now ≡ drop char_idx self.now }
+        ensures utf8 { IsUtf8 result.0.now }
+        ensures len { length result.0.now + length result.1.now ≡ byte_len self.now }
+        ensures fits { byte_len self.now ≤ MAX_BYTES }
+    {
+        let text = self.as_str();
+        let byte_idx = self.char_to_byte_idx(char_idx);
+        (&text[..byte_idx], &text[byte_idx..])
     }
 
     /// Returns the same text as a medium one.

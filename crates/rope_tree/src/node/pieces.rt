@@ -91,8 +91,7 @@ pub(super) fn fill_with(
     let View::Leaf(leaf) = node.view() else {
         unreachable!()
     };
-    let text = leaf.as_str();
-    let place = leaf.char_to_byte_idx(at);
-    let whole = text_of_parts::<MAX_WHOLE_BYTES>(&text[..place], added.as_str(), &text[place..]);
+    let (front, back) = leaf.split_at_char(at);
+    let whole = text_of_parts::<MAX_WHOLE_BYTES>(front, added.as_str(), back);
     fill(maker, node.line_breaks(), whole.as_str(), pieces)
 }
