@@ -3,7 +3,7 @@
 //! stands before and what follows, so that no CR LF lies in two leaves.
 ghost use Rattle.std.specs.Prelude.{◌≡◌, ◌+◌, ◌*◌, ◌/◌, ◌<◌, ◌≤◌, ◌^◌, ◌++◌, true, length, take, drop, max, IfOk, OnOk, OnErr};
 ghost use Rattle.std.specs.Str.{chars};
-ghost use Rattle.rope_text.specs.declared.TheConstants.{MIN_CUT_BYTES};
+ghost use Rattle.rope_text.specs.declared.TheConstants.{MAX_SHORT_BYTES, MIN_CUT_BYTES};
 ghost use Rattle.rope_text.specs.Text.{byte_len};
 ghost use Rattle.rope_text.specs.Cutting.{parts_crlf};
 ghost use Rattle.rope_text.specs.Edit.{inserted, removed};
@@ -17,8 +17,8 @@ use crate::join::join;
 use rope_text::{MAX_BYTES, MAX_SHORT_BYTES};
 use rope_tree::build::build;
 use rope_tree::{
-    Builder, Editor, Made, Maker, Node, ShortText, View, insert_at, is_lf, leaf_of, remove_at,
-    total_before,
+    Builder, Editor, MAX_MEDIUM_BYTES, Made, Maker, Node, ShortText, View, insert_at,
+    insert_medium_at, is_lf, leaf_of, remove_at, total_before,
 };
 
 /// Whether a CR at the end of the first `end` characters of one tree meets an LF behind the first
@@ -233,11 +233,11 @@ fn join_around(
 /// it goes into, at most one list of leaves.
 const MAX_AMONG_BYTES: usize = 20 * MAX_BYTES;
 
-/// The tree with a text of any length before its character `at`. A text of some leaves is built
-/// into the leaf that holds the character, and the leaves that this gives take its place, in one
+/// Returns the tree with a text of any length before its character `at`. A text of some leaves is
+/// built into the leaf that holds the character, and the leaves that this gives replace it, in one
 /// descent. A longer text, or one at the end of a node, is put between two parts of the split tree.
 /// It makes at most two nodes for each 981 bytes of the text, 298 for each level and 603 more.
-pub fn insert(editor: &mut Editor, node: &Node, at: usize, added: &str) -> Made<Node>
+fn insert(editor: &mut Editor, node: &Node, at: usize, added: &str) -> Made<Node>
     requires within { at ≤ length (text node.now) }
     requires fits { byte_len (text node.now) + length added.now < 2 ^ 63 }
     ensures text { IfOk result (λ new. text new ≡ inserted (text node.now) at (chars added.now)) }
@@ -272,4 +272,36 @@ pub fn insert(editor: &mut Editor, node: &Node, at: usize, added: &str) -> Made<
             join_around(editor, node, at - inside, &part, totals.get(place).chars)
         }
     }
+}
+
+/// Inserts a text of at least one byte before the character `at`. A short text goes into the leaf at
+/// its index. A medium one, in a tree of more than one leaf, goes into some leaves that replace that
+/// one. Any other makes a new tree, which takes the old one's place last of all.
+#[inline(always)]
+pub fn insert_into(editor: &mut Editor, root: &mut Node, at: usize, added: &str) -> Made<()>
+    requires within { at ≤ length (text root.old) }
+    requires some { 1 ≤ length added.now }
+    requires fits { byte_len (text root.old) + length added.now < 2 ^ 63 }
+    ensures text { OnOk result (text root.new ≡ inserted (text root.old) at (chars added.now)) }
+    ensures breaks { root.new.breaks ≡ root.old.breaks }
+    ensures tree { IsTree root.new }
+    ensures err { OnErr result (root.new ≡ root.old) }
+    ensures made { editor.new.maker.made
+        ≤ editor.old.maker.made + 2 * (length added.now / MIN_CUT_BYTES) + 298 * root.old.height
+        + 603 }
+    ensures made_short { length added.now ≤ MAX_SHORT_BYTES
+        → editor.new.maker.made ≤ editor.old.maker.made + 3 * root.old.height + 5 }
+    ensures searched { HasSearched (37 * root.old.height + 148) (185 * root.old.height
+        + 720) editor.old editor.new }
+    ensures searched_short { length added.now ≤ MAX_SHORT_BYTES
+        → HasSearched (4 * root.old.height + 2) (33 * root.old.height) editor.old editor.new }
+{
+    if added.len() <= MAX_SHORT_BYTES {
+        return insert_at(editor, root, at, added);
+    }
+    if added.len() <= MAX_MEDIUM_BYTES && root.height() > 0 {
+        return insert_medium_at(editor, root, at, added);
+    }
+    *root = insert(editor, root, at, added)?;
+    Ok(())
 }

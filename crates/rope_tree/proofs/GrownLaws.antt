@@ -19,7 +19,7 @@ use Rattle.rope_tree.proofs.NodeLaws.{joined_one, leaf_text, children_of_first}
 use Rattle.rope_tree.proofs.SiblingLaws.{children_of, one_part}
 use Rattle.rope_tree.proofs.TreeLaws.{wide_weaker, is_leaf_tree}
 use Rattle.rope_tree.proofs.InsertLeaves.{one_inserted, two_inserted}
-use Rattle.rope_tree.proofs.InsertTrees.{new_text, new_siblings, new_stand, new_length, length-inserted, byte_len-inserted}
+use Rattle.rope_tree.proofs.InsertTrees.{replaced, new_text, new_siblings, new_stand, new_length, length-inserted, byte_len-inserted}
 
 -- the list with the new child in the old one's place
 pub set_parts : (ts : List Tree) (k : ℕ) (u : Tree) → k < length ts → set ts k u ≡ take k ts ++ (u ∷ [] ++ drop (k + 1) ts)
@@ -33,15 +33,16 @@ pub grown : (br : LineBreaks) (h : ℕ) (ts : List Tree) (k : ℕ) (c u : Tree) 
     → at ≡ length (joined (take k ts)) + i → i ≤ length (text c) → (to_right : Bool) → (to_right ≡ true → i < length (text c)) → (to_right ≡ false → at ≡ 0 ⊎ 1 ≤ i) → MayInsert (tree_over ts) at s to_right
     → IsInserted c (u ∷ []) (inserted (text c) i s) → byte_len (joined ts) + byte_len s < 2 ^ 63 → br ≡ breaks_of ts → h ≡ height_of ts → AreGrown ts (set ts k u) (inserted (joined ts) at s)
 grown br h ts k c u a lt here at i s some place within to_right inside outside may new fits br_is h_is =
+    let r = replaced c (u ∷ []) (inserted (text c) i s) new in
     let us = take k ts ++ (u ∷ [] ++ drop (k + 1) ts) in
-    let siblings : AreSiblings br h us = new_siblings br h ts k c a lt here (tree_over ts) refl at i s some place within (u ∷ []) to_right inside outside may new fits in
+    let siblings : AreSiblings br h us = new_siblings br h ts k c a lt here (tree_over ts) refl at i s some place within (u ∷ []) to_right inside outside may r fits in
     let is = set_parts ts k u lt in
     record {
       as_many = omega (arith, length-set ts k u);
       at_most_24 = omega (arith, length-set ts k u, a.at_most_24);
-      text_is = ap joined is ∙ new_text br h ts k c a lt here (tree_over ts) refl at i s some place within (u ∷ []) to_right inside outside may new fits;
+      text_is = ap joined is ∙ new_text br h ts k c a lt here (tree_over ts) refl at i s some place within (u ∷ []) to_right inside outside may r fits;
       siblings = rw (is, sym br_is, sym h_is) siblings;
-      stand = rw is (new_stand br h ts k c a lt here (tree_over ts) refl at i s some place within (u ∷ []) to_right inside outside may new fits);
+      stand = rw is (new_stand br h ts k c a lt here (tree_over ts) refl at i s some place within (u ∷ []) to_right inside outside may r fits);
     }
 
 -- a list with a new child in the old one's place, and another behind it
@@ -60,17 +61,18 @@ pub grown_by_one : (br : LineBreaks) (h : ℕ) (ts : List Tree) (k : ℕ) (c u b
     → AreGrown ts (insert (set ts k u) (k + 1) b) (inserted (joined ts) at s)
 grown_by_one br h ts k c u b a lt here at i s some place within to_right inside outside may new fits br_is h_is few =
     let ps = u ∷ b ∷ [] in
+    let r = replaced c ps (inserted (text c) i s) new in
     let us = take k ts ++ (ps ++ drop (k + 1) ts) in
-    let siblings : AreSiblings br h us = new_siblings br h ts k c a lt here (tree_over ts) refl at i s some place within ps to_right inside outside may new fits in
-    let more = new_length br h ts k c a lt here (tree_over ts) refl at i s some place within ps to_right inside outside may new fits in
+    let siblings : AreSiblings br h us = new_siblings br h ts k c a lt here (tree_over ts) refl at i s some place within ps to_right inside outside may r fits in
+    let more = new_length br h ts k c a lt here (tree_over ts) refl at i s some place within ps to_right inside outside may r fits in
     let is = behind_parts ts k u b lt in
     let many = ap length is in
     record {
       as_many = omega (arith, many, more);
       at_most_24 = omega (arith, many, more);
-      text_is = ap joined is ∙ new_text br h ts k c a lt here (tree_over ts) refl at i s some place within ps to_right inside outside may new fits;
+      text_is = ap joined is ∙ new_text br h ts k c a lt here (tree_over ts) refl at i s some place within ps to_right inside outside may r fits;
       siblings = rw (is, sym br_is, sym h_is) siblings;
-      stand = rw is (new_stand br h ts k c a lt here (tree_over ts) refl at i s some place within ps to_right inside outside may new fits);
+      stand = rw is (new_stand br h ts k c a lt here (tree_over ts) refl at i s some place within ps to_right inside outside may r fits);
     }
 
 -- the changed children are children of one node

@@ -15,7 +15,7 @@ use Rattle.rope_text.proofs.DenseLaws.{dense_alone, dense_right}
 use Rattle.rope_tree.specs.Leaves.{AreLeaves, IsSeam, StandFor}
 use Rattle.rope_tree.specs.Tree.{Tree, text, joined, leaves_of, height_of, breaks_of, tree_over, IsWide, IsChild, AreChildren}
 use Rattle.rope_tree.specs.Siblings.{AreSiblings, AreParts}
-use Rattle.rope_tree.specs.Insert.{MayInsert, IsInserted}
+use Rattle.rope_tree.specs.Insert.{MayInsert, IsInserted, IsReplaced}
 use Rattle.rope_tree.proofs.LeafLaws.{all_left, all_right, leaf_sizes, leaves-append, leaves_left, leaves_right, leaves_seam, seam_of_left, nil-seam}
 use Rattle.rope_tree.proofs.StandLaws.{half_behind, half_ahead, stand_between}
 use Rattle.rope_tree.proofs.TreeLaws.{wide_more, wide_weaker, height_of_is, breaks_of_is}
@@ -40,6 +40,17 @@ around ts k ms vs e =
 
 pub siblings_of_first : (breaks : LineBreaks) (h : ℕ) (ts : List Tree) → 1 ≤ length ts → AreSiblings breaks h ts → AreSiblings (breaks_of ts) (height_of ts) ts
 siblings_of_first breaks h ts some a = rw (height_of_is breaks h ts some a.each, breaks_of_is breaks h ts some a.each) a
+
+-- one tree or two stand for the old one
+pub replaced : (old : Tree) (ts : List Tree) (new : List ℕ) → IsInserted old ts new → IsReplaced old ts new
+replaced old ts new i = record {
+  text_is = i.text_is;
+  leaves = i.leaves;
+  stand = i.stand;
+  some = i.parts.some;
+  few = omega (arith, i.parts.at_most_two);
+  each = i.parts.each;
+}
 
 module _ (breaks : LineBreaks) (h : ℕ) (ts : List Tree) (k : ℕ) (child : Tree) (a : AreChildren breaks h ts) (lt : k < length ts) (here : get_or ts k child ≡ child) where
   left_text : List ℕ
@@ -96,7 +107,7 @@ module _ (breaks : LineBreaks) (h : ℕ) (ts : List Tree) (k : ℕ) (child : Tre
 
     -- the list with the new nodes in the child's place
     module _ (ps : List Tree) (to_right : Bool) (inside : to_right ≡ true → i < length (text child)) (outside : to_right ≡ false → at ≡ 0 ⊎ 1 ≤ i) (may : MayInsert t at s to_right)
-        (new : IsInserted child ps (inserted (text child) i s)) (fits : byte_len (text t) + byte_len s < 2 ^ 63) where
+        (new : IsReplaced child ps (inserted (text child) i s)) (fits : byte_len (text t) + byte_len s < 2 ^ 63) where
       middle_text : joined ps ≡ take i (text child) ++ (s ++ drop i (text child))
       middle_text = new.text_is ∙ inserted_is (text child) i s
 
@@ -145,7 +156,7 @@ module _ (breaks : LineBreaks) (h : ℕ) (ts : List Tree) (k : ℕ) (child : Tre
           let wide : (u : Tree) → IsWide child.breaks (min 12 child.width) child.height u → IsChild breaks h u =
           λ u w. wide_more breaks (min 12 child.width) h u (λ p. omega (arith, own.wide p)) (rw (own.same_breaks, own.at_height) at w) in
           All-append (IsChild breaks h) (take k ts) (ps ++ drop (k + 1) ts) (all_left (IsChild breaks h) (take k ts) (drop k ts) all)
-          (All-append (IsChild breaks h) ps (drop (k + 1) ts) (All-weaker (IsWide child.breaks (min 12 child.width) child.height) (IsChild breaks h) wide ps new.parts.each) (all_right (IsChild breaks h) (take (k + 1) ts) (drop (k + 1) ts) all'))
+          (All-append (IsChild breaks h) ps (drop (k + 1) ts) (All-weaker (IsWide child.breaks (min 12 child.width) child.height) (IsChild breaks h) wide ps new.each) (all_right (IsChild breaks h) (take (k + 1) ts) (drop (k + 1) ts) all'))
 
       pub new_siblings : AreSiblings breaks h (take k ts ++ (ps ++ drop (k + 1) ts))
       new_siblings = record {
@@ -163,7 +174,7 @@ module _ (breaks : LineBreaks) (h : ℕ) (ts : List Tree) (k : ℕ) (child : Tre
           → IsInserted t rs (inserted (text t) at s)
       new_node rs leaves parts =
           let us = take k ts ++ (ps ++ drop (k + 1) ts) in
-          let some_us : 1 ≤ length us = omega (arith, new_length, new.parts.some, a.at_least_two) in
+          let some_us : 1 ≤ length us = omega (arith, new_length, new.some, a.at_least_two) in
           let sets : breaks_of us ≡ t.breaks = breaks_of_is breaks h us some_us new_each ∙ sym (ap (λ u. u.breaks) is ∙ breaks_of_is breaks h ts (omega (arith, a.at_least_two)) a.each) in
           let heights : height_of us + 1 ≡ t.height = ap (λ n. n + 1) (height_of_is breaks h us some_us new_each ∙ sym (height_of_is breaks h ts (omega (arith, a.at_least_two)) a.each)) ∙ sym (ap (λ u. u.height) is) in
           let widths : t.width ≡ length ts = ap (λ u. u.width) is in
@@ -176,9 +187,9 @@ module _ (breaks : LineBreaks) (h : ℕ) (ts : List Tree) (k : ℕ) (child : Tre
               some = p.some;
               at_most_two = p.at_most_two;
               each = All-weaker (IsWide t.breaks (min 12 (length us)) t.height) (IsWide t.breaks (min 12 t.width) t.height)
-                  (λ u w. wide_weaker t.breaks (min 12 t.width) (min 12 (length us)) t.height u (omega (arith, new_length, new.parts.some, widths)) w) rs p.each;
+                  (λ u w. wide_weaker t.breaks (min 12 t.width) (min 12 (length us)) t.height u (omega (arith, new_length, new.some, widths)) w) rs p.each;
               two = p.two;
-              full = λ e f. omega (arith, p.full e f, new_length, new.parts.at_most_two, widths);
+              full = λ e f. omega (arith, p.full e f, new_length, new.few, widths);
             };
           }
 

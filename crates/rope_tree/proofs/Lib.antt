@@ -41,3 +41,4 @@ pub mod BuildLaws
 pub mod FrontLaws
 pub mod NodeTexts
 pub mod LeafTexts
+pub mod PieceLaws

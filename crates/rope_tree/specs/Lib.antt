@@ -29,3 +29,4 @@ pub mod Conversions
 pub mod Insert
 pub mod Removal
 pub mod Tries
+pub mod Pieces

@@ -16,17 +16,18 @@
 //!
 //! Modules, lowest first:
 //! - `node_text`: the text of a leaf, and where a longer one is cut
-//! - `short_text`: a text on its way into a leaf
+//! - `short_text`: texts on their way into leaves
 //! - `leaf_edits`: the text of a leaf edited, and its counts by sums and differences
 //! - `leaf`: a text with its counts
 //! - `maker`: where nodes' memory comes from
 //! - `search`: running totals, and the child that holds a place
 //! - `editor`: the maker of an edit's nodes, with the counts of its searches
 //! - `node`: nodes; `node::row` puts them side by side, `node::anew` inserts into a new tree,
-//!   `node::in_place` edits nodes where they stand, and `node::across` two leaves side by side
+//!   `node::in_place` edits nodes where they stand, `node::across` two leaves side by side, and
+//!   `node::pieces` makes leaves of a leaf and a longer text
 //! - `lookup`, `conversions`: the descent to a leaf, and indices on it
 //! - `beside`: how few bytes a leaf may keep beside its neighbours
-//! - `short_edits`: inserts into whole trees that change one leaf, and removals from one or two
+//! - `short_edits`: inserts into whole trees that replace one leaf, and removals from one or two
 //! - `build`, `builder`: trees of whole texts, and of texts passed in one after the other
 #![tactic(auto)]
 
@@ -55,5 +56,12 @@ pub use node::row::{Row, gather_rows, node_over, pack, pack_first, pack_last, pa
 pub use node::{Node, Nodes, View, leaf_of, make_leaf};
 pub use node_text::NodeText;
 pub use search::{Totals, Unit, count, place_of, total_before};
-pub use short_edits::{insert_at, is_lf, remove_at};
-pub use short_text::ShortText;
+pub use short_edits::{insert_at, insert_medium_at, is_lf, remove_at};
+pub use short_text::{MediumText, ShortText};
+
+/// The most bytes of a text that an insert splits into leaves in the place of one. A longer text is
+/// built as a tree of its own.
+pub const MAX_MEDIUM_BYTES: usize = 4096;
+
+/// The most leaves that a leaf and a medium text make together.
+pub const MAX_PIECES: usize = 6;

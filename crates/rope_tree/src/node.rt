@@ -19,6 +19,7 @@ use std::rc::Rc;
 mod across;
 pub(crate) mod anew;
 mod in_place;
+mod pieces;
 pub mod row;
 
 /// A node of a rope's tree, with the whole tree below it.
@@ -263,6 +264,7 @@ pub fn leaf_of(maker: &mut Maker, breaks: LineBreaks, text: &str) -> Made<Node>
     ensures tree { IfOk result (λ node. IsTree node) }
     ensures made { maker.new.made ≤ maker.old.made + 1 }
     ensures added { maker.old.made + 1 < 2 ^ 64 → maker.new.made ≡ maker.old.made + 1 }
+    ensures rises { maker.old.made ≤ maker.new.made }
 {
     leaf_node(maker, breaks, text, None)
 }

@@ -9,13 +9,14 @@ ghost use Rattle.rope_text.specs.Edit.{inserted, removed};
 ghost use Rattle.rope_tree.specs.Tree.{text, leaf_tree, IsTree};
 ghost use Rattle.rope_tree.specs.View.{trees_in};
 ghost use Rattle.rope_tree.specs.Searched.{HasSearched};
-ghost use Rattle.rope_tree.specs.Insert.{TakesShort, MayInsert, IsInserted};
+ghost use Rattle.rope_tree.specs.declared.TheConstants.{MAX_MEDIUM_BYTES};
+ghost use Rattle.rope_tree.specs.Insert.{Takes, MayInsert, IsInserted, extra_leaves};
 ghost use Rattle.rope_tree.specs.Tries.{IsTried};
 
 use crate::beside::Least;
 use crate::leaf_edits::ends_in_cr;
 use crate::node::anew::insert;
-use crate::{Editor, Made, Node, ShortText, root_of};
+use crate::{Editor, Made, MediumText, Node, ShortText, root_of};
 use rope_text::TextInfo;
 
 /// Returns whether the character at an index is LF. The end of the text has none.
@@ -28,6 +29,35 @@ pub fn is_lf(editor: &mut Editor, node: &Node, at: usize) -> bool
         editor.old editor.new }
 {
     at < node.info().chars && editor.char_at(node, at) == '\n'
+}
+
+/// Inserts a text by splitting full lists where they stand, or else by a new tree, which takes the
+/// old one's place last of all.
+fn insert_splitting(
+    editor: &mut Editor,
+    root: &mut Node,
+    at: usize,
+    added: &MediumText<'_>,
+    to_right: bool,
+) -> Made<()>
+    requires takes { Takes root.old at added.now }
+    requires low { root.old.height ≡ 0 → byte_len added.now ≤ MAX_SHORT_BYTES }
+    requires side { MayInsert root.old at added.now to_right }
+    ensures text { OnOk result (text root.new ≡ inserted (text root.old) at added.now) }
+    ensures breaks { root.new.breaks ≡ root.old.breaks }
+    ensures tree { IsTree root.new }
+    ensures err { OnErr result (root.new ≡ root.old) }
+    ensures made { editor.new.maker.made ≤ editor.old.maker.made + 2 * root.old.height + 3
+        + extra_leaves (byte_len added.now) }
+    ensures searched { HasSearched (2 * root.old.height) (14 * root.old.height)
+        editor.old editor.new }
+{
+    if root.insert_parting(editor, at, added, to_right)? {
+        return Ok(());
+    }
+    let nodes = insert(editor, root, at, added, to_right)?;
+    *root = root_of(&mut editor.maker, nodes)?;
+    Ok(())
 }
 
 /// Puts a text of 1 to 981 bytes before the character `at`, by the first of three ways that can:
@@ -61,12 +91,29 @@ pub fn insert_at(editor: &mut Editor, root: &mut Node, at: usize, added: &str) -
         return Ok(());
     }
     // The first try made the nodes on the way the tree's own, so this one needn't copy any.
-    if root.insert_parting(editor, at, &added, to_right)? {
-        return Ok(());
-    }
-    let nodes = insert(editor, root, at, &added, to_right)?;
-    *root = root_of(&mut editor.maker, nodes)?;
-    Ok(())
+    insert_splitting(editor, root, at, &added.as_medium(), to_right)
+}
+
+/// Inserts a medium text before the character `at` of a tree of more than one leaf: the leaf at its
+/// index is replaced by up to six, by the second or the third way of [`insert_at`].
+pub fn insert_medium_at(editor: &mut Editor, root: &mut Node, at: usize, added: &str) -> Made<()>
+    requires within { at ≤ length (text root.old) }
+    requires inner { 1 ≤ root.old.height }
+    requires some { 1 ≤ length added.now }
+    requires medium { length added.now ≤ MAX_MEDIUM_BYTES }
+    requires fits { byte_len (text root.old) + length added.now < 2 ^ 63 }
+    ensures text { OnOk result (text root.new ≡ inserted (text root.old) at (chars added.now)) }
+    ensures breaks { root.new.breaks ≡ root.old.breaks }
+    ensures tree { IsTree root.new }
+    ensures err { OnErr result (root.new ≡ root.old) }
+    ensures made { editor.new.maker.made ≤ editor.old.maker.made + 2 * root.old.height + 3
+        + extra_leaves (length added.now) }
+    ensures searched { HasSearched (3 * root.old.height + 1) (19 * root.old.height)
+        editor.old editor.new }
+{
+    let added = MediumText::new(added);
+    let to_right = ends_in_cr(added.as_str()) && is_lf(editor, root, at);
+    insert_splitting(editor, root, at, &added, to_right)
 }
 
 /// At a tree's ends no other leaf stands, so the first leaf and the last may have any length.

@@ -1,9 +1,11 @@
-//! Short texts: those that go into leaves, and those of leaves.
+//! Texts on their way into leaves, and those of leaves: short ones, which fit in a leaf, and medium
+//! ones, which become some leaves side by side.
 ghost use Rattle.std.specs.Prelude.{◌≡◌, ◌≤◌, true, length};
 ghost use Rattle.std.specs.Str.{chars, all_scalars, encode_utf8_all, IsCharBoundary};
 ghost use Rattle.rope_text.specs.declared.TheConstants.{MAX_BYTES};
 ghost use Rattle.rope_text.specs.Text.{byte_len};
 ghost use Rattle.rope_text.specs.Conversions.{char_to_byte};
+ghost use Rattle.rope_tree.specs.declared.TheConstants.{MAX_MEDIUM_BYTES};
 
 use rope_text::str_utils;
 use std::marker::Model;
@@ -75,5 +77,68 @@ impl<'a> ShortText<'a> {
         } else {
             str_utils::char_to_byte_idx(self.text, char_idx)
         }
+    }
+
+    /// Returns the same text as a medium one.
+    #[inline(always)]
+    pub(crate) fn as_medium(&self) -> MediumText<'a>
+        ensures value { result ≡ self.now }
+    {
+        MediumText { text: self.text }
+    }
+}
+
+/// A borrowed text of at most `MAX_MEDIUM_BYTES` bytes, seen as the list of its characters.
+#[derive(Drop)]
+pub struct MediumText<'a> {
+    text: &'a str,
+}
+
+impl<'a> Model for MediumText<'a> {
+    ghost use Rattle.std.specs.Prelude.{ℕ, List};
+    ghost use Rattle.std.specs.Str.{chars};
+    ghost use Rattle.rope_tree.specs.Short.{IsMedium};
+
+    ghost Value = { List ℕ };
+
+    ghost view = { λ s. chars s.text.now };
+
+    ghost invariant = { IsMedium };
+}
+
+impl<'a> MediumText<'a> {
+    /// Wraps a text of at most `MAX_MEDIUM_BYTES` bytes.
+    pub fn new(text: &'a str) -> MediumText<'a>
+        requires { length text.now ≤ MAX_MEDIUM_BYTES }
+        ensures value { result ≡ chars text.now }
+        ensures len { byte_len result ≡ length text.now }
+    {
+        MediumText { text }
+    }
+
+    /// Returns the text.
+    pub fn as_str(&self) -> &'a str
+        ensures bytes { result.now ≡ encode_utf8_all self.now }
+        ensures chars { chars result.now ≡ self.now }
+        ensures fits { byte_len self.now ≤ MAX_MEDIUM_BYTES }
+        ensures scalars { all_scalars self.now ≡ true }
+    {
+        self.text
+    }
+
+    /// Returns the length in bytes.
+    pub fn len(&self) -> usize
+        ensures value { result ≡ byte_len self.now }
+        ensures fits { result ≤ MAX_MEDIUM_BYTES }
+    {
+        self.as_str().len()
+    }
+
+    /// Returns the same text as a short one, if it fits in a leaf.
+    pub(crate) fn as_short(&self) -> ShortText<'a>
+        requires { byte_len self.now ≤ MAX_BYTES }
+        ensures { result ≡ self.now }
+    {
+        ShortText::new(self.text)
     }
 }

@@ -17,10 +17,10 @@ ghost use Rattle.rope_text.specs.declared.error.Error.TheVariants.{OutOfMemory};
 
 use crate::rope::Rope;
 use rope_join::cut::{back, front};
-use rope_join::long_edits::{append_to, insert, remove};
+use rope_join::long_edits::{append_to, insert_into, remove};
 use rope_text::range::{IndexRange, char_bounds};
-use rope_text::{Error, MAX_SHORT_BYTES, MAX_TEXT_BYTES, Result, Steps};
-use rope_tree::{Editor, insert_at};
+use rope_text::{Error, MAX_TEXT_BYTES, Result, Steps};
+use rope_tree::Editor;
 use std::mem;
 
 // The calls without `try_` are inlined: each call in between would store the seven words of a
@@ -57,11 +57,7 @@ impl Rope {
             return Ok(());
         }
         editor.enter();
-        if text.len() <= MAX_SHORT_BYTES {
-            return Ok(insert_at(editor, &mut self.root, char_idx, text)?);
-        }
-        self.root = insert(editor, &self.root, char_idx, text)?;
-        Ok(())
+        Ok(insert_into(editor, &mut self.root, char_idx, text)?)
     }
 
     /// Inserts a text as `insert` does, at any index.

@@ -1,4 +1,4 @@
-//! Short inserts that leave the old tree as it is, and share its nodes.
+//! Inserts of short and medium texts that leave the old tree as it is, and share its nodes.
 ghost use Rattle.std.specs.Prelude.{◌≡◌, ◌+◌, ◌*◌, ◌<◌, ◌≤◌, ◌^◌, length, IfOk};
 ghost use Rattle.rope_text.specs.declared.TheConstants.{MAX_SHORT_BYTES};
 ghost use Rattle.rope_text.specs.Text.{byte_len};
@@ -6,15 +6,16 @@ ghost use Rattle.rope_text.specs.Edit.{inserted};
 ghost use Rattle.rope_tree.specs.Tree.{text, leaf_tree};
 ghost use Rattle.rope_tree.specs.View.{trees_in};
 ghost use Rattle.rope_tree.specs.Searched.{HasSearched};
-ghost use Rattle.rope_tree.specs.Insert.{TakesShort, MayInsert, IsInserted};
+ghost use Rattle.rope_tree.specs.Insert.{Takes, MayInsert, IsInserted, extra_leaves};
 
-use super::row::{Row, pack};
+use super::pieces::{Pieces, fill_with};
+use super::row::{Row, pack, pack_over};
 use super::{Node, Nodes, View, make_leaf};
 use crate::leaf_edits::leaf_with;
 use crate::node_text::halves_of;
 use crate::search::char_to_hold;
-use crate::{Editor, Made, Maker, ShortText, total_before};
-use rope_text::{MAX_BYTES, TextInfo};
+use crate::{Editor, Made, Maker, MediumText, ShortText, total_before};
+use rope_text::{MAX_BYTES, MAX_SHORT_BYTES, TextInfo};
 
 /// The leaf with another text before its character `at`, as one leaf, or as two if one can't hold
 /// both. Nothing of the old leaf is counted again: only the new text is, and of two leaves the
@@ -50,34 +51,46 @@ fn insert_into_leaf(
     Ok(Nodes::Two(first, second))
 }
 
-/// The tree with a text of at most 981 bytes before its character `at`, as one tree or as two of
-/// the same height. The old tree stays as it is, and shares its nodes off the way.
+/// Returns the tree with a text before its character `at`, as one tree or as two of the same height.
+/// The old tree stays as it is, and shares its nodes off the path. A medium text goes into a tree
+/// of more than one leaf: the leaf at its index becomes up to six.
 pub(crate) fn insert(
     editor: &mut Editor,
     node: &Node,
     at: usize,
-    added: &ShortText<'_>,
+    added: &MediumText<'_>,
     to_right: bool,
 ) -> Made<Nodes>
-    requires takes { TakesShort node.now at added.now }
+    requires takes { Takes node.now at added.now }
+    requires low { node.now.height ≡ 0 → byte_len added.now ≤ MAX_SHORT_BYTES }
     requires side { MayInsert node.now at added.now to_right }
     ensures ok { IfOk result (λ nodes.
         IsInserted node.now (trees_in nodes) (inserted (text node.now) at added.now)) }
-    ensures made { editor.new.maker.made ≤ editor.old.maker.made + 2 * node.now.height + 2 }
+    ensures made { editor.new.maker.made
+        ≤ editor.old.maker.made + 2 * node.now.height + 2 + extra_leaves (byte_len added.now) }
     ensures some_made { editor.old.maker.made + 1 < 2 ^ 64
         → editor.old.maker.made < editor.new.maker.made }
     ensures searched { HasSearched node.now.height (5 * node.now.height) editor.old editor.new }
     ensures rises { editor.old.maker.made ≤ editor.new.maker.made }
 {
     match node.view() {
-        View::Leaf(leaf) => insert_into_leaf(&mut editor.maker, node, &leaf, at, added),
+        View::Leaf(leaf) => {
+            insert_into_leaf(&mut editor.maker, node, &leaf, at, &added.as_short())
+        }
         View::Inner(children, totals) => {
             let held = char_to_hold(at, to_right);
             let place = editor.child_at(totals, held);
             let front = total_before(totals, place).chars;
-            let middle = insert(editor, &children[place], at - front, added, to_right)?;
             let row = Row::of(children, totals);
             let (before, after) = (row.first(place), row.rest(place + 1));
+            let child = &children[place];
+            let inside = at - front;
+            if added.len() > MAX_SHORT_BYTES && child.height() == 0 {
+                let mut pieces = Pieces::new();
+                fill_with(&mut editor.maker, child, inside, added, &mut pieces)?;
+                return pack_over(&mut editor.maker, before, Row::new(pieces.as_slice()), after);
+            }
+            let middle = insert(editor, child, inside, added, to_right)?;
             pack(&mut editor.maker, before, middle, after)
         }
     }

@@ -10,7 +10,7 @@ ghost use Rattle.rope_tree.specs.Tree.{Tree, text, joined, height_of, tree_over,
 ghost use Rattle.rope_tree.specs.declared.node.in_place.Cut.TheVariants.{Kept, Grown, Parted};
 ghost use Rattle.rope_tree.specs.Change.{GrowsBy, FallsBy, GrowBy, FallBy};
 ghost use Rattle.rope_tree.specs.Searched.{HasSearched};
-ghost use Rattle.rope_tree.specs.Insert.{TakesShort, MayInsert, GoesIn, IsInserted, IsCut, AreGrown};
+ghost use Rattle.rope_tree.specs.Insert.{TakesShort, Takes, MayInsert, GoesIn, IsInserted, IsCut, AreGrown, extra_leaves};
 ghost use Rattle.rope_tree.specs.Removal.{IsRemoved, AreRemoved};
 ghost use Rattle.rope_tree.specs.Tries.{IsTried};
 
@@ -20,7 +20,7 @@ use super::{Children, Form, Node, Nodes};
 use crate::beside::{Least, least_at};
 use crate::leaf::Leaf;
 use crate::search::{char_to_hold, try_place};
-use crate::{Editor, Made, Maker, ShortText, Totals, total_before};
+use crate::{Editor, Made, Maker, MediumText, ShortText, Totals, total_before};
 use rope_text::{MAX_BYTES, MAX_CHILDREN, TextInfo};
 use std::rc::Rc;
 
@@ -289,7 +289,7 @@ impl Children {
             (AreGrown self.old self.new (inserted (joined self.old) at added.now)) }
     {
         let before = self.total();
-        if !self.part_child(editor, at, added, to_right)? {
+        if !self.part_child(editor, at, &added.as_medium(), to_right)? {
             return Ok(false);
         }
         *more = self.total().minus(before);
@@ -301,13 +301,16 @@ impl Children {
         &mut self,
         editor: &mut Editor,
         at: usize,
-        added: &ShortText<'_>,
+        added: &MediumText<'_>,
         to_right: bool,
     ) -> Made<bool>
         requires children { AreFamily self.old }
-        requires takes { TakesShort (tree_over self.old) at added.now }
+        requires takes { Takes (tree_over self.old) at added.now }
+        requires low { height_of self.old ≡ 0 → byte_len added.now ≤ MAX_SHORT_BYTES }
         requires side { MayInsert (tree_over self.old) at added.now to_right }
-        ensures made { editor.new.maker.made ≤ editor.old.maker.made + 2 * height_of self.old + 2 }
+        ensures made { editor.new.maker.made
+            ≤ editor.old.maker.made + 2 * height_of self.old + 2
+            + extra_leaves (byte_len added.now) }
         ensures searched { HasSearched (height_of self.old + 1) (7 * height_of self.old + 7)
             editor.old editor.new }
         ensures idle { IfOk result (λ did. did ≡ false → editor.new.maker.made
@@ -356,13 +359,15 @@ impl Children {
         &mut self,
         editor: &mut Editor,
         at: usize,
-        added: &ShortText<'_>,
+        added: &MediumText<'_>,
         to_right: bool,
     ) -> Made<bool>
         requires children { AreFamily self.old }
-        requires takes { TakesShort (tree_over self.old) at added.now }
+        requires takes { Takes (tree_over self.old) at added.now }
         requires side { MayInsert (tree_over self.old) at added.now to_right }
-        ensures made { editor.new.maker.made ≤ editor.old.maker.made + 2 * height_of self.old + 2 }
+        ensures made { editor.new.maker.made
+            ≤ editor.old.maker.made + 2 * height_of self.old + 2
+            + extra_leaves (byte_len added.now) }
         ensures searched { HasSearched (2 * height_of self.old + 2) (14 * height_of self.old + 14)
             editor.old editor.new }
         ensures idle_searched { IfOk result (λ did. did ≡ false
@@ -517,20 +522,21 @@ impl Node {
         }
     }
 
-    /// Puts a text of at most 981 bytes before the character `at`, and returns whether it did: if a
-    /// list on the way, but for the lowest, has room for one child more, and all nodes on the way
-    /// are this tree's own. If memory is refused, the tree is as it was.
+    /// Inserts a text before the character `at`, and returns whether it did: if a list on the path,
+    /// but for the lowest, has room for one more child, and all nodes on the path to it are this
+    /// tree's own. If memory is refused, the tree is as it was.
     #[cycle(parting)]
     pub(crate) fn insert_parting(
         &mut self,
         editor: &mut Editor,
         at: usize,
-        added: &ShortText<'_>,
+        added: &MediumText<'_>,
         to_right: bool,
     ) -> Made<bool>
-        requires takes { TakesShort self.old at added.now }
+        requires takes { Takes self.old at added.now }
         requires side { MayInsert self.old at added.now to_right }
-        ensures made { editor.new.maker.made ≤ editor.old.maker.made + 2 * self.old.height }
+        ensures made { editor.new.maker.made
+            ≤ editor.old.maker.made + 2 * self.old.height + extra_leaves (byte_len added.now) }
         ensures idle { IfOk result (λ did. did ≡ false
             → editor.new.maker.made ≡ editor.old.maker.made) }
         ensures searched { HasSearched (2 * self.old.height) (14 * self.old.height) editor.old
@@ -556,15 +562,17 @@ impl Node {
         &mut self,
         editor: &mut Editor,
         at: usize,
-        added: &ShortText<'_>,
+        added: &MediumText<'_>,
         to_right: bool,
     ) -> Made<Cut>
-        requires takes { TakesShort self.old at added.now }
+        requires takes { Takes self.old at added.now }
+        requires low { self.old.height ≡ 0 → byte_len added.now ≤ MAX_SHORT_BYTES }
         requires side { MayInsert self.old at added.now to_right }
         ensures cut { IfOk result
             (IsCut self.old self.new (inserted (text self.old) at added.now)) }
         ensures err { OnErr result (self.new ≡ self.old) }
-        ensures made { editor.new.maker.made ≤ editor.old.maker.made + 2 * self.old.height + 2 }
+        ensures made { editor.new.maker.made
+            ≤ editor.old.maker.made + 2 * self.old.height + 2 + extra_leaves (byte_len added.now) }
         ensures searched { HasSearched self.old.height (7 * self.old.height) editor.old editor.new }
         ensures idle { IfOk result (λ cut. cut ≡ Kept → editor.new.maker.made
             ≤ editor.old.maker.made + 1) }
@@ -580,7 +588,7 @@ impl Node {
         let Some(leaf) = Rc::get_mut(leaf) else {
             return Ok(Cut::Kept);
         };
-        match leaf.cut(&mut editor.maker, at, added)? {
+        match leaf.cut(&mut editor.maker, at, &added.as_short())? {
             Some(back) => Ok(Cut::Parted(back)),
             None => Ok(Cut::Kept),
         }
@@ -592,16 +600,18 @@ impl Node {
         &mut self,
         editor: &mut Editor,
         at: usize,
-        added: &ShortText<'_>,
+        added: &MediumText<'_>,
         to_right: bool,
     ) -> Made<Cut>
-        requires takes { TakesShort self.old at added.now }
+        requires takes { Takes self.old at added.now }
+        requires low { self.old.height ≡ 0 → byte_len added.now ≤ MAX_SHORT_BYTES }
         requires side { MayInsert self.old at added.now to_right }
         ensures cut { IfOk result
             (IsCut self.old self.new (inserted (text self.old) at added.now)) }
         ensures done { IfOk result (λ cut. cut ≡ Kept → ⊥) }
         ensures err { OnErr result (self.new ≡ self.old) }
-        ensures made { editor.new.maker.made ≤ editor.old.maker.made + 2 * self.old.height + 2 }
+        ensures made { editor.new.maker.made
+            ≤ editor.old.maker.made + 2 * self.old.height + 2 + extra_leaves (byte_len added.now) }
         ensures searched { HasSearched self.old.height (5 * self.old.height) editor.old editor.new }
     {
         match insert(editor, self, at, added, to_right)? {

@@ -25,7 +25,7 @@ Children::insert_parting-insert_parting-requires t c =
     let low = rw f.taken.child_is at (tallest_above c.args.self.now c.way_in-place.result.place (child t (goal.at.Children::insert_parting-insert_parting-requires t c).After-info-old) f.taken.within) in
     let fits = child_fits _ _ _ _ _ _ _ f c.args.added.now c.requires.takes.some c.requires.side c.requires.takes.fits in
     let side = may _ _ _ _ _ _ _ f c.args.added.now c.requires.takes.some c.requires.side c.requires.takes.fits in
-    (omega (arith, c.decreases, low), (record { within = f.taken.goes.within; some = c.requires.takes.some; short = c.requires.takes.short; fits = fits }, side))
+    (omega (arith, c.decreases, low), (record { within = f.taken.goes.within; some = c.requires.takes.some; fits = fits }, side))
 
 pub Children::insert_parting-returns-in_err-insert_parting-clause-made :
     goal.Children::insert_parting-returns-in_err-insert_parting-clause-made

@@ -43,7 +43,7 @@ parted_at c =
 pub cut-requires-clause-takes : goal.cut-requires-clause-takes
 cut-requires-clause-takes c =
     let f = found (goal.at.cut-requires-clause-takes c).After-info-old in
-    record { within = f.taken.goes.within; some = c.requires.takes.some; short = c.requires.takes.short; fits = child_fits _ _ _ _ _ _ _ f c.args.added.now c.requires.takes.some c.requires.side c.requires.takes.fits }
+    record { within = f.taken.goes.within; some = c.requires.takes.some; fits = child_fits _ _ _ _ _ _ _ f c.args.added.now c.requires.takes.some c.requires.side c.requires.takes.fits }
 
 pub cut-requires-clause-side : goal.cut-requires-clause-side
 cut-requires-clause-side c =

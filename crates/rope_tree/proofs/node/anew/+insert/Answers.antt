@@ -1,16 +1,18 @@
-use Rattle.std.proofs.Common.{◌≡◌, ℕ, ◌+◌, ◌-◌, ◌<◌, ◌≤◌, ◌^◌, ◌++◌, length, take, drop, ap, arith}
+use Rattle.std.proofs.Common.{◌≡◌, ℕ, ◌+◌, ◌-◌, ◌<◌, ◌≤◌, ◌^◌, List, ◌++◌, length, take, drop, ap, arith}
 use Rattle.rope_text.specs.Text.{byte_len}
 use Rattle.rope_text.proofs.Measures.{IsMeasure-byte_len}
 use Rattle.rope_tree.specs.declared.search.Unit.TheVariants.{Char}
-use Rattle.rope_tree.specs.Tree.{text, joined, height_of, breaks_of}
+use Rattle.rope_text.specs.Edit.{inserted}
+use Rattle.rope_tree.specs.Siblings.{AreLevel, AreOver}
+use Rattle.rope_tree.specs.Tree.{Tree, text, joined, leaves_of, height_of, breaks_of}
 use Rattle.rope_tree.specs.View.{trees_in}
-use Rattle.rope_tree.specs.Insert.{MayInsert, GoesIn}
+use Rattle.rope_tree.specs.Insert.{MayInsert, GoesIn, IsInserted, IsReplaced}
 use Rattle.rope_tree.proofs.LastCalls.{both_ok}
 use Rattle.rope_tree.proofs.NodeLaws.{small_totals}
 use Rattle.rope_tree.proofs.Descents.{Descends, descends}
 use Rattle.rope_tree.proofs.InsertDescents.{last_total, inner_some, held_within, goes_in}
-use Rattle.rope_tree.proofs.InsertTrees.{siblings_of_first, text_around, child_may, new_siblings, new_length, new_node}
-use Rattle.rope_tree.proofs.node.anew.+insert.Goals.{After-index-children-place, In_ok-middle-in-Inner}
+use Rattle.rope_tree.proofs.InsertTrees.{siblings_of_first, text_around, child_may, replaced, new_siblings, new_length, new_node}
+use Rattle.rope_tree.proofs.node.anew.+insert.Goals.{After-index-children-place, else-len-gt-MAX_SHORT_BYTES-via-then-len-gt-MAX_SHORT_BYTES+else-height-eq0, else-len-gt-MAX_SHORT_BYTES-via-else-len-gt-MAX_SHORT_BYTES}
 use Rattle.rope_tree.proofs.node.anew.+insert.Goals as goal
 
 down : (t : ℕ) (c : After-index-children-place t) → Descends (breaks_of c.in-Inner.children.now) Char c.char_to_hold-held.result c.in-Inner.children.now c.child_at-place.result c.index-children-place.result c.total_before-front.result
@@ -50,8 +52,8 @@ child_at-place-requires-clause-last t c =
     c.char_to_hold-held.ensures.right c.char_to_hold-held.ensures.first c.char_to_hold-held.ensures.left in
     λ d. rw (last_total (breaks_of ts) c.in-Inner.totals.now ts c.in-Inner.ensures.totals_right (omega (arith, c.in-Inner.ensures.children.at_least_two)) d) (omega (arith, whole, held))
 
-pub overflow_sub-at : goal.overflow_sub-at
-overflow_sub-at t c = (goes t (goal.at.overflow_sub-at t c).After-index-children-place).0
+pub overflow_sub-inside : goal.overflow_sub-inside
+overflow_sub-inside t c = (goes t (goal.at.overflow_sub-inside t c).After-index-children-place).0
 
 child_fits : (t : ℕ) (c : After-index-children-place t) → byte_len (text c.index-children-place.result) ≤ byte_len (text c.args.node.now)
 child_fits t c =
@@ -62,15 +64,20 @@ child_fits t c =
     let parts = ap byte_len (text_around (breaks_of ts) (height_of ts) ts k c.index-children-place.result d.children d.within d.child_is) in
     omega (arith, whole, parts, IsMeasure-byte_len.joined (joined (take k ts)) (text c.index-children-place.result ++ joined (drop (k + 1) ts)), IsMeasure-byte_len.joined (text c.index-children-place.result) (joined (drop (k + 1) ts)))
 
+-- a leaf takes a short text alone
+low : (t : ℕ) (c : goal.After-insert-arg-1 t) → c.index-children-place.result.height ≡ 0 → byte_len c.args.added.now ≤ 981
+low t c flat =
+    elim c.else-len-gt-MAX_SHORT_BYTES.branch [
+      | else-len-gt-MAX_SHORT_BYTES-via-then-len-gt-MAX_SHORT_BYTES+else-height-eq0 w ↦ absurd (omega (arith, w.if-height-eq0.false, w.height.ensures, flat))
+      | else-len-gt-MAX_SHORT_BYTES-via-else-len-gt-MAX_SHORT_BYTES w ↦ omega (arith, w.if-len-gt-MAX_SHORT_BYTES.false, c.len.ensures.value)
+    ]
+
 pub insert-requires : goal.insert-requires
 insert-requires t c =
     let e = (goal.at.insert-requires t c).After-index-children-place in
     let d = down t e in
     let above = ap (λ u. u.height) c.in-Inner.ensures.is in
-    (omega (arith, c.decreases, above, d.own.at_height), (record { within = (goes t e).1.within; some = c.requires.takes.some; short = c.requires.takes.short; fits = omega (arith, c.requires.takes.fits, child_fits t e) }, may t e))
-
-fits : (t : ℕ) (c : In_ok-middle-in-Inner t) → byte_len (text c.args.node.now) + byte_len c.args.added.now < 2 ^ 63
-fits t c = omega (arith, c.requires.takes.fits)
+    (omega (arith, c.decreases, above, d.own.at_height), (record { within = (goes t e).1.within; some = c.requires.takes.some; fits = omega (arith, c.requires.takes.fits, child_fits t e) }, (λ flat. low t c flat, may t e)))
 
 made_by : (t : ℕ) (c : After-index-children-place t) → c.index-children-place.result.height + 1 ≡ c.args.node.now.height
 made_by t c = omega (arith, ap (λ u. u.height) c.in-Inner.ensures.is, (down t c).own.at_height)
@@ -81,33 +88,62 @@ returns-in_err-middle-in-Inner-clause-made t c = omega (arith, made_by t (goal.a
 pub returns-in_ok-middle-in-Inner-clause-made : goal.returns-in_ok-middle-in-Inner-clause-made
 returns-in_ok-middle-in-Inner-clause-made t c = omega (arith, made_by t (goal.at.returns-in_ok-middle-in-Inner-clause-made t c).After-index-children-place, c.in_ok-middle-in-Inner.ensures.made, c.pack.ensures.made)
 
+-- the nodes that take the child's place, among the others
+module _ (t : ℕ) (c : After-index-children-place t) (ps : List Tree)
+    (new : IsReplaced c.index-children-place.result ps (inserted (text c.index-children-place.result) (c.args.at - c.total_before-front.result.chars) c.args.added.now)) where
+  fits : byte_len (text c.args.node.now) + byte_len c.args.added.now < 2 ^ 63
+  fits = omega (arith, c.requires.takes.fits)
+
+  abbrev all : List Tree
+  all = take c.child_at-place.result c.in-Inner.children.now ++ (ps ++ drop (c.child_at-place.result + 1) c.in-Inner.children.now)
+
+  level : AreLevel all
+  level =
+      let d = down t c in
+      let g = (goes t c).1 in
+      let ts = c.in-Inner.children.now in
+      let more = new_length (breaks_of ts) (height_of ts) ts c.child_at-place.result c.index-children-place.result d.children d.within d.child_is c.args.node.now c.in-Inner.ensures.is c.args.at (c.args.at - c.total_before-front.result.chars) c.args.added.now c.requires.takes.some (place t c) g.within
+      ps c.args.to_right g.inside g.outside c.requires.side new fits in
+      siblings_of_first (breaks_of ts) (height_of ts) all (omega (arith, more, d.children.at_least_two, new.some))
+      (new_siblings (breaks_of ts) (height_of ts) ts c.child_at-place.result c.index-children-place.result d.children d.within d.child_is c.args.node.now c.in-Inner.ensures.is c.args.at (c.args.at - c.total_before-front.result.chars) c.args.added.now c.requires.takes.some (place t c) g.within
+      ps c.args.to_right g.inside g.outside c.requires.side new fits)
+
+  done : (rs : List Tree) → leaves_of rs ≡ leaves_of all → AreOver all rs → IsInserted c.args.node.now rs (inserted (text c.args.node.now) c.args.at c.args.added.now)
+  done rs leaves shape =
+      let d = down t c in
+      let g = (goes t c).1 in
+      let ts = c.in-Inner.children.now in
+      new_node (breaks_of ts) (height_of ts) ts c.child_at-place.result c.index-children-place.result d.children d.within d.child_is c.args.node.now c.in-Inner.ensures.is c.args.at (c.args.at - c.total_before-front.result.chars) c.args.added.now c.requires.takes.some (place t c) g.within
+      ps c.args.to_right g.inside g.outside c.requires.side new fits rs leaves shape
+
 pub pack-requires-clause-siblings : goal.pack-requires-clause-siblings
 pack-requires-clause-siblings t c =
     let e = (goal.at.pack-requires-clause-siblings t c).After-index-children-place in
-    let n = (goal.at.pack-requires-clause-siblings t c).In_ok-middle-in-Inner in
-    let d = down t e in
-    let g = (goes t e).1 in
-    let ts = c.in-Inner.children.now in
-    let ps = trees_in c.in_ok-middle-in-Inner.middle in
-    let more = new_length (breaks_of ts) (height_of ts) ts c.child_at-place.result c.index-children-place.result d.children d.within d.child_is c.args.node.now c.in-Inner.ensures.is c.args.at (c.args.at - c.total_before-front.result.chars) c.args.added.now c.requires.takes.some (place t e) g.within
-    ps c.args.to_right g.inside g.outside c.requires.side c.in_ok-middle-in-Inner.ensures.ok (fits t n) in
-    let s = new_siblings (breaks_of ts) (height_of ts) ts c.child_at-place.result c.index-children-place.result d.children d.within d.child_is c.args.node.now c.in-Inner.ensures.is c.args.at (c.args.at - c.total_before-front.result.chars) c.args.added.now c.requires.takes.some (place t e) g.within
-    ps c.args.to_right g.inside g.outside c.requires.side c.in_ok-middle-in-Inner.ensures.ok (fits t n) in
-    rw (c.first-before.ensures.nodes, c.rest-after.ensures.nodes, c.of-row.ensures.nodes) (siblings_of_first (breaks_of ts) (height_of ts) (take c.child_at-place.result ts ++ (ps ++ drop (c.child_at-place.result + 1) ts))
-    (omega (arith, more, d.children.at_least_two, c.in_ok-middle-in-Inner.ensures.ok.parts.some)) s)
+    rw (c.first-before.ensures.nodes, c.rest-after.ensures.nodes, c.of-row.ensures.nodes)
+    (level t e (trees_in c.in_ok-middle-in-Inner.middle) (replaced _ _ _ c.in_ok-middle-in-Inner.ensures.ok))
 
 pub returns-in_ok-middle-in-Inner-clause-ok : goal.returns-in_ok-middle-in-Inner-clause-ok
 returns-in_ok-middle-in-Inner-clause-ok t c =
     let e = (goal.at.returns-in_ok-middle-in-Inner-clause-ok t c).After-index-children-place in
-    let n = (goal.at.returns-in_ok-middle-in-Inner-clause-ok t c).In_ok-middle-in-Inner in
-    let d = down t e in
-    let g = (goes t e).1 in
-    let ts = c.in-Inner.children.now in
-    let ps = trees_in c.in_ok-middle-in-Inner.middle in
     both_ok c.pack.result _ _ _ (λ nodes leaves shape.
-    new_node (breaks_of ts) (height_of ts) ts c.child_at-place.result c.index-children-place.result d.children d.within d.child_is c.args.node.now c.in-Inner.ensures.is c.args.at (c.args.at - c.total_before-front.result.chars) c.args.added.now c.requires.takes.some (place t e) g.within
-    ps c.args.to_right g.inside g.outside c.requires.side c.in_ok-middle-in-Inner.ensures.ok (fits t n) (trees_in nodes) (rw (c.first-before.ensures.nodes, c.rest-after.ensures.nodes, c.of-row.ensures.nodes) at leaves) (rw (c.first-before.ensures.nodes, c.rest-after.ensures.nodes, c.of-row.ensures.nodes) at shape))
+    done t e (trees_in c.in_ok-middle-in-Inner.middle) (replaced _ _ _ c.in_ok-middle-in-Inner.ensures.ok) (trees_in nodes)
+    (rw (c.first-before.ensures.nodes, c.rest-after.ensures.nodes, c.of-row.ensures.nodes) at leaves) (rw (c.first-before.ensures.nodes, c.rest-after.ensures.nodes, c.of-row.ensures.nodes) at shape))
     c.pack.ensures.leaves c.pack.ensures.shape
+
+pub pack_over-requires-clause-siblings : goal.pack_over-requires-clause-siblings
+pack_over-requires-clause-siblings t c =
+    let e = (goal.at.pack_over-requires-clause-siblings t c).After-index-children-place in
+    rw (c.first-before.ensures.nodes, c.new.ensures.nodes, c.as_slice.ensures.value, c.rest-after.ensures.nodes, c.of-row.ensures.nodes)
+    (level t e c.fill_with.new.pieces.items c.in_ok-fill_with-in-Inner.ensures.ok)
+
+pub returns-then-height-eq0-clause-ok : goal.returns-then-height-eq0-clause-ok
+returns-then-height-eq0-clause-ok t c =
+    let e = (goal.at.returns-then-height-eq0-clause-ok t c).After-index-children-place in
+    both_ok c.pack_over.result _ _ _ (λ nodes leaves shape.
+    done t e c.fill_with.new.pieces.items c.in_ok-fill_with-in-Inner.ensures.ok (trees_in nodes)
+    (rw (c.first-before.ensures.nodes, c.new.ensures.nodes, c.as_slice.ensures.value, c.rest-after.ensures.nodes, c.of-row.ensures.nodes) at leaves)
+    (rw (c.first-before.ensures.nodes, c.new.ensures.nodes, c.as_slice.ensures.value, c.rest-after.ensures.nodes, c.of-row.ensures.nodes) at shape))
+    c.pack_over.ensures.leaves c.pack_over.ensures.shape
 
 pub returns-in_err-middle-in-Inner-clause-searched : goal.returns-in_err-middle-in-Inner-clause-searched
 returns-in_err-middle-in-Inner-clause-searched t c =

@@ -1,4 +1,4 @@
--- The tests are in the order of the errors; after them only `OutOfMemory` is possible.
+-- The tests come in the order of the errors, and past them only memory refuses.
 use Rattle.std.proofs.Common.{rules, ◌≡◌, ◌<◌, ◌∙◌, ℕ, List, length, sym, refl, arith, subst, ap, Some, true, false}
 use Rattle.std.proofs.lemmas.Bool.Decides.{nat_tests}
 use Rattle.std.specs.Prelude.{◌==◌}
@@ -46,64 +46,35 @@ returns-then-is_empty-clause-ok c =
       inserted_none text c.args.char_idx (chars new) (no_chars new nothing),
     )
 
-pub returns-then-text-le-MAX_SHORT_BYTES-clause-ok : goal.returns-then-text-le-MAX_SHORT_BYTES-clause-ok
-returns-then-text-le-MAX_SHORT_BYTES-clause-ok c =
-    let text = c.args.self.now.text in
-    let new = c.args.text.now in
-    let none = insert_error-none text c.args.char_idx (chars new) (omega arith) (omega (arith, byte_len-chars new c.utf8.text, c.len_bytes-bytes.ensures.value, c.len_bytes-bytes.ensures.kept.content.fits)) in
-    (none, c.in_ok-insert_at.ensures.text ∙ ap (λ (r : RopeView). inserted r.text c.args.char_idx (chars new)) c.self.view_is)
-
-pub returns-then-text-le-MAX_SHORT_BYTES-clause-empty : goal.returns-then-text-le-MAX_SHORT_BYTES-clause-empty
-returns-then-text-le-MAX_SHORT_BYTES-clause-empty c = λ none _. some_chars c.args.text.now c.utf8.text (sym c.is_empty.ensures ∙ c.if-is_empty.false) none
-
-pub returns-in_err-insert_at-clause-refused : goal.returns-in_err-insert_at-clause-refused
-returns-in_err-insert_at-clause-refused c =
-    let text = c.args.self.now.text in
-    let new = c.args.text.now in
-    let none = insert_error-none text c.args.char_idx (chars new) (omega arith) (omega (arith, byte_len-chars new c.utf8.text, c.len_bytes-bytes.ensures.value, c.len_bytes-bytes.ensures.kept.content.fits)) in
-    passed_on c.from_residual.result OutOfMemory _ c.from_residual.ensures.1 (subst (λ o. IsRefusal o OutOfMemory) (sym none) refl)
-
-pub returns-in_err-insert_at-clause-empty : goal.returns-in_err-insert_at-clause-empty
-returns-in_err-insert_at-clause-empty c = λ none _. some_chars c.args.text.now c.utf8.text (sym c.is_empty.ensures ∙ c.if-is_empty.false) none
-
 pub returns-clause-ok : goal.returns-clause-ok
 returns-clause-ok c =
     let text = c.args.self.now.text in
     let new = c.args.text.now in
     let none = insert_error-none text c.args.char_idx (chars new) (omega arith) (omega (arith, byte_len-chars new c.utf8.text, c.len_bytes-bytes.ensures.value, c.len_bytes-bytes.ensures.kept.content.fits)) in
-    (none, c.in_ok-self-inside.ensures.text ∙ ap (λ (r : RopeView). inserted r.text c.args.char_idx (chars new)) c.self.view_is)
+    (none, c.in_ok-insert_into.ensures.text ∙ ap (λ (r : RopeView). inserted r.text c.args.char_idx (chars new)) c.self.view_is)
 
 pub returns-clause-empty : goal.returns-clause-empty
 returns-clause-empty c = λ none _. some_chars c.args.text.now c.utf8.text (sym c.is_empty.ensures ∙ c.if-is_empty.false) none
 
-pub returns-in_err-self-inside-clause-refused : goal.returns-in_err-self-inside-clause-refused
-returns-in_err-self-inside-clause-refused c =
+pub returns-in_err-insert_into-clause-refused : goal.returns-in_err-insert_into-clause-refused
+returns-in_err-insert_into-clause-refused c =
     let text = c.args.self.now.text in
     let new = c.args.text.now in
     let none = insert_error-none text c.args.char_idx (chars new) (omega arith) (omega (arith, byte_len-chars new c.utf8.text, c.len_bytes-bytes.ensures.value, c.len_bytes-bytes.ensures.kept.content.fits)) in
-    passed_on c.from_residual-in_err-self-inside.result OutOfMemory _ c.from_residual-in_err-self-inside.ensures.1 (subst (λ o. IsRefusal o OutOfMemory) (sym none) refl)
+    passed_on c.from_residual.result OutOfMemory _ c.from_residual.ensures.1 (subst (λ o. IsRefusal o OutOfMemory) (sym none) refl)
 
-pub returns-in_err-self-inside-clause-empty : goal.returns-in_err-self-inside-clause-empty
-returns-in_err-self-inside-clause-empty c = λ none _. some_chars c.args.text.now c.utf8.text (sym c.is_empty.ensures ∙ c.if-is_empty.false) none
-
-pub returns-then-text-le-MAX_SHORT_BYTES-clause-kept : goal.returns-then-text-le-MAX_SHORT_BYTES-clause-kept
-returns-then-text-le-MAX_SHORT_BYTES-clause-kept c = (search rules, search rules, rope_of c.insert_at.new.root c.insert_at.ensures.tree)
-
-pub returns-in_err-insert_at-clause-kept : goal.returns-in_err-insert_at-clause-kept
-returns-in_err-insert_at-clause-kept c = (search rules, search rules, rope_of c.insert_at.new.root c.insert_at.ensures.tree)
+pub returns-in_err-insert_into-clause-empty : goal.returns-in_err-insert_into-clause-empty
+returns-in_err-insert_into-clause-empty c = λ none _. some_chars c.args.text.now c.utf8.text (sym c.is_empty.ensures ∙ c.if-is_empty.false) none
 
 pub returns-clause-kept : goal.returns-clause-kept
-returns-clause-kept c = (search rules, search rules, rope_of _ c.in_ok-self-inside.ensures.tree)
+returns-clause-kept c = (search rules, search rules, rope_of c.insert_into.new.root c.insert_into.ensures.tree)
 
--- a text that isn't empty is inserted into the tree
-pub returns-in_err-insert_at-clause-outside : goal.returns-in_err-insert_at-clause-outside
-returns-in_err-insert_at-clause-outside c = λ none. some_chars c.args.text.now c.utf8.text (sym c.is_empty.ensures ∙ c.if-is_empty.false) none
+pub returns-in_err-insert_into-clause-kept : goal.returns-in_err-insert_into-clause-kept
+returns-in_err-insert_into-clause-kept c = (search rules, search rules, rope_of c.insert_into.new.root c.insert_into.ensures.tree)
 
-pub returns-then-text-le-MAX_SHORT_BYTES-clause-outside : goal.returns-then-text-le-MAX_SHORT_BYTES-clause-outside
-returns-then-text-le-MAX_SHORT_BYTES-clause-outside c = λ none. some_chars c.args.text.now c.utf8.text (sym c.is_empty.ensures ∙ c.if-is_empty.false) none
-
-pub returns-in_err-self-inside-clause-outside : goal.returns-in_err-self-inside-clause-outside
-returns-in_err-self-inside-clause-outside c = λ none. some_chars c.args.text.now c.utf8.text (sym c.is_empty.ensures ∙ c.if-is_empty.false) none
+-- a text that isn't empty goes into the tree
+pub returns-in_err-insert_into-clause-outside : goal.returns-in_err-insert_into-clause-outside
+returns-in_err-insert_into-clause-outside c = λ none. some_chars c.args.text.now c.utf8.text (sym c.is_empty.ensures ∙ c.if-is_empty.false) none
 
 pub returns-clause-outside : goal.returns-clause-outside
 returns-clause-outside c = λ none. some_chars c.args.text.now c.utf8.text (sym c.is_empty.ensures ∙ c.if-is_empty.false) none
