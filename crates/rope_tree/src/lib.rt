@@ -1,34 +1,48 @@
-//! The tree of a rope: leaf texts under nodes with running totals.
+//! The tree of a rope: a B+ tree of leaf texts, with running totals in its inner nodes.
 //!
-//! A leaf has 1 to 984 bytes of text, which fill a block of 1,024 with its counts. An inner node
-//! has up to 24 children and, for each kind of count, a row of running totals: a search halves over
-//! one row, and misses on two cache lines at most. Trees share nodes, whose owners are counted; a
-//! node with more than one is copied before it is changed.
+//! ```text
+//! Node -> Children   height, set of line breaks, child of the last edit
+//!         totals     bytes    [  980 | 1950 | 2600 | .. ]   four rows of 24 entries,
+//!                    chars    [  975 | 1900 | 2540 | .. ]   each of 32 bits
+//!                    pairs    [    0 |    3 |    3 | .. ]
+//!                    breaks   [   20 |   41 |   55 | .. ]
+//!         nodes      [   *  |   *  |   *  | .. ]            24 entries
+//!                        v      v      v
+//!                      leaf   leaf   leaf                   980, 970 and 650 bytes
+//! ```
 //!
-//! Any two neighbouring leaves have 492 bytes or more together, so that the memory of a tree
-//! follows its text. An insert needn't look after that: a full leaf is cut into two of 491 bytes or
-//! more, and any neighbour has one. A removal compares with the neighbours' lengths, which the
-//! totals tell. No leaf is merged with another but by a join, so that an edit changes one leaf or
-//! two.
+//! A leaf is a block of 1,024 bytes: 1 to 984 bytes of text, and the counts of the text. An inner
+//! node has at most 24 children, and at least 12 unless it is the root. For each kind of count it
+//! has a row of running totals: a binary search reads one row, and misses on at most two cache
+//! lines. Trees share nodes by reference counting, and an edit copies a shared node before it
+//! changes it.
 //!
-//! No CR LF lies in two leaves. So each leaf's line breaks are counted without its neighbours, and
-//! the totals are sums.
+//! Invariants of the leaves:
+//! - Any two adjacent leaves have at least 492 bytes together, so memory is proportional to the
+//!   text.
+//! - No CR LF is split between two leaves. Each leaf's line breaks are counted without its
+//!   neighbours, and the totals are sums.
+//!
+//! An insert keeps the first one without a look at the neighbours: a full leaf splits into two of
+//! at least 491 bytes, and any neighbour has at least one. A removal compares with the lengths of
+//! the neighbours, which the totals give. Only joins merge leaves, so an edit in place changes one
+//! leaf or two.
 //!
 //! Modules, lowest first:
-//! - `node_text`: the text of a leaf, and where a longer one is cut
-//! - `short_text`: texts on their way into leaves
-//! - `leaf_edits`: the text of a leaf edited, and its counts by sums and differences
+//! - `node_text`: the text of a leaf, and where a longer one is split
+//! - `short_text`: borrowed texts of leaves, and those to insert
+//! - `leaf_edits`: edits of the text of a leaf, with its counts by sums and differences
 //! - `leaf`: a text with its counts
-//! - `maker`: where nodes' memory comes from
-//! - `search`: running totals, and the child that holds a place
+//! - `maker`: allocates nodes and counts them
+//! - `search`: running totals, and the search for the child that contains an index
 //! - `editor`: the maker of an edit's nodes, with the counts of its searches
-//! - `node`: nodes; `node::row` puts them side by side, `node::anew` inserts into a new tree,
-//!   `node::in_place` edits nodes where they stand, `node::across` two leaves side by side, and
-//!   `node::pieces` makes leaves of a leaf and a longer text
-//! - `lookup`, `conversions`: the descent to a leaf, and indices on it
-//! - `beside`: how few bytes a leaf may keep beside its neighbours
+//! - `node`: nodes; `node::row` makes nodes over rows of others, `node::anew` inserts into a new
+//!   tree, `node::in_place` edits nodes in place, `node::across` edits two adjacent leaves, and
+//!   `node::pieces` splits a leaf and a medium text into leaves
+//! - `lookup`, `conversions`: the descent to a leaf, and conversions of indices by it
+//! - `beside`: the minimum bytes of a leaf beside its neighbours
 //! - `short_edits`: inserts into whole trees that replace one leaf, and removals from one or two
-//! - `build`, `builder`: trees of whole texts, and of texts passed in one after the other
+//! - `build`, `builder`: trees of whole texts, and of texts passed in one after another
 #![tactic(auto)]
 
 mod beside;
@@ -59,9 +73,9 @@ pub use search::{Totals, Unit, count, place_of, total_before};
 pub use short_edits::{insert_at, insert_medium_at, is_lf, remove_at};
 pub use short_text::{MediumText, ShortText};
 
-/// The most bytes of a text that an insert splits into leaves in the place of one. A longer text is
-/// built as a tree of its own.
+/// The maximum number of bytes of a medium text: an insert of it replaces one leaf by at most
+/// `MAX_PIECES`. A longer text is built as a tree of its own.
 pub const MAX_MEDIUM_BYTES: usize = 4096;
 
-/// The most leaves that a leaf and a medium text make together.
+/// The maximum number of leaves made of a leaf and a medium text.
 pub const MAX_PIECES: usize = 6;

@@ -18,7 +18,7 @@ front c = chars_front c.as_str-text.result.now _ _ c.args.at _ c.as_str-text.utf
 back : (c : After-range_from-back) → chars c.range_from-back.result.now ≡ drop c.args.at c.args.leaf.now
 back c = chars_back c.as_str-text.result.now _ _ c.args.at _ c.as_str-text.utf8 c.as_str-text.ensures.chars (place_is c) c.range_from-back.ensures.value
 
--- the characters of the three parts
+-- the characters of the three texts
 whole : (c : After-range_from-back) (s : List ℕ) → s ≡ c.args.added.now → chars c.range-front.result.now ++ (s ++ chars c.range_from-back.result.now) ≡ inserted c.args.leaf.now c.args.at c.args.added.now
 whole c s e =
     ap₂ (λ x y. x ++ (s ++ y)) (front c) (back c) ∙ ap (λ x. take c.args.at c.args.leaf.now ++ (x ++ drop c.args.at c.args.leaf.now)) e ∙ sym (inserted_is c.args.leaf.now c.args.at c.args.added.now)

@@ -25,13 +25,13 @@ use Rattle.rope_tree.proofs.CutLaws.{Cuts, own_first, own_second, small_both, cu
 use Rattle.rope_tree.proofs.node.Children.part_child.Goals.{After-info-old, After-info-front, After-put_behind, then-count-ge-MAX_CHILDREN-via-then-count-ge-MAX_CHILDREN, then-count-ge-MAX_CHILDREN-via-else-count-ge-MAX_CHILDREN+then-not-has_room_for}
 use Rattle.rope_tree.proofs.node.Children.part_child.Goals as goal
 
--- the child that takes the text, before it is cut
+-- the child that takes the text, before it is split
 found : (c : After-info-old) → Finds c.self.inside c.args.self.now c.way_in-place.result.place (get_or c.self.inside.nodes c.way_in-place.result.place c.index-self-place.result) c.args.at c.way_in-place.result.inside c.args.to_right
 found c =
     found_at c.self.inside c.args.self.now c.way_in-place.result.place c.index-self-place.result c.args.at c.way_in-place.result.inside c.args.to_right
     c.self.view_is c.self.invariant c.requires.children c.way_in-place.ensures.child c.way_in-place.ensures.place c.way_in-place.ensures.goes
 
--- and then
+-- the child after the split
 abbrev child : After-info-front → Tree
 child c = get_or c.self.inside.nodes c.way_in-place.result.place c.index-self-place.result
 
@@ -113,7 +113,7 @@ returns-in-Grown-clause-tried c = record {
   err = tt;
 }
 
--- the children with both parts of the leaf
+-- the children with both halves of the split child
 abbrev parts : After-info-front → List Tree
 parts c = insert (set c.args.self.now c.way_in-place.result.place c.cut.new.self) (c.way_in-place.result.place + 1) c.in-Parted.back
 
@@ -221,13 +221,13 @@ insert-requires-clause-narrow c = λ narrow.
     let before = before_is f c.total_before.result c.total_before.ensures.first c.total_before.ensures.later in
     rw (first_is f c.total_before.result c.plus-total.result before c.plus-total.ensures.sum) (first_narrow _ _ _ _ _ _ (cut f) few)
 
--- the nodes in use, with the second part of the leaf behind the first
+-- the nodes in use, with the second half after the first
 placed : (c : After-put_behind) → c.put_behind.new.nodes ≡ insert (set c.args.self.now c.way_in-place.result.place c.cut.new.self) (c.way_in-place.result.place + 1) c.in-Parted.back
 placed c =
     put_in_place c.self.inside c.args.self.now c.way_in-place.result.place c.cut.new.self c.in-Parted.back c.len-count.result c.put_behind.new.nodes c.self.invariant c.self.view_is c.way_in-place.ensures.child
     c.len-count.ensures (omega (arith, c.if-count-ge-MAX_CHILDREN.false)) c.put_behind.ensures
 
--- as many as there are places for
+-- the number of entries is unchanged
 as_many : (c : After-put_behind) → length c.put_behind.new.nodes ≡ c.len-count.result + 1
 as_many c =
     let ts = c.args.self.now in
