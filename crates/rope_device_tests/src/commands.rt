@@ -168,7 +168,7 @@ fn cut(
 }
 
 /// Appends a copy of a rope, which is not empty, to another, or replaces one that is empty.
-fn put_behind(
+fn put_after(
     ropes: &mut [PlainRope],
     number: usize,
     more: PlainRope,
@@ -195,7 +195,7 @@ fn join(ropes: &mut [PlainRope], number: usize, other: usize) -> Result<Effect, 
         return Ok(effect_of(Outcome::Done));
     }
     let more = more.copy()?;
-    put_behind(ropes, number, more)
+    put_after(ropes, number, more)
 }
 
 fn clone(ropes: &mut Vec<PlainRope>, number: usize) -> Result<Effect, AllocError> {

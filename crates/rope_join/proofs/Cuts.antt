@@ -1,4 +1,4 @@
--- A node cut at one of its children.
+-- A node split at one of its children.
 use Rattle.std.proofs.Common.{◌≡◌, ℕ, ◌+◌, ◌^◌, ◌<◌, ◌≤◌, List, [], ◌∷◌, ◌++◌, length, take, drop, get_or, refl, sym, ap, subst, ◌∙◌, arith, inl, inr}
 use Rattle.std.specs.List.{concat, All}
 use Rattle.std.proofs.lemmas.Bool.{cases_lt}
@@ -23,7 +23,7 @@ use Rattle.rope_join.specs.Join.{CanJoin, IsNear, IsJoin}
 use Rattle.rope_tree.proofs.Gathered.{IsGathered}
 use Rattle.rope_join.specs.Cut.{SparesFirst, SparesLast, first_chars, last_chars, IsFront, IsBack, AreBeside}
 
--- the parts of an inner node around one child
+-- an inner node as the children around one child
 pub record CutsAt (n : Tree) (xs : List Tree) (t : Tree) (ys : List Tree) : Type 0 where
   pub text_is : text n ≡ joined xs ++ (text t ++ joined ys)
   pub leaves_is : n.leaves ≡ leaves_of xs ++ (t.leaves ++ leaves_of ys)
@@ -60,7 +60,7 @@ cuts_at n br h ts k t is a lt here =
 pub byte_len-parts : (k : ℕ) (l : List ℕ) → byte_len (take k l) + byte_len (drop k l) ≡ byte_len l
 byte_len-parts k l = omega (arith, IsMeasure-byte_len.joined (take k l) (drop k l), ap byte_len (take-append-drop k l))
 
--- a part beside the tree that the whole is beside
+-- a front may be joined to any tree that the whole may be joined to
 pub front_joins : (k : ℕ) (a t p : Tree) → k ≤ length (text t) → CanJoin a t → IsFront k t p → CanJoin a p
 front_joins k a t p le j i = record {
   same_breaks = i.same_breaks ∙ j.same_breaks;
@@ -246,7 +246,7 @@ module _ (n : Tree) (xs : List Tree) (t : Tree) (ys : List Tree) (s : CutsAt n x
               let last = j.recuts.last (rw gi.leaves (omega (arith, some, nodes_le t.breaks t.height ys s.after))) (last_bytes front t.leaves) b in
               rw (s.leaves_is, last_bytes-append a (leaves_of xs) (t.leaves ++ leaves_of ys), last_bytes-append front t.leaves (leaves_of ys)) (rw gi.leaves at last)
 
--- all of a tree
+-- a tree with text has a leaf
 pub some_list : (ls : List (List ℕ)) → 1 ≤ length (concat ls) → 1 ≤ length ls
 some_list [] some = absurd (omega arith)
 some_list (l ∷ ls) some = omega arith
@@ -257,14 +257,14 @@ whole_back n r at i z some e = rw (e, z) (record { text_is = refl; same_breaks =
     all : (a b : ℕ) → last_bytes a n.leaves ≤ last_bytes b n.leaves
     all a b = omega (arith, last_bytes-some a b n.leaves (some_list n.leaves some))
 
--- a part is near the tree that the whole is near
+-- a front is near any tree that the whole is near
 pub front_is_near : (k : ℕ) (a t p : Tree) → IsDenseBehind (last_bytes 492 a.leaves) t.leaves → IsFront k t p → IsNear a p
 front_is_near k a t p dense i = record { near = λ _ high. i.near high (last_bytes 492 a.leaves) dense }
 
 pub back_is_near : (k : ℕ) (t a p : Tree) → IsDenseBehind (last_bytes 492 t.leaves) a.leaves → IsBack k t p → IsNear p a
 back_is_near k t a p dense i = record { near = λ high _. dense_more (last_bytes 492 t.leaves) (last_bytes 492 p.leaves) a.leaves (i.near high 492 492) dense }
 
--- two children side by side
+-- two adjacent children
 pub beside_at : (br : LineBreaks) (h : ℕ) (ts : List Tree) (k : ℕ) (a b : Tree) → AreChildren br h ts → k + 1 < length ts → get_or ts k a ≡ a → get_or ts (k + 1) b ≡ b → AreBeside a b
 beside_at br h ts k a b c lt first second =
     let one = child_at br h ts k a c (omega arith) first in

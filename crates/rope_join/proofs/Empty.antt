@@ -1,4 +1,4 @@
--- The empty part of a tree.
+-- The empty side of a split tree.
 use Rattle.std.proofs.Common.{◌≡◌, ℕ, List, [], length, refl, sym, arith}
 use Rattle.std.proofs.lemmas.List.{drop_all}
 use Rattle.rope_tree.specs.Tree.{Tree, text, leaf_tree}

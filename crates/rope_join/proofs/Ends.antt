@@ -1,4 +1,4 @@
--- A tree in the place of the first children of a node, or of the last.
+-- A tree in place of the first children of a node, or of the last.
 use Rattle.std.proofs.Common.{ℕ, ◌+◌, ◌<◌, ◌≤◌, List, ◌++◌, length, take, drop, sym, ap, ◌∙◌, arith}
 use Rattle.std.specs.List.{concat, All}
 use Rattle.std.proofs.lemmas.List.{take-append-drop, length-take-le, length-drop}

@@ -1,4 +1,4 @@
--- The first leaf and the last of a tree's leaves, and two sides joined.
+-- The first and the last of a tree's leaves, and two joined sides.
 use Rattle.std.proofs.Common.{◌≡◌, ℕ, ◌+◌, ◌<◌, ◌≤◌, inl, inr, List, [], ◌∷◌, ◌++◌, length, take, drop, get_or, sym, ap, ap₂, subst, ◌∙◌, arith}
 use Rattle.std.specs.List.{concat, All}
 use Rattle.std.proofs.lemmas.Bool.{cases_lt}
@@ -47,7 +47,7 @@ lone_last [] some one = absurd (omega arith)
 lone_last (l ∷ []) some one = omega (arith, length-append l [])
 lone_last (l ∷ m ∷ ls) some one = absurd (omega arith)
 
--- the leaves below the first children and those behind them
+-- the leaves below the first children and those after them
 module _ (n : Tree) (ts : List Tree) (k at : ℕ) (is : n ≡ tree_over ts) (a : AreChildren (breaks_of ts) (height_of ts) ts) where
   parts : n.leaves ≡ leaves_of (take k ts) ++ leaves_of (drop k ts)
   parts = ap (λ t. t.leaves) is ∙ ap leaves_of (sym (take-append-drop k ts)) ∙ leaves_of-append (take k ts) (drop k ts)
@@ -76,7 +76,7 @@ module _ (n : Tree) (ts : List Tree) (k at : ℕ) (is : n ≡ tree_over ts) (a :
         before = omega (arith, last, last_le 1 (leaves_of (drop k ts)) more, le, whole);
       }
 
-  -- and where those of a child at an end are spared
+  -- if the outer leaf of a child at an end is kept whole, so is that of the node
   pub first_child_spares : (t : Tree) → get_or ts 0 t ≡ t → SparesFirst at t → SparesFirst at n
   first_child_spares t here s =
       let whole = subst (λ u. leaves_of ts ≡ u.leaves ++ leaves_of (drop 1 ts)) here (leaves_at ts 0 t (omega (arith, a.at_least_two))) in
@@ -120,7 +120,7 @@ module _ (n : Tree) (ts : List Tree) (k at : ℕ) (is : n ≡ tree_over ts) (a :
         | inr flat ↦ omega (arith, l.0, l.1, place, inside, lone_last t.leaves own.some (own.tree.lone (omega (arith, flat))))
       ]
 
-  -- the leaves next to where a tree is put
+  -- the neighbours of a tree that replaces children
   pub near_child : (t part : Tree) (m : ℕ) → k < length ts → get_or ts k t ≡ t → ((j : ℕ) → m ≡ last_bytes j t.leaves) → IsDenseBehind m part.leaves → IsDenseBehind (last_bytes 492 (leaves_of (take (k + 1) ts))) part.leaves
   near_child t part m lt here bytes dense =
       let parts_is : leaves_of (take (k + 1) ts) ≡ leaves_of (take k ts) ++ t.leaves =
@@ -140,7 +140,7 @@ leaves_by_bytes : (ls : List (List ℕ)) → 1 ≤ byte_len (concat ls) → 1 �
 leaves_by_bytes [] some = absurd (omega arith)
 leaves_by_bytes (l ∷ ls) some = omega arith
 
--- a tree that has a byte has a leaf
+-- a tree with a byte has a leaf
 pub leaf_by_bytes : (t : Tree) → 1 ≤ byte_len (text t) → 1 ≤ length t.leaves
 leaf_by_bytes t some = leaves_by_bytes t.leaves some
 
@@ -150,7 +150,7 @@ some_by_first l part at le s e = some_list part.leaves (omega (arith, s.some, s.
 some_by_last : (l part : Tree) (at : ℕ) → SparesLast at l → text part ≡ drop at (text l) → 1 ≤ length part.leaves
 some_by_last l part at s e = some_list part.leaves (omega (arith, s.some, s.before, ap length e, length-drop at (text l)))
 
--- a front and a back that are joined
+-- a front and a back, joined
 pub sides_joined : (left right first second node : Tree) (end start : ℕ) → end ≤ length (text left) → IsFront end left first → IsBack start right second → IsJoin first second node → IsSides left end right start node
 sides_joined left right first second node end start le f b j = record {
   text_is = join_text first second node j ∙ ap₂ (λ x y. x ++ y) f.text_is b.text_is;

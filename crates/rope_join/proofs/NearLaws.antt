@@ -1,4 +1,4 @@
--- The leaves next to where two trees meet, by those of a child.
+-- The adjacent leaves of two trees, by those of a child.
 use Rattle.std.proofs.Common.{◌≡◌, ℕ, ◌≤◌, List, [], ◌∷◌, ◌++◌, length, sym, ap, subst, ◌∙◌}
 use Rattle.std.proofs.lemmas.List.{append-nil}
 use Rattle.std.proofs.lemmas.List.Elements.{All-head}

@@ -1,4 +1,4 @@
--- What a removal puts in the place of the children that it cuts, on the way down to them.
+-- The tree that replaces the split children in a removal in one descent.
 use Rattle.std.proofs.Common.{◌≡◌, ℕ, zero, suc, ◌+◌, ◌-◌, ◌^◌, ◌<◌, ◌≤◌, List, [], ◌∷◌, ◌++◌, length, take, drop, get_or, refl, sym, ap, ap₂, subst, ◌∙◌, arith, inl, inr}
 use Rattle.std.specs.List.{concat}
 use Rattle.std.proofs.lemmas.Bool.{cases_lt}
@@ -25,13 +25,13 @@ use Rattle.rope_join.specs.Join.{IsJoin}
 use Rattle.rope_join.proofs.Cuts.{some_list, CutsAt, spares_first_of, spares_last_of, front_text, back_text}
 use Rattle.rope_join.proofs.Seams.{left_le, join_text}
 
--- a child doesn't depend on what a place past the end would give
+-- a child doesn't depend on the default for an index past the end
 pub same_child : (ts : List Tree) (i : ℕ) (d e : Tree) → i < length ts → get_or ts i d ≡ get_or ts i e
 same_child [] i d e lt = absurd (omega arith)
 same_child (t ∷ ts) zero d e lt = refl
 same_child (t ∷ ts) (suc i) d e lt = same_child ts i d e (omega arith)
 
--- the child that holds a place isn't before the one that holds a smaller place
+-- the child that contains an index isn't before the one that contains a smaller index
 pub in_order : (ts : List Tree) (i j start end to : ℕ) (b : Tree) → i ≤ length ts → j < length ts → get_or ts j b ≡ b → length (joined (take i ts)) ≤ start → start < end → end ≡ length (joined (take j ts)) + to → to ≤ length (text b) → i < j + 1
 in_order ts i j start end to b li lj here from less at le = elim (cases_lt i (j + 1)) [
   | inl l ↦ l
@@ -70,7 +70,7 @@ module _ (n : Tree) (ts : List Tree) (i j from to start end : ℕ) (a b : Tree)
     same_breaks : part.breaks ≡ breaks_of ts
     same_breaks = sides.same_breaks ∙ s.same_breaks ∙ ap (λ u. u.breaks) is
 
-    -- what the leaves at its ends may stand beside, where they are those of the children
+    -- the neighbours that the outer leaves may have, if they are those of the children
     pub some_by : SparesFirst from a → 1 ≤ length part.leaves
     some_by spares = some_list part.leaves (omega (arith, spares.some, spares.past, length-take-le from (text a) in_a, ap length sides.text_is, length-append (take from (text a)) (drop to (text b))))
 
@@ -213,7 +213,7 @@ module _ (n : Tree) (ts : List Tree) (i j from to start end : ℕ) (a b : Tree)
               omega (arith, old, last_bytes-append 0 part.leaves ys, new);
         }
 
--- a child with a text inside it, in its place
+-- a child with a text inserted into it, in its own place
 module _ (n : Tree) (ts : List Tree) (k i at : ℕ) (a : Tree) (new : List ℕ) (part : Tree)
     (s : CutsAt n (take k ts) a (drop (k + 1) ts)) (place : at ≡ length (joined (take k ts)) + i) (inside : 0 < i) (more : i < length (text a))
     (fits : byte_len (text n) + byte_len new < 2 ^ 63) (c : AreChildren (breaks_of ts) (height_of ts) ts) (is : n ≡ tree_over ts)
@@ -269,7 +269,7 @@ module _ (n : Tree) (ts : List Tree) (k i at : ℕ) (a : Tree) (new : List ℕ) 
         );
       }
 
-  -- the text before it and behind it
+  -- the text before it and after it
   start_text : take (at - i) (text n) ≡ joined (take k ts)
   start_text = front_text n (take k ts) a (drop (k + 1) ts) s (at - i) 0 a (omega (arith, place)) (omega arith) ∙ append-nil (joined (take k ts))
 

@@ -1,4 +1,4 @@
--- The two parts of a text, by characters.
+-- The two sides of a split text, by characters.
 use Rattle.std.proofs.Common.{◌≡◌, ℕ, ◌<◌, ◌≤◌, List, [], ◌∷◌, ◌++◌, length, take, drop, sym, ap, ap₂, ◌∙◌, arith, take-append-drop, ◌-◌}
 use Rattle.std.proofs.lemmas.List.{length-take-le, length-drop}
 use Rattle.std.specs.Str.{chars, IsUtf8}
@@ -10,7 +10,7 @@ unfolding chars
 some_bytes [] some = some
 some_bytes (c ∷ cs) some = omega arith
 
--- both parts of a text that is cut inside, by the bytes of its characters
+-- both sides of a text that is split inside, by the bytes of its characters
 pub record AreCut (bs fs gs cs : List ℕ) (at : ℕ) : Type 0 where
   pub front : chars fs ≡ take at cs
   pub back : chars gs ≡ drop at cs

@@ -1,4 +1,5 @@
--- The nodes that a part of a tree is made of: a row of children, and beside it a child united with a part of the next one.
+-- The nodes of a side of a split tree: a row of children, and a child united with a side of the
+-- next one.
 use Rattle.std.proofs.Common.{◌≡◌, ℕ, ◌+◌, ◌<◌, ◌≤◌, List, [], ◌∷◌, ◌++◌, length, refl, sym, subst, ◌∙◌, arith}
 use Rattle.std.proofs.lemmas.List.{append-nil, length-append}
 use Rattle.std.proofs.lemmas.List.Elements.{All-head}
@@ -18,7 +19,7 @@ use Rattle.rope_join.proofs.Unions.{left_parts, right_parts, end_each, end_count
 use Rattle.rope_join.proofs.Whole.{join_root, join_tree, root_siblings}
 use Rattle.rope_join.proofs.Cuts.{CutsAt, gathered_least, before_siblings, after_siblings, front_can_join, front_joined, back_can_join, back_joined}
 
--- what they are, gathered
+-- the properties of the nodes, gathered
 pub record AreJoined (a b : Tree) (h : ℕ) (row : List Tree) : Type 0 where
   pub gather : AreGatherable row
   pub tree : IsTree (gathered row)
@@ -48,7 +49,7 @@ several a b h row j s some few level u =
 over_leaves : (row : List Tree) → leaves_of (tree_over row ∷ []) ≡ leaves_of row
 over_leaves row = append-nil (leaves_of row)
 
--- behind a row
+-- after a row
 last_in : (ts : List Tree) (t : Tree) → 1 ≤ length ts → length ts ≤ 22 → AreLevel (ts ++ t ∷ []) → EndsIn (tree_over (ts ++ t ∷ [])) ts t
 last_in ts t some few s =
     let all = ts ++ t ∷ [] in
@@ -99,7 +100,8 @@ joined_before br h a b (y ∷ ys) p c low s j u few =
     several a g h row j t many most level
     (front_union a g b rest g.breaks b.height e.is e.children refl (sym e.above) j below (trees_in p) u (tree_over row ∷ []) (over_leaves row) (one_part _ _ row t many most (tree_over row) refl))
 
--- the front that they make, of a node whose children before the cut child are a row and the one that is united
+-- the front that they make of a node, if the children before the split child are a row and the
+-- child that is united
 pub front_made : (n : Tree) (xs : List Tree) (left t : Tree) (rest : List Tree) → CutsAt n (xs ++ left ∷ []) t rest → (at k : ℕ) → at ≡ length (joined (xs ++ left ∷ [])) + k → k ≤ length (text t) → (p : Nodes) → IsWithFront left k t (trees_in p)
     → ArePart n (xs ++ trees_in p) × IsFront at n (gathered (xs ++ trees_in p)) × (t.height ≤ (gathered (xs ++ trees_in p)).height)
 front_made n xs left t rest s at k e le p u =
@@ -115,7 +117,7 @@ front_made n xs left t rest s at k e le p u =
       omega (arith, j.join.least, gathered_least t.breaks t.height all g s.before many gi),
     )
 
--- and the back
+-- the back that they make of a node
 pub back_made : (n : Tree) (xs : List Tree) (t right : Tree) (ys : List Tree) → CutsAt n xs t (right ∷ ys) → (at k : ℕ) → at ≡ length (joined xs) + k → k ≤ length (text t) → (p : Nodes) → IsWithBack t k right (trees_in p)
     → ArePart n (trees_in p ++ ys) × IsBack at n (gathered (trees_in p ++ ys)) × (t.height ≤ (gathered (trees_in p ++ ys)).height)
 back_made n xs t right ys s at k e le p u =

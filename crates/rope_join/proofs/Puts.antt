@@ -1,4 +1,4 @@
--- A tree in the place of some of a node's children.
+-- A tree in place of some children of a node.
 use Rattle.std.proofs.Common.{◌≡◌, ℕ, ◌+◌, ◌-◌, ◌^◌, ◌<◌, ◌≤◌, List, [], ◌∷◌, ◌++◌, length, take, drop, get_or, sym, ap, subst, ◌∙◌, arith, inl, inr}
 use Rattle.std.proofs.lemmas.Bool.{cases_lt}
 use Rattle.std.specs.List.{concat, All}
@@ -44,7 +44,7 @@ module _ (ts : List Tree) (first past : ℕ) (part : Tree) (a : AreChildren (bre
   leaves_until : (k : ℕ) → AreLeaves (leaves_of (take k ts))
   leaves_until k = leaves_left (leaves_of (take k ts)) (leaves_of (drop k ts)) (subst AreLeaves (ap leaves_of (sym (take-append-drop k ts)) ∙ leaves_of-append (take k ts) (drop k ts)) a.leaves)
 
-  -- the nodes that are put side by side, and what becomes of them
+  -- the adjacent nodes, and the results of packing them
   module _ (all : List Tree) (each : All (IsChild (breaks_of ts) (height_of ts)) all) (many : 2 ≤ length all) (r : Recuts (leaves_before ts first) (leaves_behind ts past part) (leaves_of all)) where
     pub put_fits : byte_len (joined all) < 2 ^ 63
     put_fits = omega (arith, can.fits, ap byte_len (r.same_text ∙ concat-append (leaves_before ts first) (leaves_behind ts past part)), IsMeasure-byte_len.joined (concat (leaves_before ts first)) (concat (leaves_behind ts past part)))
@@ -79,7 +79,7 @@ module _ (ts : List Tree) (first past : ℕ) (part : Tree) (a : AreChildren (bre
             ];
           }
 
-  -- nodes of their height in the place of those that go
+  -- nodes of the children's height in place of the removed ones
   module _ (ks : List Tree) (is : part ≡ tree_over ks) (k : AreChildren (breaks_of ks) (height_of ks) ks) (high : height_of ts < part.height) where
     pub level_each : All (IsChild (breaks_of ts) (height_of ts)) (take first ts ++ (ks ++ drop past ts))
     level_each =
@@ -102,7 +102,7 @@ module _ (ts : List Tree) (first past : ℕ) (part : Tree) (a : AreChildren (bre
         length-append (take first ts) (ks ++ drop past ts) ∙ omega (arith, length-take-le first ts (omega (arith, can.ordered, can.some_behind)), length-append ks (drop past ts), length-drop past ts) in
         (omega (arith, sizes, k.at_least_two), omega (arith, sizes, k.at_most_24, a.at_most_24, can.ordered, can.some_behind))
 
-  -- the tree made one with the child before it
+  -- the tree united with the child before it
   module _ (left : Tree) (here : get_or ts (first - 1) left ≡ left) where
     before : ℕ
     before = first - 1

@@ -1,4 +1,4 @@
--- Where CR and LF meet.
+-- Seams, the boundaries between two texts, where CR and LF may meet.
 use Rattle.std.proofs.Common.{◌≡◌, ℕ, ◌+◌, ◌-◌, ◌^◌, ◌<◌, ◌≤◌, true, false, eqb, Some, slice_get, List, [], ◌∷◌, ◌++◌, length, take, drop, refl, sym, ap, ◌∙◌, arith, append_assoc}
 use Rattle.std.proofs.lemmas.Bool.{and_parts, and_right}
 use Rattle.std.proofs.lemmas.Option.{slice_get_within, get_or_from_slice_get}
@@ -82,7 +82,7 @@ meets t u i j le e =
       sizes = omega (arith, ap byte_len front, ap byte_len back, IsMeasure-byte_len.joined (take (i - 1) t) (13 ∷ []), IsMeasure-byte_len.joined (10 ∷ []) (drop (j + 1) u), byte_len-pair, IsMeasure-byte_len.joined (13 ∷ []) (10 ∷ []));
     }
 
--- what is left when a part is taken out is no longer
+-- a text does not grow by a removal
 pub left_le : (t : List ℕ) (i j : ℕ) → i ≤ j → byte_len (take i t) + byte_len (drop j t) ≤ byte_len t
 left_le t i j le =
     let whole = byte_len-parts j t in

@@ -1,4 +1,5 @@
--- Two trees by the sides on which they meet: a tree that is as high as the other goes down to its child there.
+-- Two trees by their adjacent sides: a tree at least as high as the other is replaced by its child
+-- there.
 use Rattle.std.proofs.Common.{◌≡◌, ◌+◌, ◌-◌, ◌<◌, ◌≤◌, max, List, [], ◌++◌, length, refl, sym, arith, inl, inr}
 use Rattle.std.proofs.lemmas.Bool.{cases_lt}
 use Rattle.std.proofs.lemmas.List.{append-nil}
@@ -7,7 +8,7 @@ use Rattle.rope_tree.specs.Siblings.{AreSiblings, AreParts}
 use Rattle.rope_join.specs.Join.{CanJoin, CanMerge, EndsIn, BeginsIn, IsNear, IsUnion}
 use Rattle.rope_join.proofs.Unions.{end_child, end_can_join, end_near, end_count, end_siblings, end_union, front_child, front_can_join, front_near, front_count, front_siblings, front_union, meeting_at, meet_some, meet_can_join, meet_count, meet_siblings, meet_union}
 
--- the parts of both on those sides, and what stands before and behind
+-- the two nodes on those sides, and the nodes before and after them
 pub record AreSides (a b last first : Tree) (before after : List Tree) : Type 0 where
   pub left_some : 1 ≤ length a.leaves
   pub right_some : 1 ≤ length b.leaves
@@ -45,7 +46,7 @@ module _ (a b last first : Tree) (before after : List Tree) (s : AreSides a b la
     ]
   ]
 
-  -- where both leaves at the seam stay, one of the two is higher
+  -- if both adjacent leaves are kept, one of the trees is higher
   module _ (far : CanMerge a b → ⊥) (n : IsNear a b) where
     uneven : a.height ≡ b.height → ⊥
     uneven level = far (record { level = level; near = λ high. n.near high (omega (arith, level, high)) })

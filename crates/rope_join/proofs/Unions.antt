@@ -21,7 +21,7 @@ use Rattle.rope_tree.proofs.SiblingLaws.{byte_len-append}
 use Rattle.rope_tree.proofs.InsertLeaves.{wide_leaf, text_of_leaf}
 use Rattle.rope_join.specs.Join.{CanJoin, EndsIn, BeginsIn, IsNear, IsUnion}
 
--- a union by its one case
+-- a union of two trees of equal height
 equal_union : (a b : Tree) (ts : List Tree) → Recuts a.leaves b.leaves (leaves_of ts) → a.height ≡ b.height → AreParts a.breaks (max a.width b.width) (a.width + b.width) a.height ts → IsUnion a b ts
 equal_union a b ts r e p = record { recuts = r; equal = λ _. p; higher = λ l. absurd (omega arith); lower = λ l. absurd (omega arith) }
 
@@ -64,7 +64,7 @@ merged_leaves br a b t l m new ea eb en et i some more =
       full = λ p _. absurd (omega arith);
     }))
 
--- both as they are
+-- both trees unchanged
 pub kept : (a b : Tree) → IsTree a → IsTree b → 1 ≤ length a.leaves → 1 ≤ length b.leaves → CanJoin a b → a.height ≡ b.height → (1 ≤ a.height → 12 ≤ a.width) → (1 ≤ a.height → 12 ≤ b.width) → (1 ≤ a.height → 24 < a.width + b.width)
     → IsDenseBehind (last_bytes 492 a.leaves) b.leaves → IsUnion a b (a ∷ b ∷ [])
 kept a b ta tb p q j e wa wb many near =
@@ -106,14 +106,14 @@ weaker_parts br v w m n h ts le lm p = record {
   full = λ a b. omega (arith, p.full a b);
 }
 
--- two leaves that stay, by their bytes
+-- two leaves that aren't merged, by their bytes
 pub leaves_near : (br : LineBreaks) (a b : Tree) (l m : List ℕ) → a ≡ leaf_tree br l → b ≡ leaf_tree br m → 1 ≤ length a.leaves → 1 ≤ length b.leaves → 492 ≤ byte_len l + byte_len m → IsDenseBehind (last_bytes 492 a.leaves) b.leaves
 leaves_near br a b l m ea eb some more near =
     let left : a.leaves ≡ l ∷ [] = ap (λ x. x.leaves) ea ∙ one_leaf_is l (some_leaf l (rw ea at some)) in
     let right : b.leaves ≡ m ∷ [] = ap (λ x. x.leaves) eb ∙ one_leaf_is m (some_leaf m (rw eb at more)) in
     rw (left, right) (near, tt)
 
--- the children of two nodes of one height, whose leaves next to each other stay
+-- the children of two nodes of one height, if their adjacent leaves aren't merged
 module _ (a b : Tree) (xs ys : List Tree) (ea : a ≡ tree_over xs) (eb : b ≡ tree_over ys) (ca : AreChildren (breaks_of xs) (height_of xs) xs) (cb : AreChildren (breaks_of ys) (height_of ys) ys) (j : CanJoin a b) (same : a.height ≡ b.height)
     (near : IsDenseBehind (last_bytes 492 a.leaves) b.leaves) where
   level : height_of ys ≡ height_of xs
@@ -140,7 +140,7 @@ module _ (a b : Tree) (xs ys : List Tree) (ea : a ≡ tree_over xs) (eb : b ≡ 
       let parts = weaker_parts (breaks_of xs) (max (length xs) (length ys)) (length xs + length ys) (length xs + length ys) (length xs + length ys) (height_of xs + 1) ts (omega arith) (omega arith) p' in
       rw (ea, eb) (equal_union (tree_over xs) (tree_over ys) ts r e parts)
 
--- the parts that a child and a tree that is not higher give
+-- the results of uniting a child and a tree that is not higher
 module _ (br : LineBreaks) (h : ℕ) (t u : Tree) (ts : List Tree) (c : IsChild br h t) where
   are_children : (n m : ℕ) → t.width ≤ n → AreParts br n m h ts → All (IsChild br h) ts × (1 ≤ length ts) × (length ts ≤ 2)
   are_children n m le p = (All-weaker (IsWide br (min 12 n) h) (IsChild br h) (λ x w. wide_more br (min 12 n) h x (λ q. omega (arith, c.wide q)) w) ts p.each, p.some, p.at_most_two)
@@ -159,7 +159,7 @@ module _ (br : LineBreaks) (h : ℕ) (t u : Tree) (ts : List Tree) (c : IsChild 
         are_children (max u.width t.width) (u.width + t.width) (omega arith) (rw (breaks, e, c.at_height) at (i.equal e))
   ]
 
--- a higher tree takes a lower one at its end
+-- a lower tree is united with the end of a higher one
 module _ (a b last : Tree) (init : List Tree) (br : LineBreaks) (h : ℕ) (ea : a ≡ tree_over (init ++ last ∷ [])) (ca : AreChildren br h (init ++ last ∷ [])) (breaks : a.breaks ≡ br) (above : a.height ≡ h + 1) (j : CanJoin a b) (below : b.height < a.height) where
   pub end_child : IsChild br h last
   end_child = All-head (IsChild br h) last [] (all_right (IsChild br h) init (last ∷ []) ca.each)
@@ -232,7 +232,7 @@ module _ (a b last : Tree) (init : List Tree) (br : LineBreaks) (h : ℕ) (ea : 
         let r : Recuts a.leaves b.leaves (leaves_of us) = rw (el, leaves_of-append) end_recuts in
         higher_union a b us r below (weaker_parts a.breaks a.width n n (a.width + 1) a.height us (omega (arith, end_count.2)) (omega (arith, end_count.3)) (rw (eh, es) at p))
 
--- a lower tree goes to the front of a higher one
+-- a lower tree is united with the front of a higher one
 module _ (a b first : Tree) (rest : List Tree) (br : LineBreaks) (h : ℕ) (eb : b ≡ tree_over (first ∷ rest)) (cb : AreChildren br h (first ∷ rest)) (breaks : b.breaks ≡ br) (above : b.height ≡ h + 1) (j : CanJoin a b) (below : a.height < b.height) where
   pub front_child : IsChild br h first
   front_child = All-head (IsChild br h) first rest cb.each
@@ -303,7 +303,7 @@ module _ (a b first : Tree) (rest : List Tree) (br : LineBreaks) (h : ℕ) (eb :
         let r : Recuts a.leaves b.leaves (leaves_of us) = rw (el, leaves_of-append) front_recuts in
         lower_union a b us r below (weaker_parts a.breaks b.width n n (b.width + 1) b.height us (omega (arith, front_count.2)) (omega (arith, front_count.3)) (rw (eh, es) at p))
 
--- the children of an inner node, apart from the last, with the last
+-- the children of an inner node as those before the last, and the last
 trees_last : (rcs : List Tree) (k : ℕ) (d : Tree) → length rcs ≡ k + 1 → rcs ≡ (take k rcs) ++ (get_or rcs k d) ∷ []
 trees_last rcs k d n =
     let e : take (k + 1) rcs ≡ rcs = take_all (k + 1) rcs (omega arith) in
@@ -342,7 +342,7 @@ begins_in b rcs d e c r =
     let ch' = subst (λ n. AreChildren br n row) (sym child.at_height) ch in
     record { is = e ∙ ap tree_over q; children = subst (λ b. AreChildren b d.height row) (sym (ap (λ t. t.breaks) e)) ch'; above = omega (arith, child.at_height, ap (λ t. t.height) e) }
 
--- two inner nodes of one height, by the children at which they meet
+-- two inner nodes of one height, by their adjacent children
 pub record AreMeeting (a b last first : Tree) (init rest : List Tree) (br : LineBreaks) (h : ℕ) : Type 0 where
   pub left_is : a ≡ tree_over (init ++ last ∷ [])
   pub right_is : b ≡ tree_over (first ∷ rest)
@@ -367,7 +367,7 @@ meeting_at a b last first init rest e f j same =
       join = j;
     }
 
--- whose leaves next to each other become others
+-- two inner nodes of one height whose adjacent leaves are replaced
 module _ (a b last first : Tree) (init rest : List Tree) (br : LineBreaks) (h : ℕ) (m : AreMeeting a b last first init rest br h) where
   meet_last : IsChild br h last
   meet_last = All-head (IsChild br h) last [] (all_right (IsChild br h) init (last ∷ []) m.left.each)

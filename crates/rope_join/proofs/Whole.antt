@@ -58,7 +58,7 @@ join_empty_left a b t i own empty j e =
       below_right = λ _ _. refl;
     })
 
--- which of the two is higher
+-- the higher of the two trees
 one_height : (br : LineBreaks) (least most h : ℕ) (t : Tree) → AreParts br least most h (t ∷ []) → (t.height ≡ h) × (t.breaks ≡ br)
 one_height br least most h t p = let w = All-head (IsWide br (min 12 least) h) t [] p.each in (w.at_height, w.same_breaks)
 
@@ -87,7 +87,7 @@ join_one a b t u =
       below_right = λ l _. omega arith;
     }
 
--- two parts are children at the greater height
+-- two results are children at the greater height
 two_children : (a b x y : Tree) → IsUnion a b (x ∷ y ∷ []) → All (IsChild a.breaks (max a.height b.height)) (x ∷ y ∷ [])
 two_children a b x y u = elim (cases_lt a.height b.height) [
   | inl l ↦ let e : max a.height b.height ≡ b.height = omega arith in rw e ((u.lower l).two refl)

@@ -1,4 +1,4 @@
--- What trees joined and gathered are.
+-- Results of joins.
 use Rattle.std.specs.Prelude.{◌≡◌, ◌+◌, ◌^◌, ◌≤◌, ◌<◌, max, List, [], ◌∷◌, ◌++◌}
 use Rattle.rope_text.specs.declared.TheConstants.{MAX_CHILDREN, MIN_TWO_LEAVES_BYTES}
 use Rattle.rope_text.specs.Text.{byte_len}
@@ -7,28 +7,31 @@ use Rattle.rope_tree.specs.Leaves.{IsSeam, Recuts}
 use Rattle.rope_tree.specs.Tree.{Tree, text, leaves_of, tree_over, AreChildren}
 use Rattle.rope_tree.specs.Siblings.{AreParts}
 
--- two trees that may stand side by side: of one set of line breaks, no CR at the end of the one before an LF of the other
+-- two trees that may be joined: they have one set of line breaks, and at the seam, the boundary
+-- between them, no CR meets an LF
 pub record CanJoin (left right : Tree) : Type 0 where
   pub same_breaks : right.breaks ≡ left.breaks
   pub seam : IsSeam (text left) (text right)
   pub fits : byte_len (text left) + byte_len (text right) < 2 ^ 63
 
--- where the two meet, one of them is a leaf, or the last leaf of the one and the first of the other have 492 bytes or more together
+-- one of the two trees is a leaf, or the last leaf of the first and the first leaf of the second
+-- have at least 492 bytes together
 pub record IsNear (left right : Tree) : Type 0 where
   pub near : 1 ≤ left.height → 1 ≤ right.height → IsDenseBehind (last_bytes MIN_TWO_LEAVES_BYTES left.leaves) right.leaves
 
--- two trees of one height, of which none goes further down: leaves, or trees whose last leaf and first leaf have 492 bytes or more together
+-- two trees of one height that are merged without a further descent: leaves, or trees whose
+-- adjacent leaves have at least 492 bytes together
 pub record CanMerge (left right : Tree) : Type 0 where
   pub level : left.height ≡ right.height
   pub near : 1 ≤ left.height → IsDenseBehind (last_bytes MIN_TWO_LEAVES_BYTES left.leaves) right.leaves
 
--- a tree by its last child and those before it
+-- a tree as its last child and those before it
 pub record EndsIn (t : Tree) (before : List Tree) (last : Tree) : Type 0 where
   pub is : t ≡ tree_over (before ++ last ∷ [])
   pub children : AreChildren t.breaks last.height (before ++ last ∷ [])
   pub above : last.height + 1 ≡ t.height
 
--- and by its first and those behind it
+-- a tree as its first child and those after it
 pub record BeginsIn (t first : Tree) (after : List Tree) : Type 0 where
   pub is : t ≡ tree_over (first ∷ after)
   pub children : AreChildren t.breaks first.height (first ∷ after)
@@ -41,7 +44,7 @@ pub record IsUnion (left right : Tree) (ts : List Tree) : Type 0 where
   pub higher : right.height < left.height → AreParts left.breaks left.width (left.width + 1) left.height ts
   pub lower : left.height < right.height → AreParts left.breaks right.width (right.width + 1) right.height ts
 
--- the two trees as one, which keeps the height of the higher where its root has room and the other is lower
+-- the two trees as one, of the height of the higher if its root has room and the other is lower
 pub record IsJoin (left right t : Tree) : Type 0 where
   pub same_breaks : t.breaks ≡ left.breaks
   pub recuts : Recuts left.leaves right.leaves t.leaves

@@ -1,4 +1,4 @@
--- A tree in the place of some of a node's children.
+-- A tree in place of some children of a node.
 use Rattle.std.specs.Prelude.{◌≡◌, ℕ, ◌+◌, ◌^◌, ◌≤◌, ◌<◌, List, ◌++◌, length, take, drop}
 use Rattle.std.specs.List.{concat}
 use Rattle.rope_text.specs.declared.TheConstants.{MIN_TWO_LEAVES_BYTES}
@@ -9,14 +9,15 @@ use Rattle.rope_tree.specs.Siblings.{gathered}
 use Rattle.rope_join.specs.Join.{IsJoin}
 use Rattle.rope_tree.specs.Tree.{Tree, text, joined, leaves_of, height_of, breaks_of, IsTree}
 
--- the leaves of the children before, and those of the tree and of the children behind
+-- the leaves of the children before, and those of the tree and of the children after it
 abbrev pub leaves_before : List Tree → ℕ → List (List ℕ)
 leaves_before ts first = leaves_of (take first ts)
 
 abbrev pub leaves_behind : List Tree → ℕ → Tree → List (List ℕ)
 leaves_behind ts past part = part.leaves ++ leaves_of (drop past ts)
 
--- a tree may stand in the place of the children from `first` up to `past`, which are neither the first nor the last
+-- a tree may replace the children from `first` up to `past`, which include neither the first nor
+-- the last
 pub record CanPut (ts : List Tree) (first past : ℕ) (part : Tree) : Type 0 where
   pub some_before : 1 ≤ first
   pub ordered : first < past
@@ -30,13 +31,13 @@ pub record CanPut (ts : List Tree) (first past : ℕ) (part : Tree) : Type 0 whe
   pub near : IsDenseBehind (last_bytes MIN_TWO_LEAVES_BYTES (leaves_before ts first)) part.leaves
   pub fits : byte_len (concat (leaves_before ts first)) + byte_len (concat (leaves_behind ts past part)) < 2 ^ 63
 
--- the children before, the tree and those behind as one tree
+-- the children before, the tree and the children after it as one tree
 pub record IsPut (ts : List Tree) (first past : ℕ) (part t : Tree) : Type 0 where
   pub same_breaks : t.breaks ≡ breaks_of ts
   pub recuts : Recuts (leaves_before ts first) (leaves_behind ts past part) t.leaves
   pub not_higher : t.height ≤ height_of ts + 2
 
--- a tree may stand in the place of the first children, up to `past`, or of the last, from `first` on
+-- a tree may replace the first children, up to `past`, or the last, from `first` on
 pub record CanPutAtEnd (ts : List Tree) (first past : ℕ) (part : Tree) : Type 0 where
   pub ordered : first < past
   pub within : past ≤ length ts
@@ -49,7 +50,7 @@ pub record CanPutAtEnd (ts : List Tree) (first past : ℕ) (part : Tree) : Type 
   pub seam_behind : IsSeam (text part) (joined (drop past ts))
   pub fits : byte_len (joined (take first ts)) + (byte_len (text part) + byte_len (joined (drop past ts))) < 2 ^ 63
 
--- the tree joined with the children that stay
+-- the tree joined with the other children
 pub record IsPutAtEnd (ts : List Tree) (first past : ℕ) (part t : Tree) : Type 0 where
   pub before : past < length ts → IsJoin part (gathered (drop past ts)) t
   pub behind : past ≡ length ts → IsJoin (gathered (take first ts)) part t

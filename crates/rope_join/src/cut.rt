@@ -1,4 +1,5 @@
-//! The front and the back of a tree, as trees no higher than it, and the part between two places.
+//! Splits of a tree: its front, its back, and a range, as trees no higher than it. Nodes that are
+//! wholly inside the result are shared.
 ghost use Rattle.std.specs.Prelude.{◌≡◌, ◌+◌, ◌-◌, ◌*◌, ◌<◌, ◌≤◌, ◌++◌, length, IfOk};
 ghost use Rattle.std.specs.List.{slice_range};
 ghost use Rattle.rope_tree.specs.Tree.{text, leaf_tree, IsTree};
@@ -15,16 +16,16 @@ use rope_tree::{
     shared_breaks, total_before,
 };
 
-/// The two sides of a place at which a text is cut.
+/// The two sides of a split.
 #[derive(Clone, Copy)]
 enum Side {
     Front,
     Back,
 }
 
-/// A leaf of the first `at` characters of a leaf, or of what follows them. Never inlined, since
-/// each level of a descent would clear stack for its text. Only the shorter part is counted: the
-/// counts of the longer one are the difference.
+/// Makes a leaf of the first `at` characters of a leaf, or of the rest. Never inlined, since each
+/// level of a descent would clear stack for its text. Counts only the shorter side: the counts of
+/// the longer one are the difference.
 #[inline(never)]
 fn leaf_part(
     maker: &mut Maker,
@@ -61,16 +62,16 @@ fn leaf_part(
     make_leaf(maker, breaks, part, info)
 }
 
-/// A part of a tree as nodes side by side, not yet under a node: some that the tree has too, and
-/// one or two that were made. One level up, most come under nodes with the children of the sibling
-/// that they meet; a list over them alone would be given up there at once.
+/// A side of a split inner node, not yet under a node of its own: a row of its children, and one or
+/// two new nodes. One level up, most sides go under one or two nodes together with the children of
+/// a neighbour; a node over them alone would be discarded there at once.
 #[derive(Drop)]
 struct Part<'a> {
     row: Row<'a>,
     nodes: Nodes,
 }
 
-/// The first `at` characters of an inner node, at least one.
+/// Returns the first `at` characters of an inner node, at least one.
 #[cycle(front)]
 fn front_part<'a>(editor: &mut Editor, node: &'a Node, at: usize) -> Made<Part<'a>>
     requires inner { 1 ≤ node.now.height }
@@ -106,7 +107,7 @@ fn front_part<'a>(editor: &mut Editor, node: &'a Node, at: usize) -> Made<Part<'
     Ok(Part { row, nodes })
 }
 
-/// A tree, and behind it the first `at` characters of its next sibling, at least one.
+/// Joins a tree and the first `at` characters of its next sibling, at least one.
 #[cycle(front)]
 fn with_front(editor: &mut Editor, left: &Node, right: &Node, at: usize) -> Made<Nodes>
     requires beside { AreBeside left.now right.now }
@@ -124,7 +125,7 @@ fn with_front(editor: &mut Editor, left: &Node, right: &Node, at: usize) -> Made
     unite_behind(&mut editor.maker, left, row, nodes)
 }
 
-/// The first `at` characters, perhaps none. Nodes that lie wholly before the cut are shared.
+/// Returns the first `at` characters, possibly none.
 #[cycle(front)]
 pub fn front(editor: &mut Editor, node: &Node, at: usize) -> Made<Node>
     requires { at ≤ length (text node.now) }
@@ -148,7 +149,7 @@ pub fn front(editor: &mut Editor, node: &Node, at: usize) -> Made<Node>
     gather_rows(&mut editor.maker, row, nodes, Row::none())
 }
 
-/// What follows the first `at` characters of an inner node, at least one character.
+/// Returns the characters of an inner node from `at` on, at least one.
 #[cycle(back)]
 fn back_part<'a>(editor: &mut Editor, node: &'a Node, at: usize) -> Made<Part<'a>>
     requires inner { 1 ≤ node.now.height }
@@ -183,8 +184,7 @@ fn back_part<'a>(editor: &mut Editor, node: &'a Node, at: usize) -> Made<Part<'a
     Ok(Part { row, nodes })
 }
 
-/// A tree, and before it what follows the first `at` characters of the sibling before it, at least
-/// one.
+/// Joins the characters of a tree from `at` on, at least one, and its next sibling.
 #[cycle(back)]
 fn with_back(editor: &mut Editor, left: &Node, at: usize, right: &Node) -> Made<Nodes>
     requires beside { AreBeside left.now right.now }
@@ -201,8 +201,7 @@ fn with_back(editor: &mut Editor, left: &Node, at: usize, right: &Node) -> Made<
     unite_before(&mut editor.maker, nodes, row, right)
 }
 
-/// What follows the first `at` characters, perhaps nothing. Nodes that lie wholly behind the cut
-/// are shared.
+/// Returns the characters from `at` on, possibly none.
 #[cycle(back)]
 pub fn back(editor: &mut Editor, node: &Node, at: usize) -> Made<Node>
     requires { at ≤ length (text node.now) }
@@ -226,7 +225,7 @@ pub fn back(editor: &mut Editor, node: &Node, at: usize) -> Made<Node>
     gather_rows(&mut editor.maker, Row::none(), nodes, row)
 }
 
-/// The characters from `start` up to `end`, at least one. Nodes that lie wholly between are shared.
+/// Returns the characters from `start` up to `end`, at least one.
 pub fn between(editor: &mut Editor, node: &Node, start: usize, end: usize) -> Made<Node>
     requires ordered { start < end }
     requires within { end ≤ length (text node.now) }

@@ -1,6 +1,8 @@
-//! Removals over several leaves, in one descent to the node where the two ends of what goes lie in
-//! different children. There both ends are cut, and on the way back each list is made once, with
-//! what is left of the children that were cut.
+//! Removals over several leaves.
+//!
+//! A removal descends to the node at which the two ends of the range are in different children.
+//! There it joins the front of the first child and the back of the second. On the ascent each list
+//! is made once, with the result in place of the children that were split.
 ghost use Rattle.std.specs.Prelude.{◌≡◌, ◌+◌, ◌*◌, ◌<◌, ◌≤◌, ◌^◌, true, false, length, take, drop, max, IfOk};
 ghost use Rattle.rope_text.specs.declared.TheConstants.{MIN_TWO_LEAVES_BYTES};
 ghost use Rattle.rope_text.specs.Dense.{IsDenseBehind, last_bytes};
@@ -20,11 +22,12 @@ use rope_tree::{
     Editor, Made, Maker, Node, Row, Totals, View, node_over, pack, pack_over, root_of, total_before,
 };
 
-/// A higher tree is cut into a front and a back instead, so that the nodes made are bounded by a
-/// multiple of the height. It has at least half a gigabyte.
+/// The maximum height of a tree for a removal in one descent. A higher tree, of at least half a
+/// gigabyte, is split into a front and a back, so that the nodes made are bounded by a multiple of
+/// the height.
 const MAX_ONE_WAY: usize = 6;
 
-/// Whether a cut before a character leaves the first leaf whole, and the tree has others.
+/// Returns whether a split before a character leaves the first leaf whole, and the tree has others.
 fn spares_first(node: &Node, at: usize) -> bool
     ensures spares { result ≡ true → SparesFirst at node.now }
     ensures cuts { result ≡ false → 1 ≤ node.now.height → at < first_chars node.now.leaves }
@@ -37,7 +40,7 @@ fn spares_first(node: &Node, at: usize) -> bool
     }
 }
 
-/// Whether a cut before a character leaves the last leaf whole, and the tree has others.
+/// Returns whether a split before a character leaves the last leaf whole, and the tree has others.
 fn spares_last(node: &Node, at: usize) -> bool
     ensures spares { result ≡ true → SparesLast at node.now }
     ensures cuts { result ≡ false → 1 ≤ node.now.height
@@ -53,8 +56,8 @@ fn spares_last(node: &Node, at: usize) -> bool
     }
 }
 
-/// Whether a tree's first and last leaf have enough bytes to stand in the place of the children
-/// from `first` up to `past`.
+/// Returns whether the first and the last leaf of a tree are long enough for it to replace the
+/// children from `first` up to `past`.
 pub(crate) fn stands(children: &[Node], first: usize, past: usize, part: &Node) -> bool
     requires children { AreFamily children.now }
     requires some_before { 1 ≤ first }
@@ -72,8 +75,8 @@ pub(crate) fn stands(children: &[Node], first: usize, past: usize, part: &Node) 
         && end_leaf_len(part, true) + behind >= MIN_TWO_LEAVES_BYTES
 }
 
-/// The first `end` characters of one tree, and behind them what follows the first `start` of
-/// another, where no CR meets an LF.
+/// Joins the first `end` characters of one tree and the characters of another from `start` on, if
+/// no CR meets an LF there.
 pub(crate) fn join_sides(
     editor: &mut Editor,
     left: &Node,
@@ -99,9 +102,9 @@ pub(crate) fn join_sides(
     join(&mut editor.maker, &first, &second)
 }
 
-/// A node's children with a tree in the place of those from `first` up to `past`. If the tree is
-/// higher than they are, it is a node over such children, which are listed with them; any other is
-/// united with the child before it, so that it gets children enough.
+/// Replaces the children of a node from `first` up to `past` by a tree. If the tree is higher than
+/// they are, its children replace them. Any other tree is united with the child before it, so that
+/// it has enough children.
 pub(crate) fn put(
     maker: &mut Maker,
     children: &[Node],
@@ -131,7 +134,7 @@ pub(crate) fn put(
     root_of(maker, packed)
 }
 
-/// Nodes side by side as one tree: the only one, or a node over them.
+/// Returns the only one of some adjacent nodes, or a node over them.
 fn gather(maker: &mut Maker, nodes: &[Node]) -> Made<Node>
     requires some { 1 ≤ length nodes.now }
     requires family { 2 ≤ length nodes.now → AreFamily nodes.now }
@@ -144,8 +147,7 @@ fn gather(maker: &mut Maker, nodes: &[Node]) -> Made<Node>
     node_over(maker, nodes)
 }
 
-/// A node's children with a tree in the place of the first ones, up to `past`, or of the last, from
-/// `first` on.
+/// Replaces the first children of a node, up to `past`, or the last, from `first` on, by a tree.
 fn put_at_end(
     maker: &mut Maker,
     children: &[Node],
@@ -167,7 +169,8 @@ fn put_at_end(
     join(maker, &before, part)
 }
 
-/// The tree without the characters from `start` up to `end`, at least one, where no CR meets an LF.
+/// Returns the tree without the characters from `start` up to `end`, at least one, if no CR meets
+/// an LF there.
 pub(crate) fn without(editor: &mut Editor, node: &Node, start: usize, end: usize) -> Made<Node>
     requires ordered { start < end }
     requires within { end ≤ length (text node.now) }
@@ -189,8 +192,7 @@ pub(crate) fn without(editor: &mut Editor, node: &Node, start: usize, end: usize
         let to = end - total_before(totals, last).chars;
         if first > 0 && last + 1 < children.len() {
             if height == 1 {
-                // At most three leaves are made in vain, if they turn out too short for their
-                // neighbours.
+                // At most three leaves are wasted, if they turn out too short for their neighbours.
                 let part = join_sides(editor, left, from, right, to)?;
                 if part.info().bytes > 0 && stands(children, first, last + 1, &part) {
                     return put(&mut editor.maker, children, totals, first, last + 1, &part);

@@ -1,4 +1,5 @@
-//! Two trees as one, joined where they meet by nodes of one height.
+//! Two trees as one. A join descends along the adjacent sides of the two trees to nodes of one
+//! height, and merges these. On the ascent, the one or two results replace the child of each level.
 ghost use Rattle.std.specs.Prelude.{◌≡◌, ℕ, ◌+◌, ◌-◌, ◌*◌, ◌<◌, ◌≤◌, ◌↔◌, [], ◌∷◌, ◌++◌, true, false, length, max, IsTrue, IfOk};
 ghost use Rattle.rope_text.specs.declared.TheConstants.{MAX_BYTES, MAX_CHILDREN, MIN_TWO_LEAVES_BYTES};
 ghost use Rattle.rope_text.specs.Cuts.{distance};
@@ -20,8 +21,8 @@ use rope_tree::{
     pack_first, pack_last, pack_over, root_of,
 };
 
-/// How many bytes a tree's last leaf has, or its first. Where two trees meet, the two leaves have
-/// to have enough together.
+/// Returns the number of bytes of the last leaf of a tree, or of the first. Where two trees are
+/// joined, these leaves need `MIN_TWO_LEAVES_BYTES` bytes together.
 pub(crate) fn end_leaf_len(node: &Node, is_last: bool) -> usize
     requires { 1 ≤ length node.now.leaves }
     ensures last { IsTrue is_last → (n : ℕ) → result ≡ last_bytes n node.now.leaves }
@@ -36,8 +37,8 @@ pub(crate) fn end_leaf_len(node: &Node, is_last: bool) -> usize
     }
 }
 
-/// A leaf of two texts, one behind the other. Never inlined, since its caller would clear stack for
-/// the text at each call.
+/// Makes a leaf of two texts, one after the other. Never inlined, since its caller would clear
+/// stack for the text at each call.
 #[inline(never)]
 fn leaf_of_both(
     maker: &mut Maker,
@@ -57,9 +58,9 @@ fn leaf_of_both(
     make_leaf(maker, breaks, text.as_str(), info)
 }
 
-/// Two trees of one height as one tree or two of that height. Two leaves become one, if they fit
-/// and one of them is short; other nodes do, if one can hold all children. If one of two has too
-/// few children, they share them evenly.
+/// Merges two trees of one height into one or two of that height. Two leaves are merged if they fit
+/// in one and either is short. Two inner nodes are merged if one can hold all children; if either
+/// has too few, they share the children evenly.
 fn merge(maker: &mut Maker, left: &Node, right: &Node) -> Made<Nodes>
     requires left_some { 1 ≤ length left.now.leaves }
     requires right_some { 1 ≤ length right.now.leaves }
@@ -98,7 +99,7 @@ fn merge(maker: &mut Maker, left: &Node, right: &Node) -> Made<Nodes>
     }
 }
 
-/// A tree's last child or its first, between its siblings before and behind it.
+/// The last child of a tree or the first, between its siblings before and after it.
 #[derive(Clone, Copy)]
 struct End<'a> {
     before: Row<'a>,
@@ -106,8 +107,8 @@ struct End<'a> {
     after: Row<'a>,
 }
 
-/// A tree's last child or its first, if the tree is at least so high; else the tree itself, and no
-/// siblings.
+/// Returns the last child of a tree or the first, if the height of the tree is at least `least`;
+/// else the tree itself, without siblings.
 fn end_of(node: &Node, least: usize, is_last: bool) -> End<'_>
     requires { least ≤ node.now.height → 1 ≤ node.now.height }
     ensures before { IsRow result.before }
@@ -146,9 +147,9 @@ fn end_of(node: &Node, least: usize, is_last: bool) -> End<'_>
     }
 }
 
-/// Two trees that aren't empty, as one tree or two of the greater height. It goes down the sides on
-/// which they meet to nodes of one height; and further, to the two leaves there, if those have too
-/// few bytes together and so have to become one.
+/// Joins two nonempty trees into one or two of the greater height. Descends along their adjacent
+/// sides to nodes of one height, or further, to the two adjacent leaves, if these have too few
+/// bytes together and have to be merged.
 pub(crate) fn unite(maker: &mut Maker, left: &Node, right: &Node) -> Made<Nodes>
     requires left_some { 1 ≤ length left.now.leaves }
     requires right_some { 1 ≤ length right.now.leaves }
@@ -171,8 +172,8 @@ pub(crate) fn unite(maker: &mut Maker, left: &Node, right: &Node) -> Made<Nodes>
     pack(maker, last.before, middle, first.after)
 }
 
-/// Two trees as one, at most one level higher than the higher of them. No CR at the end of the
-/// first may stand before an LF of the second.
+/// Joins two trees into one, at most one level higher than the higher one. No CR at the end of the
+/// first may meet an LF at the start of the second.
 pub fn join(maker: &mut Maker, left: &Node, right: &Node) -> Made<Node>
     requires { CanJoin left.now right.now }
     ensures join { IfOk result (λ node. IsJoin left.now right.now node) }
@@ -191,8 +192,8 @@ pub fn join(maker: &mut Maker, left: &Node, right: &Node) -> Made<Node>
     root_of(maker, nodes)
 }
 
-/// Whether so many nodes come under nodes with the children of their neighbour, which has so many.
-/// Else they keep a node of their own, as in `merge`.
+/// Returns whether `count` nodes should be merged into a neighbour with `children` children.
+/// Otherwise they keep a node of their own, as in `merge`.
 fn shares_children(children: usize, count: usize) -> bool
     requires children { children ≤ MAX_CHILDREN }
     requires count { count ≤ MAX_CHILDREN }
@@ -202,8 +203,8 @@ fn shares_children(children: usize, count: usize) -> bool
     count > 1 && (is_few || children + count <= MAX_CHILDREN)
 }
 
-/// A tree, and behind it the tree that nodes side by side make, as one tree or two of the greater
-/// height. A list over the nodes alone is made only if it stays.
+/// Joins a tree and the nodes after it into one or two trees of the greater height. Makes a node
+/// over the nodes alone only if it is in the result.
 pub(crate) fn unite_behind(
     maker: &mut Maker,
     left: &Node,
@@ -232,7 +233,8 @@ pub(crate) fn unite_behind(
     unite(maker, left, &part)
 }
 
-/// The same with the nodes before the tree.
+/// Joins some nodes and the tree after them into one or two trees of the greater height. Makes a
+/// node over the nodes alone only if it is in the result.
 pub(crate) fn unite_before(
     maker: &mut Maker,
     nodes: Nodes,

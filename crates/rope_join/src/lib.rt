@@ -1,10 +1,9 @@
-//! Trees cut in two, and two trees made one. What is passed in stays as it was; the results share
-//! its nodes.
+//! Splits and joins of trees. The arguments stay unchanged, and the results share their nodes.
 //!
 //! Modules, lowest first:
-//! - `cut`: the front and the back of a tree, and what lies between two places
+//! - `cut`: the front and the back of a split tree, and the range between two indices
 //! - `join`: two trees as one
-//! - `gap`: a tree without some of its characters
+//! - `gap`: a tree without a range of its characters
 //! - `long_edits`: inserts, removals and appends that change more than one leaf
 #![tactic(auto)]
 

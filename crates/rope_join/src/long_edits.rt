@@ -1,6 +1,8 @@
-//! Edits that change more than one leaf: trees with a part removed or put in, and trees joined.
-//! Where a CR and an LF would meet at a seam, the two become a leaf of their own between what
-//! stands before and what follows, so that no CR LF lies in two leaves.
+//! Edits that change more than one leaf: inserts, removals and appends, by splits and joins.
+//!
+//! Where a removal or an append makes a CR meet an LF, the two become a leaf of their own between
+//! the two trees, so that no CR LF is split between two leaves. If an allocation fails, the tree is
+//! unchanged.
 ghost use Rattle.std.specs.Prelude.{◌≡◌, ◌+◌, ◌*◌, ◌/◌, ◌<◌, ◌≤◌, ◌^◌, ◌++◌, true, length, take, drop, max, IfOk, OnOk, OnErr};
 ghost use Rattle.std.specs.Str.{chars};
 ghost use Rattle.rope_text.specs.declared.TheConstants.{MAX_SHORT_BYTES, MIN_CUT_BYTES};
@@ -21,8 +23,8 @@ use rope_tree::{
     insert_medium_at, is_lf, leaf_of, remove_at, total_before,
 };
 
-/// Whether a CR at the end of the first `end` characters of one tree meets an LF behind the first
-/// `start` of another.
+/// Returns whether a CR at the end of the first `end` characters of one tree meets an LF at the
+/// character `start` of another.
 fn meets(editor: &mut Editor, left: &Node, end: usize, right: &Node, start: usize) -> bool
     requires tree { IsTree left.now }
     requires end { end ≤ length (text left.now) }
@@ -36,8 +38,7 @@ fn meets(editor: &mut Editor, left: &Node, end: usize, right: &Node, start: usiz
     end > 0 && editor.char_at(left, end - 1) == '\r' && is_lf(editor, right, start)
 }
 
-/// The first `end` characters of one tree, and behind them what follows the first `start` of
-/// another.
+/// Joins the first `end` characters of one tree and the characters of another from `start` on.
 fn join_parts(
     editor: &mut Editor,
     left: &Node,
@@ -70,7 +71,7 @@ fn join_parts(
     join(&mut editor.maker, &ended, &second)
 }
 
-/// The text of one tree and then that of another.
+/// Joins the texts of two trees.
 fn append(editor: &mut Editor, left: &Node, right: &Node) -> Made<Node>
     requires same_breaks { right.now.breaks ≡ left.now.breaks }
     requires fits { byte_len (text left.now) + byte_len (text right.now) < 2 ^ 63 }
@@ -85,8 +86,8 @@ fn append(editor: &mut Editor, left: &Node, right: &Node) -> Made<Node>
     join_parts(editor, left, left.info().chars, right, 0)
 }
 
-/// Appends the text of another tree. If that is a leaf, and short, its text is inserted into the
-/// last leaf, where that stands; else a tree of both takes the old one's place last of all.
+/// Appends the text of another tree. If that is a short leaf, its text is inserted into the last
+/// leaf in place; else a tree of both replaces the old one as the last step.
 pub fn append_to(editor: &mut Editor, root: &mut Node, other: &Node) -> Made<()>
     requires same_breaks { other.now.breaks ≡ root.old.breaks }
     requires fits { byte_len (text root.old) + byte_len (text other.now) < 2 ^ 63 }
@@ -110,7 +111,7 @@ pub fn append_to(editor: &mut Editor, root: &mut Node, other: &Node) -> Made<()>
     Ok(())
 }
 
-/// A tree without the characters from `start` up to `end`, at least one.
+/// Returns a tree without the characters from `start` up to `end`, at least one.
 fn removed_from(editor: &mut Editor, root: &Node, start: usize, end: usize) -> Made<Node>
     requires ordered { start < end }
     requires within { end ≤ length (text root.now) }
@@ -128,9 +129,9 @@ fn removed_from(editor: &mut Editor, root: &Node, start: usize, end: usize) -> M
     without(editor, root, start, end)
 }
 
-/// Removes the characters from `start` up to `end`, at least one: from one leaf or two side by
-/// side, if those may do without them; else by a tree without them, which takes the old one's place
-/// last of all. No leaves are tried with as many characters as two may have bytes.
+/// Removes the characters from `start` up to `end`, at least one: in place, if they are in one leaf
+/// or in two adjacent ones that stay long enough; else by a tree without them, which replaces the
+/// old one as the last step. A removal of `2 * MAX_BYTES` characters or more isn't tried in place.
 pub fn remove(editor: &mut Editor, root: &mut Node, start: usize, end: usize) -> Made<()>
     requires ordered { start < end }
     requires within { end ≤ length (text root.old) }
@@ -149,9 +150,9 @@ pub fn remove(editor: &mut Editor, root: &mut Node, start: usize, end: usize) ->
     Ok(())
 }
 
-/// The tree with a text of any length before its character `at`: it is split, and the text goes
-/// between as a tree of its own. It makes nodes for the new text, and for each level of the old
-/// tree.
+/// Returns the tree with a text of any length inserted before its character `at`: splits the tree,
+/// and joins the two sides with a tree of the text between them. Makes nodes for the new text, and
+/// for each level of the old tree.
 fn insert_apart(editor: &mut Editor, node: &Node, at: usize, added: &str) -> Made<Node>
     requires within { at ≤ length (text node.now) }
     requires fits { byte_len (text node.now) + length added.now < 2 ^ 63 }
@@ -171,8 +172,8 @@ fn insert_apart(editor: &mut Editor, node: &Node, at: usize, added: &str) -> Mad
     append(editor, &first, &back)
 }
 
-/// A leaf with a text of any length before its character `at`, as a tree that is built from the
-/// three parts.
+/// Returns a leaf with a text of any length inserted before its character `at`, as a tree built
+/// from the three texts.
 fn insert_into_leaf(
     maker: &mut Maker,
     node: &Node,
@@ -197,8 +198,8 @@ fn insert_into_leaf(
     builder.finish(maker)
 }
 
-/// What stands before the character `start` of a tree, then another tree, and then what follows
-/// from the character `end` on.
+/// Joins the characters of a tree before `start`, another tree, and the characters of the first one
+/// from `end` on.
 fn join_around(
     editor: &mut Editor,
     node: &Node,
@@ -229,14 +230,16 @@ fn join_around(
     join(&mut editor.maker, &first, &back)
 }
 
-/// A longer text goes between two parts of the tree. Up to this length it fills, with the leaf that
-/// it goes into, at most one list of leaves.
+/// The maximum number of bytes of a text that is built into a leaf: with that leaf it fills at most
+/// one list of leaves. A longer text is joined between the two sides of a split tree.
 const MAX_AMONG_BYTES: usize = 20 * MAX_BYTES;
 
-/// Returns the tree with a text of any length before its character `at`. A text of some leaves is
-/// built into the leaf that holds the character, and the leaves that this gives replace it, in one
-/// descent. A longer text, or one at the end of a node, is put between two parts of the split tree.
-/// It makes at most two nodes for each 981 bytes of the text, 298 for each level and 603 more.
+/// Returns the tree with a text of any length inserted before its character `at`.
+///
+/// A text of at most `MAX_AMONG_BYTES` bytes is built into the leaf that contains the character,
+/// and the leaves that this gives replace it, in one descent. A longer text, or one at the start of
+/// a child or at the end of the tree, is joined between the two sides of the split tree. Makes at
+/// most two nodes for each 981 bytes of the text, 298 for each level and 603 more.
 fn insert(editor: &mut Editor, node: &Node, at: usize, added: &str) -> Made<Node>
     requires within { at ≤ length (text node.now) }
     requires fits { byte_len (text node.now) + length added.now < 2 ^ 63 }
@@ -276,8 +279,8 @@ fn insert(editor: &mut Editor, node: &Node, at: usize, added: &str) -> Made<Node
 }
 
 /// Inserts a text of at least one byte before the character `at`. A short text goes into the leaf
-/// at its index. A medium one and that leaf become some leaves, if the tree has more than one. Any
-/// other text makes a new tree, which replaces the old one last.
+/// at the index. A medium text, in a tree of more than one leaf, goes into leaves that replace that
+/// one. Any other text makes a new tree, which replaces the old one as the last step.
 #[inline(always)]
 pub fn insert_into(editor: &mut Editor, root: &mut Node, at: usize, added: &str) -> Made<()>
     requires within { at ≤ length (text root.old) }

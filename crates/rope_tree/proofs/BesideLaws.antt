@@ -1,4 +1,4 @@
--- How many bytes are enough for a leaf between its neighbours.
+-- The bytes that a leaf needs between its neighbours.
 use Rattle.std.proofs.Common.{◌≡◌, ℕ, ◌+◌, ◌-◌, ◌<◌, ◌≤◌, min, List, [], ◌∷◌, ◌++◌, length, get_or, take, drop, sym, ap, subst, ◌∙◌, arith}
 use Rattle.std.specs.List.{concat, All}
 use Rattle.std.proofs.lemmas.List.{append-nil, length-append, take_more, drop_more, take-append-drop}
@@ -18,7 +18,7 @@ lone_is [] one = absurd (omega arith)
 lone_is (x ∷ []) one = ap (λ y. y ∷ []) (sym (append-nil x))
 lone_is (x ∷ y ∷ xs) one = absurd (omega arith)
 
--- a child that is a leaf has one
+-- a child that is a leaf has one leaf
 leaf_child : (br : LineBreaks) (t : Tree) → IsChild br 0 t → t.leaves ≡ text t ∷ []
 leaf_child br t c = lone_is t.leaves (omega (arith, c.some, c.tree.lone c.at_height))
 
@@ -56,7 +56,7 @@ module _ (br : LineBreaks) (h : ℕ) (ts : List Tree) (j : ℕ) (a : AreChildren
   pub some_next : 1 ≤ length (leaves_of (drop j ts))
   some_next = omega (arith, ap length from_is, length-append own.leaves (leaves_of (drop (j + 1) ts)), own_child.some)
 
-  -- half a leaf is enough beside any
+  -- half a leaf is enough beside any leaf
   pub half_next_behind : (n : ℕ) → 492 ≤ last_bytes n (leaves_of (take (j + 1) ts)) + 491
   half_next_behind n =
       let some : 1 ≤ length (leaves_of (take (j + 1) ts)) = omega (arith, ap length upto_is, length-append (leaves_of (take j ts)) own.leaves, own_child.some) in
@@ -66,7 +66,7 @@ module _ (br : LineBreaks) (h : ℕ) (ts : List Tree) (j : ℕ) (a : AreChildren
   pub half_next_ahead : IsDenseBehind 491 (leaves_of (drop j ts))
   half_next_ahead = dense_behind_half 491 (leaves_of (drop j ts)) (omega arith) (leaf_sizes (leaves_of (drop j ts)) from.each) from.dense
 
-  -- and beside a leaf what its bytes leave to be wanted
+  -- beside a leaf, the bytes that it lacks of the minimum for two are enough
   module _ (leaf : h ≡ 0) (before total least : ℕ) (before_is : before ≡ byte_len (joined (take j ts))) (total_is : total ≡ byte_len (joined (take (j + 1) ts))) (least_is : least ≡ min (492 - (total - before)) 491) where
     own_leaf : IsChild br 0 own
     own_leaf = subst (λ n. IsChild br n own) leaf own_child

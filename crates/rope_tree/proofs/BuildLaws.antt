@@ -1,4 +1,5 @@
--- Trees built from the bottom up: leaves cut off the front of a text, and nodes over groups of nodes.
+-- Trees built from the bottom up: leaves split off the front of a text, and nodes over groups of
+-- nodes.
 use Rattle.std.proofs.Common.{◌≡◌, ℕ, zero, suc, ◌+◌, ◌-◌, ◌*◌, ◌/◌, ◌%◌, ◌^◌, ◌<◌, ◌≤◌, true, List, [], ◌∷◌, ◌++◌, length, take, drop, ap, ap₂, sym, subst, ◌∙◌, get_or, arith, append_assoc, take-append-drop, inl, inr}
 use Rattle.std.specs.List.{All, concat}
 use Rattle.std.specs.Str.{chars, IsUtf8}
@@ -27,7 +28,7 @@ use Rattle.rope_tree.proofs.SiblingLaws.{siblings_left, siblings_right, children
 use Rattle.rope_tree.proofs.StandLaws.{one_leaf_is}
 use Rattle.rope_tree.proofs.InsertLeaves.{wide_leaf}
 
--- one leaf more, from the front of the rest
+-- one more leaf, from the front of the rest
 fronts_more : (text : List ℕ) (leaves : List (List ℕ)) (rest x y : List ℕ) → AreFronts text leaves rest → x ++ y ≡ rest → IsLeafText x → IsSeam x y → (1 ≤ length y → 492 ≤ byte_len x)
     → AreFronts text (leaves ++ x ∷ []) y
 fronts_more text leaves rest x y fronts parts leaf seam long =
@@ -42,7 +43,7 @@ fronts_more text leaves rest x y fronts parts leaf seam long =
       apart = subst (λ t. IsSeam t y) (sym all) (seam_left_longer (concat leaves) x y before seam);
     }
 
--- the leaves below one node more
+-- the leaves below one more node
 pub leaves_more : (breaks : LineBreaks) (ts : List Tree) (t : Tree) (x : List ℕ) → 1 ≤ length x → t ≡ leaf_tree breaks x → leaves_of (ts ++ t ∷ []) ≡ leaves_of ts ++ x ∷ []
 leaves_more breaks ts t x some is =
     leaves_of-append ts (t ∷ []) ∙ ap (λ ls. leaves_of ts ++ ls) (append-nil t.leaves ∙ ap (λ u. u.leaves) is ∙ one_leaf_is x some)
@@ -58,7 +59,7 @@ pub some_chars : (x : List ℕ) → 1 ≤ byte_len x → 1 ≤ length x
 some_chars [] some = absurd (omega arith)
 some_chars (c ∷ x) some = omega arith
 
--- one node more, for the front of the rest
+-- one more node, for the front of the rest
 pub nodes_front : (breaks : LineBreaks) (text : List ℕ) (ts : List Tree) (rest x y : List ℕ) (t : Tree) → AreFrontNodes breaks text ts rest → x ++ y ≡ rest → 1 ≤ byte_len x → IsSeam x y → (1 ≤ length y → 492 ≤ byte_len x)
     → t ≡ leaf_tree breaks x → IsTree t → AreFrontNodes breaks text (ts ++ t ∷ []) y × (length (leaves_of (ts ++ t ∷ [])) ≡ length (leaves_of ts) + 1)
 nodes_front breaks text ts rest x y t a parts some seam long is tree =
@@ -73,7 +74,7 @@ leaf_of_bytes bs u some short =
     let size : byte_len (chars bs) ≡ length bs = byte_len-chars bs u in
     record { some = some_chars (chars bs) (omega arith); fits = omega arith; scalars = scalars-chars bs u }
 
--- one node more, for the bytes of a front that is cut off at a cut
+-- one more node, for the bytes of a front that is split off at a legal position
 pub nodes_cut : (breaks : LineBreaks) (text : List ℕ) (ts : List Tree) (bs front back leaf : List ℕ) (r : ℕ) (t : Tree) → AreFrontNodes breaks text ts (chars bs)
     → IsUtf8 bs → IsUtf8 front → IsUtf8 back → front ≡ take (r - 0) bs → back ≡ drop r bs → 492 ≤ r → r < length bs → r ≤ 984 → is_cut bs r ≡ true
     → leaf ≡ chars front → t ≡ leaf_tree breaks leaf → IsTree t
@@ -89,7 +90,7 @@ nodes_cut breaks text ts bs front back leaf r t a u v w is_front is_back some in
       ap length (leaves_more breaks ts t (chars front) i.some own) ∙ length-append (leaves_of ts) (chars front ∷ []),
     )
 
--- the last node has all that is left
+-- the last node has the whole rest
 pub nodes_last : (breaks : LineBreaks) (text : List ℕ) (ts : List Tree) (bs leaf : List ℕ) (t : Tree) → AreFrontNodes breaks text ts (chars bs)
     → IsUtf8 bs → 0 < length bs → length bs ≤ 984 → leaf ≡ chars bs → t ≡ leaf_tree breaks leaf → IsTree t
     → AreFrontNodes breaks text (ts ++ t ∷ []) [] × (length (leaves_of (ts ++ t ∷ [])) ≡ length (leaves_of ts) + 1)
@@ -100,19 +101,19 @@ nodes_last breaks text ts bs leaf t a u some short of_rest is tree =
       ap length (leaves_more breaks ts t (chars bs) i.some own) ∙ length-append (leaves_of ts) (chars bs ∷ []),
     )
 
--- where nothing is left
+-- with an empty rest, the nodes have the whole text
 pub nodes_whole : (breaks : LineBreaks) (text : List ℕ) (ts : List Tree) → AreFrontNodes breaks text ts [] → joined ts ≡ text
 nodes_whole breaks text ts a = sym (append-nil (joined ts)) ∙ a.fronts.whole
 
 pub siblings_whole : (breaks : LineBreaks) (text : List ℕ) (ts : List Tree) → AreFrontNodes breaks text ts [] → byte_len text < 2 ^ 63 → AreSiblings breaks 0 ts
 siblings_whole breaks text ts a few = record { each = a.each; leaves = a.fronts.are_leaves; fits = omega (arith, ap byte_len (nodes_whole breaks text ts a)) }
 
--- one leaf alone, or none
+-- at most one leaf
 pub leaf_few : (x : List ℕ) → length (one_leaf x) ≤ (byte_len x + 980) / 981
 leaf_few [] = omega arith
 leaf_few (c ∷ x) = omega (arith, length-le-encodes (c ∷ x))
 
--- an even share of the nodes that are left
+-- an even share of the remaining nodes
 pub share_least : (left groups : ℕ) → 1 ≤ groups → 12 * groups ≤ left → 12 ≤ left / groups
 share_least left groups some least = le-div 12 left groups some least
 
@@ -137,7 +138,7 @@ most_after left (suc g) some most =
       | inr ge ↦ omega (arith, div-add-mod' left (suc g), mul-suc q g, mul-le-mul_right g ge)
     ]
 
--- the nodes made so far over a front of the nodes, and those that are left
+-- the nodes made so far over the first nodes, and the remaining nodes
 pub record AreOver (breaks : LineBreaks) (h : ℕ) (whole done rest : List Tree) : Type 0 where
   pub each : All (IsChild breaks (h + 1)) done
   pub left : AreSiblings breaks h rest
@@ -150,7 +151,7 @@ group_children breaks h rest n a least most within =
     let l = length-take-le n rest within in
     children_of breaks h (take n rest) (siblings_left breaks h (take n rest) (drop n rest) s) (omega arith) (omega arith)
 
--- one node more
+-- one more node
 pub over_more : (breaks : LineBreaks) (h : ℕ) (whole done rest : List Tree) (n : ℕ) (t : Tree) → AreOver breaks h whole done rest → 12 ≤ n → n ≤ 24 → n ≤ length rest
     → t ≡ tree_over (take n rest) → AreOver breaks h whole (done ++ t ∷ []) (drop n rest)
 over_more breaks h whole done rest n t a least most within is =
@@ -165,16 +166,16 @@ over_more breaks h whole done rest n t a least most within is =
       same = ap (λ ls. ls ++ leaves_of (drop n rest)) front ∙ append_assoc (leaves_of done) (leaves_of (take n rest)) (leaves_of (drop n rest)) ∙ ap (λ ls. leaves_of done ++ ls) both ∙ a.same;
     }
 
--- where no node is left
+-- without remaining nodes, the leaves are those of all nodes
 pub over_same : (breaks : LineBreaks) (h : ℕ) (whole done rest : List Tree) → AreOver breaks h whole done rest → length rest ≡ 0 → leaves_of done ≡ leaves_of whole
 over_same breaks h whole done [] a none = sym (append-nil (leaves_of done)) ∙ a.same
 over_same breaks h whole done (t ∷ ts) a none = absurd (omega arith)
 
--- the back of a list, as a slice of it
+-- the back of a list, as a slice
 pub back_of : (ts xs : List Tree) (n : ℕ) → xs ≡ take (length ts - n) (drop n ts) → xs ≡ drop n ts
 back_of ts xs n e = e ∙ take_all (length ts - n) (drop n ts) (simp length-drop (omega arith))
 
--- the tree with the leaves of the only node
+-- a single node has the leaves of the list
 pub lone_leaves : (ts : List Tree) (t : Tree) → length ts ≡ 1 → get_or ts 0 t ≡ t → leaves_of ts ≡ t.leaves
 lone_leaves [] t one here = absurd (omega arith)
 lone_leaves (u ∷ []) t one here = append-nil u.leaves ∙ ap (λ v. v.leaves) here

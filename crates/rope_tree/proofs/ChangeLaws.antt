@@ -1,4 +1,4 @@
--- Counts that change as much as those of a part.
+-- Counts that change by the difference of those of a slice.
 use Rattle.std.proofs.Common.{◌≡◌, ℕ, ◌+◌, ◌-◌, ◌<◌, ◌≤◌, List, [], length, get_or, set, take, refl, sym, ap, subst, ◌∙◌, arith}
 use Rattle.std.proofs.lemmas.List.{length-set, take_all}
 use Rattle.rope_text.specs.declared.line_breaks.LineBreaks.{LineBreaks}
@@ -12,7 +12,7 @@ use Rattle.rope_tree.specs.Narrow.{FitsWith}
 use Rattle.rope_tree.specs.Change.{IsChange, no_counts}
 use Rattle.rope_tree.proofs.TotalLaws.{same_counts, has_part, even}
 
--- those of no text, as a call gives them
+-- the counts of an empty text, as a call returns them
 pub no_counts_are : (none : TextInfo) → ((breaks : LineBreaks) → none ≡ info_of breaks []) → none ≡ no_counts
 no_counts_are none is = is Lf ∙ same_counts (info_of Lf []) no_counts refl refl refl (ap length (break_ends-nil Lf))
 
@@ -25,7 +25,7 @@ change_seen none more old new is c = subst (λ n. IsChange n more old new) (no_c
 pub change_to : (none less old new : TextInfo) → ((breaks : LineBreaks) → none ≡ info_of breaks []) → IsChange less no_counts old new → IsChange less none old new
 change_to none less old new is c = subst (λ n. IsChange less n old new) (sym (no_counts_are none is)) c
 
--- by what the counts of a text grow
+-- the growth of the counts of a text
 pub grown_change : (old new more : TextInfo) → info_sum old more ≡ new → IsSmall new → IsChange no_counts more old new
 grown_change old new more sum small =
     let bytes = ap (λ x. x.bytes) sum in
@@ -43,7 +43,7 @@ grown_change old new more sum small =
       };
     }
 
--- and by what they fall
+-- the decrease of the counts of a text
 pub fallen_change : (old new less : TextInfo) → info_sum new less ≡ old → IsChange less no_counts old new
 fallen_change old new less sum =
     let bytes = ap (λ x. x.bytes) sum in
@@ -57,7 +57,7 @@ fallen_change old new less sum =
     }
 
 module _ (before after old new : TextInfo) (c : IsChange before after old new) where
-  -- a part of a part is a part of the whole
+  -- a slice of a slice is a slice of the whole
   pub part_of_part : (t : TextInfo) → HasPart t old → HasPart t before
   part_of_part t p = record {
     bytes = omega (arith, p.bytes, c.part.bytes);
@@ -66,7 +66,7 @@ module _ (before after old new : TextInfo) (c : IsChange before after old new) w
     breaks = omega (arith, p.breaks, c.part.breaks);
   }
 
-  -- what fits with the one fits with the other
+  -- counts that fit with one change fit with the other
   pub part_fits : (t : TextInfo) → FitsWith t old new → FitsWith t before after
   part_fits t f = record {
     bytes = omega (arith, f.bytes, ap (λ x. x.bytes) c.sum);
@@ -75,14 +75,14 @@ module _ (before after old new : TextInfo) (c : IsChange before after old new) w
     breaks = omega (arith, f.breaks, ap (λ x. x.break_count) c.sum);
   }
 
-  -- totals in which the part was changed are those in which the text was
+  -- totals in which the slice was changed are those in which the text was
   pub whole_changed : (t u : TextInfo) → info_sum u before ≡ info_sum t after → info_sum u old ≡ info_sum t new
   whole_changed t u e =
       same_counts (info_sum u old) (info_sum t new)
       (omega (arith, ap (λ x. x.bytes) e, ap (λ x. x.bytes) c.sum)) (omega (arith, ap (λ x. x.chars) e, ap (λ x. x.chars) c.sum))
       (omega (arith, ap (λ x. x.utf16_surrogates) e, ap (λ x. x.utf16_surrogates) c.sum)) (omega (arith, ap (λ x. x.break_count) e, ap (λ x. x.break_count) c.sum))
 
-  -- so has each text that has it
+  -- the counts of each text that includes it change too
   pub change_above : (t u : TextInfo) → HasPart t old → info_sum u old ≡ info_sum t new → IsChange before after t u
   change_above t u p e = record {
     sum = same_counts (info_sum u before) (info_sum t after)
@@ -92,14 +92,14 @@ module _ (before after old new : TextInfo) (c : IsChange before after old new) w
     low = c.low;
   }
 
--- by another name of the set of line breaks
+-- by an equal set of line breaks
 pub change_by : (br : LineBreaks) (child u : Tree) (before after : TextInfo) → child.breaks ≡ br → IsChange before after (info_of child.breaks (text child)) (info_of child.breaks (text u)) → IsChange before after (info_of br (text child)) (info_of br (text u))
 change_by br child u before after same c = subst (λ b. IsChange before after (info_of b (text child)) (info_of b (text u))) same c
 
 pub change_own : (child u : Tree) (before after : TextInfo) → u.breaks ≡ child.breaks → IsChange before after (info_of child.breaks (text child)) (info_of child.breaks (text u)) → IsChange before after (info_of child.breaks (text child)) (info_of u.breaks (text u))
 change_own child u before after same c = subst (λ b. IsChange before after (info_of child.breaks (text child)) (info_of b (text u))) (sym same) c
 
--- the counts of all children change as much as those of one
+-- the counts of all children change by the difference of those of one
 pub change_of_list : (br : LineBreaks) (h : ℕ) (ts : List Tree) (k : ℕ) (child u : Tree) → AreChildren br h ts → k < length ts → get_or ts k child ≡ child → AreChildren br h (set ts k u) → (before after : TextInfo)
     → IsChange before after (info_of br (text child)) (info_of br (text u)) → IsChange before after (info_of br (joined ts)) (info_of br (joined (set ts k u)))
 change_of_list br h ts k child u a within child_is b before after c =

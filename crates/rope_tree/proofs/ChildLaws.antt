@@ -1,4 +1,4 @@
--- A child that takes a text, as the code finds and leaves it among its siblings.
+-- A child that takes a text, among its siblings, before and after.
 use Rattle.std.proofs.Common.{◌≡◌, ℕ, ◌+◌, ◌-◌, ◌<◌, ◌≤◌, ◌^◌, Bool, false, List, [], ◌∷◌, ◌++◌, length, get_or, set, take, drop, IfOk, OnErr, Result, Ok, Err, refl, sym, ap, ◌∙◌, arith}
 use Rattle.rope_text.specs.declared.text_info.TextInfo.{TextInfo}
 use Rattle.rope_text.specs.Text.{byte_len}
@@ -23,23 +23,23 @@ use Rattle.rope_tree.proofs.InsertTrees.{child_may, text_around, byte_len-insert
 use Rattle.rope_tree.proofs.TotalLaws.{has_part, fits_after}
 use Rattle.rope_tree.proofs.GrownLaws.{totals_seen, grown, children_grown, child_grown}
 
--- what holds however it went holds where it failed
+-- a property of both outcomes holds of a failure
 pub on_err : {T E P : Type 0} (r : Result T E) → P → OnErr r P
 on_err (Ok x) p = tt
 on_err (Err e) p = p
 
--- and what holds where it was not done
+-- a property of both outcomes holds if the edit was not done
 pub if_idle : {E P : Type 0} (r : Result Bool E) → P → IfOk r (λ did. did ≡ false → P)
 if_idle (Ok x) p = λ no. p
 if_idle (Err e) p = tt
 
--- the fields of a list of children that is seen as the trees, and the one of them that takes the text
+-- the fields of a list of children with this model, and the child that takes the text
 pub record Finds (a : Inside) (ts : List Tree) (k : ℕ) (child : Tree) (at i : ℕ) (to_right : Bool) : Type 0 where
   pub view : listed a ≡ ts
   pub fields : IsListed a
   pub taken : Takes ts k child at i to_right
 
--- the one at a place among the nodes
+-- the child at an index among the nodes
 pub taken_at : (a : Inside) (ts : List Tree) (k : ℕ) (d : Tree) (at i : ℕ) (to_right : Bool) → listed a ≡ ts → AreChildren (breaks_of ts) (height_of ts) ts → k < length ts → at ≡ length (joined (take k ts)) + i
     → ((child : Tree) → GoesIn at i (length (text (get_or ts k child))) to_right) → Takes ts k (get_or a.nodes k d) at i to_right
 taken_at a ts k d at i to_right view children within place goes = takes ts k (get_or a.nodes k d) at i to_right children within (seen_at a ts k d view within) place goes
@@ -66,7 +66,7 @@ module _ (a : Inside) (ts : List Tree) (k : ℕ) (child : Tree) (at i : ℕ) (to
       rw (totals.total_at j d inside, old_counts old old_is) (has_part (breaks_of ts) (height_of ts) ts ts k child child f.taken.children f.taken.within f.taken.child_is j from inside)
 
   module _ (s : List ℕ) (some : 1 ≤ length s) (side : MayInsert (tree_over ts) at s to_right) (fits : byte_len (joined ts) + byte_len s < 2 ^ 63) where
-    -- what an insert asks of the child
+    -- the preconditions of an insert into the child
     pub child_fits : byte_len (text child) + byte_len s < 2 ^ 63
     child_fits =
         let parts = ap byte_len (text_around (breaks_of ts) (height_of ts) ts k child f.taken.children f.taken.within f.taken.child_is) in
@@ -79,7 +79,7 @@ module _ (a : Inside) (ts : List Tree) (k : ℕ) (child : Tree) (at i : ℕ) (to
         let d = f.taken in
         child_may (breaks_of ts) (height_of ts) ts k child d.children d.within d.child_is (tree_over ts) refl at i s some d.place d.goes.within to_right d.goes.inside side
 
-    -- and what it gives
+    -- the results of an insert into the child
     module _ (u : Tree) (done : IsInserted child (u ∷ []) (inserted (text child) i s)) where
       pub grows : AreGrown ts (set ts k u) (inserted (joined ts) at s)
       grows =
@@ -94,7 +94,7 @@ module _ (a : Inside) (ts : List Tree) (k : ℕ) (child : Tree) (at i : ℕ) (to
           let wide = child_grown (breaks_of ts) (height_of ts) child u _ f.taken.own done in
           rw is (small_info u.breaks (text u) wide.tree.fits)
 
-      -- the counts fit in 32 bits where all did, and the text has room
+      -- the counts fit in 32 bits if all did, and the text has room
       pub still_narrow : (seen : List TextInfo) → seen ≡ a.totals → (AreNarrow seen → (d : TextInfo) → (get_or seen (length seen - 1) d).bytes + byte_len s < 2 ^ 32) → (old new : TextInfo) → old ≡ info_of child.breaks (text child) → new ≡ info_of u.breaks (text u)
           → AreNarrow seen → (j : ℕ) (d : TextInfo) → k ≤ j → j < length seen → FitsWith (get_or seen j d) old new
       still_narrow seen is room old new old_is new_is narrow j d from within =
@@ -123,7 +123,7 @@ module _ (a : Inside) (ts : List Tree) (k : ℕ) (child : Tree) (at i : ℕ) (to
         pub all_grown : AreGrown ts (listed b) (inserted (joined ts) at s)
         all_grown = rw (set_seen a b ts k u f.fields f.view f.taken.within all_children height breaks nodes retotaled) grows
 
-      -- the same by the counts of a part of it, which changed as much
+      -- the totals, by a change of the counts of a slice that equals that of the child
       module _ (old new : TextInfo) (change : IsChange old new (info_of child.breaks (text child)) (info_of child.breaks (text u))) where
         own_change : IsChange old new (info_of child.breaks (text child)) (info_of u.breaks (text u))
         own_change =
@@ -155,7 +155,7 @@ module _ (a : Inside) (ts : List Tree) (k : ℕ) (child : Tree) (at i : ℕ) (to
               rw (set_seen a b ts k u f.fields f.view d.within all_children height breaks nodes (retotaled b height breaks nodes seen after _ _ is refl refl len before all_past totals))
               (change_of_list (breaks_of ts) (height_of ts) ts k child u d.children d.within d.child_is all_children old new (change_by (breaks_of ts) child u old new d.own.same_breaks change))
 
--- the counts of children that took a text, by their own
+-- the counts of children after an insert, by their own
 module _ (ts us : List Tree) (s : List ℕ) (at : ℕ) (a : AreChildren (breaks_of ts) (height_of ts) ts) (g : AreGrown ts us (inserted (joined ts) at s)) (some : 1 ≤ length s)
     (before after : TextInfo) (before_is : before ≡ info_of (breaks_of ts) (joined ts)) (after_is : after ≡ info_of (breaks_of us) (joined us)) where
   now : after ≡ info_of (breaks_of ts) (joined us)

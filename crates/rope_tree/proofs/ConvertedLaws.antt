@@ -1,4 +1,5 @@
--- A conversion of a tree's text, by the leaf that holds the place, at the ends and by its size.
+-- A conversion of a tree's text: by the leaf that contains the position, at the ends, and its
+-- bound.
 use Rattle.std.proofs.Common.{◌≡◌, ℕ, ◌+◌, ◌-◌, ◌*◌, ◌≤◌, ◌<◌, List, length, min, refl, true, ap, ◌∙◌, arith}
 use Rattle.std.proofs.lemmas.Str.{length-le-encodes}
 use Rattle.rope_text.specs.declared.line_breaks.LineBreaks.{LineBreaks}
@@ -19,7 +20,7 @@ use Rattle.rope_tree.specs.Tree.{Tree, text, IsTree}
 use Rattle.rope_tree.specs.Found.{IsFound}
 use Rattle.rope_tree.proofs.FoundLaws.{byte_to_char_end, utf16_to_char_end, char_to_byte_end, char_to_utf16_end, byte_to_line_end, found_byte_to_char, found_utf16_to_char, found_char_to_line, found_byte_to_line, found_char_to_byte, found_char_to_utf16, found_line_start, found_line_to_byte, utf16_to_char-le, char_to_line-le, byte_to_line-le}
 
--- it is that of the leaf, behind what lies before it
+-- a conversion is that of the leaf, after the text before it
 pub found_converted : (from to : Unit) (idx at : ℕ) (t : Tree) (leaf : List ℕ) (front : TextInfo) → are_converted from to ≡ true → idx ≡ at + first_sought from → IsTree t → IsFound from at t leaf front
     → converted from to t.breaks (text t) idx ≡ count_of to front + converted from to t.breaks leaf (idx - count_of from front)
 found_converted Byte Char idx at t leaf front pair e i f = let same : idx ≡ at = omega arith in rw same (found_byte_to_char at t leaf front i f)
@@ -51,7 +52,7 @@ converted_first LineBreak Char breaks text idx pair less = let at : idx ≡ 0 = 
 converted_first LineBreak _ breaks text idx pair less = absurd (cc)
 converted_first _ _ breaks text idx pair less = absurd (omega arith)
 
--- no index passes the end by far
+-- no result of a conversion exceeds twice the number of bytes
 pub converted-le : (from to : Unit) (breaks : LineBreaks) (text : List ℕ) (idx : ℕ) → are_converted from to ≡ true → converted from to breaks text idx ≤ 2 * byte_len text
 converted-le Byte Char breaks text idx pair = omega (arith, byte_to_char-le-length text idx, length-le-encodes text)
 converted-le Byte LineBreak breaks text idx pair = omega (arith, byte_to_line-le breaks text idx, length-le-encodes text)
@@ -63,7 +64,7 @@ converted-le LineBreak Byte breaks text idx pair = omega (arith, size_le_all byt
 converted-le LineBreak Char breaks text idx pair = omega (arith, line_start-le-length breaks text idx, length-le-encodes text)
 converted-le _ _ breaks text idx pair = absurd (cc)
 
--- where there are as many bytes as characters, all indices of a place but its line are the same number
+-- in a text with as many bytes as characters, all indices but the line are equal
 pub ascii_converted : (from to : Unit) (breaks : LineBreaks) (text : List ℕ) (idx : ℕ) → are_converted from to ≡ true → byte_len text ≡ length text → (from ≡ LineBreak → ⊥) → (to ≡ LineBreak → from ≡ CodeUnit) → converted from to breaks text idx ≡ min idx (length text)
 ascii_converted Byte Char breaks text idx pair ascii from_other to_other = ascii_byte_to_char text ascii idx
 ascii_converted Byte LineBreak breaks text idx pair ascii from_other to_other = let e : Byte ≡ CodeUnit = to_other refl in absurd (cc)

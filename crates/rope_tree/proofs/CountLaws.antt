@@ -1,4 +1,4 @@
--- The counts of a text with another put into it, or without a part.
+-- The counts of a text after an insert into it, or after a removal.
 use Rattle.std.proofs.Common.{◌≡◌, ℕ, ◌+◌, ◌-◌, ◌<◌, ◌≤◌, Bool, true, false, ◌&&◌, cond, eqb, List, [], ◌∷◌, ◌++◌, length, take, drop, refl, sym, ap, subst, ◌∙◌, arith, inl, inr}
 use Rattle.std.proofs.lemmas.Bool.{cases_Bool, eqb-true}
 use Rattle.std.proofs.lemmas.List.{take-append-drop, length-append, length-take, length-drop, drop-drop}
@@ -19,26 +19,26 @@ shared_first : (breaks : LineBreaks) (f a b : List ℕ) → 1 ≤ length a → s
 shared_first breaks f [] b some = absurd (omega arith)
 shared_first breaks f (x ∷ xs) b some = refl
 
--- the breaks, with one less for each CR that meets an LF
+-- the line breaks, with one less for each CR that meets an LF
 pub breaks_inserted : (breaks : LineBreaks) (f a b : List ℕ) → 1 ≤ length a
     → break_count breaks (f ++ (a ++ b)) + (shared_breaks breaks f a + shared_breaks breaks a b) ≡ (break_count breaks (f ++ b) + break_count breaks a) + shared_breaks breaks f b
 breaks_inserted breaks f a b some =
     omega (arith, break_count-append breaks f (a ++ b), break_count-append breaks a b, break_count-append breaks f b, shared_first breaks f a b some)
 
--- a text has as many breaks as it may share with what stands behind it
+-- a text has at least the line breaks that it shares with the text after it
 shared_behind : (breaks : LineBreaks) (a b : List ℕ) → shared_breaks breaks a b ≤ break_count breaks a
 shared_behind breaks [] b = omega arith
 shared_behind breaks (c ∷ []) b =
     omega (arith, one_less (is_break_char breaks c) (eqb c 13) (begins_with_lf b) (is_break_char breaks 13) (break_char_13 breaks c), break_count-cons breaks c [])
 shared_behind breaks (c ∷ d ∷ a) b = omega (arith, shared_behind breaks (d ∷ a) b, break_count-cons breaks c (d ∷ a))
 
--- an LF is a break of every set
+-- an LF is a line break of every set
 lf_counts : (breaks : LineBreaks) (a : List ℕ) → break_count breaks (10 ∷ a) ≡ 1 + break_count breaks a
 lf_counts Lf a = break_count-cons Lf 10 a
 lf_counts CrLf a = break_count-cons CrLf 10 a
 lf_counts Unicode a = break_count-cons Unicode 10 a
 
--- and so with an LF at its start
+-- a text that begins with LF has at least one line break more than it shares with the text after it
 shared_after_lf : (breaks : LineBreaks) (a b : List ℕ) → 1 + shared_breaks breaks (10 ∷ a) b ≤ break_count breaks (10 ∷ a)
 shared_after_lf breaks [] b = omega (arith, lf_counts breaks [])
 shared_after_lf breaks (d ∷ a) b = omega (arith, lf_counts breaks (d ∷ a), shared_behind breaks (d ∷ a) b)
@@ -59,7 +59,7 @@ shared_around : (breaks : LineBreaks) (f a b : List ℕ) → 1 ≤ length a → 
 shared_around breaks f [] b some = absurd (omega arith)
 shared_around breaks f (x ∷ a) b some = omega (arith, shared_before (ends_in_cr f) (eqb x 10) (is_break_char breaks 13), shared_at_ends breaks x a b)
 
--- no count falls where a text is put in
+-- no count falls by an insert
 counts_around : (breaks : LineBreaks) (f a b : List ℕ) → 1 ≤ length a → HasPart (info_of breaks (f ++ (a ++ b))) (info_of breaks (f ++ b))
 counts_around breaks f a b some = record {
   bytes = omega (arith, IsMeasure-byte_len.joined f (a ++ b), IsMeasure-byte_len.joined a b, IsMeasure-byte_len.joined f b);
@@ -73,7 +73,7 @@ counts_grow breaks text a at some =
     let around = counts_around breaks (take at text) a (drop at text) some in
     rw (inserted_is text at a) (subst (λ t. HasPart (info_of breaks (take at text ++ (a ++ drop at text))) (info_of breaks t)) (take-append-drop at text) around)
 
--- and none grows where some is taken out
+-- no count grows by a removal
 pub counts_fall : (breaks : LineBreaks) (text : List ℕ) (start end : ℕ) → start < end → end ≤ length text → HasPart (info_of breaks text) (info_of breaks (removed text start end))
 counts_fall breaks text start end order within =
     let part = take (end - start) (drop start text) in
@@ -102,7 +102,7 @@ info_inserted breaks text a at more n some sums left =
     omega (arith, ap (λ i. i.break_count) sums, ap (break_count breaks) is, ap (break_count breaks) whole, breaks_inserted breaks (take at text) a (drop at text) some, left) in
     cc
 
--- where no CR meets an LF, the sum of the counts is right
+-- where no CR meets an LF, the counts are sums
 pub info_apart : (breaks : LineBreaks) (f a b : List ℕ) (more : TextInfo) → 1 ≤ length a → more ≡ info_sum (info_of breaks (f ++ b)) (info_of breaks a)
     → ends_in_cr f ≡ false → ends_in_cr a ≡ false → more ≡ info_of breaks (f ++ (a ++ b))
 info_apart breaks f a b more some sums no_cr no_cr_within =
@@ -122,7 +122,7 @@ pub record Corrects (breaks : LineBreaks) (text a : List ℕ) (at : ℕ) (more :
   pub met_le : met ≤ more.break_count + apart
   pub whole : ◌≡◌ {A = TextInfo} (record { bytes = more.bytes; chars = more.chars; utf16_surrogates = more.utf16_surrogates; break_count = more.break_count + apart - met }) (info_of breaks (inserted text at a))
 
--- the breaks are corrected where the parts meet
+-- the line breaks are corrected where the texts meet
 pub corrects : (breaks : LineBreaks) (text a front back : List ℕ) (at : ℕ) (more : TextInfo) (apart first second : ℕ) → 1 ≤ length a
     → front ≡ take at text → back ≡ drop at text → more ≡ info_sum (info_of breaks text) (info_of breaks a)
     → apart ≡ shared_breaks breaks front back → first ≡ shared_breaks breaks front a → second ≡ shared_breaks breaks a back → Corrects breaks text a at more apart (first + second)
@@ -149,7 +149,8 @@ pub record Uncounts (breaks : LineBreaks) (front back : List ℕ) (info less : T
   pub whole : ◌≡◌ {A = TextInfo} (record { bytes = info.bytes - less.bytes; chars = info.chars - less.chars; utf16_surrogates = info.utf16_surrogates - less.utf16_surrogates; break_count = info.break_count + met - less.break_count - meeting })
       (info_of breaks (front ++ back))
 
--- the counts of a text less those of a part in it, with the breaks corrected where the part met what stood around it, and where that meets
+-- the counts of a text less those of a slice, with the line breaks corrected where the slice met
+-- its neighbours and where these meet
 pub uncounts : (breaks : LineBreaks) (front part back : List ℕ) (info less : TextInfo) (first second meeting : ℕ) → 1 ≤ length part → info ≡ info_of breaks (front ++ (part ++ back)) → less ≡ info_of breaks part
     → first ≡ shared_breaks breaks front part → second ≡ shared_breaks breaks part back → meeting ≡ shared_breaks breaks front back → Uncounts breaks front back info less (first + second) meeting
 uncounts breaks front part back info less first second meeting some all own first_is second_is meeting_is =

@@ -1,4 +1,4 @@
--- Running totals kept by kind of count.
+-- Running totals in rows, one for each kind of count.
 use Rattle.std.proofs.Common.{◌≡◌, ℕ, ◌+◌, ◌-◌, ◌<◌, ◌≤◌, List, [], ◌∷◌, ◌++◌, length, get_or, set, take, map, inl, inr, subst, sym, ap, ◌∙◌, arith}
 use Rattle.std.specs.List.{range_with_len, insert}
 use Rattle.std.proofs.lemmas.Bool.{cases_lt}
@@ -20,22 +20,22 @@ many a ts view = sym (length-map-range_with_len (counts_at a) 0 a.len) ∙ ap le
 pub seen_at : (a : Inside) (k : ℕ) (d : TextInfo) → k < a.len → get_or (all_totals a) k d ≡ counts_at a k
 seen_at a k d lt = get_or-map-range_with_len (counts_at a) 0 a.len k k d lt (omega arith)
 
--- a total by its place
+-- a total by its index
 pub total_seen : (a : Inside) (ts : List TextInfo) (k : ℕ) (d : TextInfo) → all_totals a ≡ ts → k < length ts → get_or ts k d ≡ counts_at a k
 total_seen a ts k d view lt = ap (λ l. get_or l k d) (sym view) ∙ seen_at a k d (omega (arith, many a ts view))
 
--- each of them is below the bound
+-- each total is below the bound
 pub all_below : (a : Inside) (ts : List TextInfo) → IsTotals a → all_totals a ≡ ts → AreNarrow ts
 all_below a ts i view k d lt = subst IsNarrow (sym (total_seen a ts k d view lt)) (i.below k (omega (arith, many a ts view)))
 
--- totals that are read alike
+-- totals with equal entries
 all_alike : (a b : Inside) (d : TextInfo) → ((k : ℕ) → k < a.len → counts_at a k ≡ counts_at b k) → map (counts_at a) (range_with_len 0 a.len) ≡ map (counts_at b) (range_with_len 0 a.len)
 all_alike a b d same =
     fill_by_all (counts_at b) (all_totals a) a.len d (length-map-range_with_len (counts_at a) 0 a.len)
     (λ k lt. seen_at a k d lt ∙ same k lt)
 
 module _ (a b : Inside) (ts : List TextInfo) (i : IsTotals a) (view : all_totals a ≡ ts) where
-  -- one total more behind them
+  -- one more total at the end
   module _ (total : TextInfo) (few : length ts < 24) (fits : IsNarrow total)
       (len : b.len ≡ a.len + 1) (bytes : b.bytes ≡ set a.bytes a.len total.bytes) (chars : b.chars ≡ set a.chars a.len total.chars) (pairs : b.pairs ≡ set a.pairs a.len total.utf16_surrogates) (breaks : b.breaks ≡ set a.breaks a.len total.break_count) where
     pushed_before : (k : ℕ) → k < a.len → counts_at a k ≡ counts_at b k
@@ -70,7 +70,7 @@ module _ (a b : Inside) (ts : List TextInfo) (i : IsTotals a) (view : all_totals
       ];
     }
 
-  -- other counts in as many places
+  -- replaced counts in an equal number of entries
   module _ (place : ℕ) (old new : TextInfo) (len : b.len ≡ a.len) (bytes : IsShifted a.bytes b.bytes place a.len old.bytes new.bytes) (chars : IsShifted a.chars b.chars place a.len old.chars new.chars)
       (pairs : IsShifted a.pairs b.pairs place a.len old.utf16_surrogates new.utf16_surrogates) (breaks : IsShifted a.breaks b.breaks place a.len old.break_count new.break_count) where
     early_at : (j : ℕ) → j < place → counts_at b j ≡ counts_at a j
@@ -110,7 +110,7 @@ module _ (a b : Inside) (ts : List TextInfo) (i : IsTotals a) (view : all_totals
       ];
     }
 
-  -- one total more before another
+  -- one more total before another
   module _ (place : ℕ) (total : TextInfo) (within : place ≤ length ts) (room : length ts < 24) (fits : IsNarrow total)
       (len : b.len ≡ a.len + 1) (bytes : b.bytes ≡ insert (take (length a.bytes - 1) a.bytes) place total.bytes) (chars : b.chars ≡ insert (take (length a.chars - 1) a.chars) place total.chars)
       (pairs : b.pairs ≡ insert (take (length a.pairs - 1) a.pairs) place total.utf16_surrogates) (breaks : b.breaks ≡ insert (take (length a.breaks - 1) a.breaks) place total.break_count) where
@@ -139,8 +139,8 @@ module _ (a b : Inside) (ts : List TextInfo) (i : IsTotals a) (view : all_totals
     pub put_here : (d : TextInfo) → get_or (all_totals b) place d ≡ total
     put_here d = seen_at b place d (omega (arith, len, many a ts view)) ∙ here_at
 
-    pub put_behind_same : (j : ℕ) (d : TextInfo) → place ≤ j → j < length ts → get_or (all_totals b) (j + 1) d ≡ get_or ts j d
-    put_behind_same j d le lt = seen_at b (j + 1) d (omega (arith, len, many a ts view)) ∙ behind_at j le (omega (arith, many a ts view)) ∙ sym (total_seen a ts j d view lt)
+    pub put_after_same : (j : ℕ) (d : TextInfo) → place ≤ j → j < length ts → get_or (all_totals b) (j + 1) d ≡ get_or ts j d
+    put_after_same j d le lt = seen_at b (j + 1) d (omega (arith, len, many a ts view)) ∙ behind_at j le (omega (arith, many a ts view)) ∙ sym (total_seen a ts j d view lt)
 
     pub put_totals : IsTotals b
     put_totals = record {
@@ -163,7 +163,7 @@ module _ (a b : Inside) (ts : List TextInfo) (i : IsTotals a) (view : all_totals
       ];
     }
 
-  -- totals of another list behind them
+  -- totals of another list, appended
   module _ (o : Inside) (us : List TextInfo) (from count : ℕ) (j : IsTotals o) (others : all_totals o ≡ us) (within : from + count ≤ length us) (room : length ts + count ≤ 24) (len : b.len ≡ a.len + count)
       (bytes : b.bytes ≡ pasted a.len count from a.bytes o.bytes) (chars : b.chars ≡ pasted a.len count from a.chars o.chars) (pairs : b.pairs ≡ pasted a.len count from a.pairs o.pairs) (breaks : b.breaks ≡ pasted a.len count from a.breaks o.breaks) where
     pub longer : length (all_totals b) ≡ length ts + count
@@ -238,7 +238,7 @@ module _ (o : Inside) (us : List TextInfo) (count : ℕ) (i : IsTotals o) (view 
       let there : from + k ≡ k = omega (arith, start) in
       ap (λ m. get_or (all_totals first) m d) here ∙ seen_at first k d lt ∙ sym (ap (λ m. get_or us m d) there ∙ total_seen o us k d view (omega (arith, lt, within)))
 
--- a part of a total, and what is put for it, are below the bound too
+-- the counts of a slice, and those that replace them, are below the bound too
 pub was_below : (bound : ℕ) (total old : TextInfo) → IsBelow bound total → HasPart total old → IsBelow bound old
 was_below bound total old n p = record { bytes = omega (arith, n.bytes, p.bytes); chars = omega (arith, n.chars, p.chars); pairs = omega (arith, n.pairs, p.pairs); breaks = omega (arith, n.breaks, p.breaks) }
 

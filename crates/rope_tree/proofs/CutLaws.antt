@@ -1,4 +1,4 @@
--- The totals of children of which one was cut into two.
+-- The totals of a list of children after one of them was split into two.
 use Rattle.std.proofs.Common.{◌≡◌, ℕ, zero, suc, ◌+◌, ◌-◌, ◌<◌, ◌≤◌, ◌^◌, inl, inr, List, length, get_or, set, take, refl, sym, ap, subst, add-one, ◌∙◌, arith}
 use Rattle.std.specs.List.{insert}
 use Rattle.std.proofs.lemmas.Bool.{cases_lt}
@@ -20,12 +20,12 @@ use Rattle.rope_tree.proofs.TotalLaws.{same_counts, sums_more, sums_cancel, get_
 abbrev counted : LineBreaks → List Tree → ℕ → TextInfo
 counted br xs m = info_of br (joined (take m xs))
 
--- two parts in one's place
+-- two halves in place of one child
 sums_parted : (t c u x : TextInfo) → info_sum (info_sum (info_sum t u) x) c ≡ info_sum (info_sum t c) (info_sum u x)
 sums_parted t c u x =
     same_counts (info_sum (info_sum (info_sum t u) x) c) (info_sum (info_sum t c) (info_sum u x)) (omega arith) (omega arith) (omega arith) (omega arith)
 
--- the child c at k was cut into u and x
+-- the child c at k was split into u and x
 pub record Cuts (ts us : List Tree) (k : ℕ) (c u x : Tree) : Type 0 where
   pub children : AreChildren (breaks_of ts) (height_of ts) ts
   pub within : k < length ts
@@ -58,7 +58,7 @@ module _ (ts us : List Tree) (k : ℕ) (c u x : Tree) (cut : Cuts ts us k c u x)
       ap (take m) cut.is ∙ take-append-le m (take (k + 1) ws) _ (omega (arith, long, le)) ∙ take-take m (k + 1) ws (omega (arith, le)) ∙ take-set-le m ts k u le in
       ap (λ l. info_of (breaks_of ts) (joined l)) front
 
-  -- the counts of the first part end where the second begins
+  -- the counts of the first half end where the second begins
   pub first_more : counted (breaks_of ts) us (k + 1) ≡ info_sum (counted (breaks_of ts) ts k) (info_of (breaks_of ts) (text u))
   first_more = more_at (breaks_of ts) (height_of ts) us k u cut.after (omega (arith, as_many, cut.within)) first_here ∙ ap (λ t. info_sum t (info_of (breaks_of ts) (text u))) (same_front k (omega arith))
 
@@ -73,7 +73,7 @@ module _ (ts us : List Tree) (k : ℕ) (c u x : Tree) (cut : Cuts ts us k c u x)
       subst (λ n. info_sum (counted (breaks_of ts) us (n + 1 + 1)) (info_of (breaks_of ts) (text c)) ≡ info_sum (counted (breaks_of ts) ts (n + 1)) both) e
       (ap (λ t. info_sum t (info_of (breaks_of ts) (text c))) now ∙ sums_parted (counted (breaks_of ts) ts k) (info_of (breaks_of ts) (text c)) (info_of (breaks_of ts) (text u)) (info_of (breaks_of ts) (text x)) ∙ ap (λ t. info_sum t both) (sym old))
 
-  -- in each front that has both, their counts are in place of those of the old child
+  -- in each prefix that has both halves, their counts replace those of the old child
   pub even : (m : ℕ) → k ≤ m → m < length ts → info_sum (counted (breaks_of ts) us (m + 1 + 1)) (info_of (breaks_of ts) (text c)) ≡ info_sum (counted (breaks_of ts) ts (m + 1)) both
   even zero le within = even_own 0 (omega (arith, le))
   even (suc m) le within = elim (cases_lt k (suc m)) [
@@ -87,7 +87,7 @@ module _ (ts us : List Tree) (k : ℕ) (c u x : Tree) (cut : Cuts ts us k c u x)
     | inr ge ↦ even_own (suc m) (omega (arith, le, ge))
   ]
 
-  -- what both parts are as children
+  -- both halves are children
   pub own_first : IsChild (breaks_of ts) (height_of ts) u
   own_first = child_at (breaks_of ts) (height_of ts) us k u cut.after (omega (arith, as_many, cut.within)) first_here
 
@@ -108,7 +108,7 @@ module _ (ts us : List Tree) (k : ℕ) (c u x : Tree) (cut : Cuts ts us k c u x)
         breaks = omega (arith, first.breaks, second.breaks);
       }
 
-  -- where the whole text has few bytes, so has each front
+  -- if the whole text has few bytes, so has each prefix
   pub cut_fits : byte_len (joined us) < 2 ^ 32 → (m : ℕ) → k ≤ m → m < length ts → FitsWith (counted (breaks_of ts) ts (m + 1)) (info_of (breaks_of ts) (text c)) both
   cut_fits few m from within =
       let low = info_within (breaks_of ts) (joined (take (m + 1 + 1) us)) 4294967295 (omega (arith, byte_len-joined us (m + 1 + 1), few)) in
@@ -125,7 +125,7 @@ module _ (ts us : List Tree) (k : ℕ) (c u x : Tree) (cut : Cuts ts us k c u x)
       let low = info_within (breaks_of ts) (joined (take (k + 1) us)) 4294967295 (omega (arith, byte_len-joined us (k + 1), few)) in
       rw (sym first_more) (record { bytes = omega (arith, low.bytes); chars = omega (arith, low.chars); pairs = omega (arith, low.pairs); breaks = omega (arith, low.breaks) })
 
-  -- so the totals are right again
+  -- the totals are correct after the split
   pub totals_cut : (totals mid after : List TextInfo) (total : TextInfo) → HasTotals (breaks_of ts) totals ts → length mid ≡ length totals → ((j : ℕ) (d : TextInfo) → j < k → get_or mid j d ≡ get_or totals j d)
       → ((j : ℕ) (d : TextInfo) → k ≤ j → j < length totals → info_sum (get_or mid j d) (info_of (breaks_of ts) (text c)) ≡ info_sum (get_or totals j d) both)
       → total ≡ info_sum (counted (breaks_of ts) ts k) (info_of (breaks_of ts) (text u)) → length after ≡ length mid + 1 → ((j : ℕ) (d : TextInfo) → j < k → get_or after j d ≡ get_or mid j d)
@@ -151,7 +151,7 @@ module _ (ts us : List Tree) (k : ℕ) (c u x : Tree) (cut : Cuts ts us k c u x)
     ];
   }
 
-  -- where the totals of both fit, the whole text has few bytes
+  -- if the totals of both fit, the whole text has few bytes
   pub few_bytes : (totals mid : List TextInfo) → HasTotals (breaks_of ts) totals ts → length mid ≡ length totals
       → ((j : ℕ) (d : TextInfo) → k ≤ j → j < length totals → info_sum (get_or mid j d) (info_of (breaks_of ts) (text c)) ≡ info_sum (get_or totals j d) both) → AreNarrow mid → byte_len (joined us) < 2 ^ 32
   few_bytes totals mid t len past narrow =

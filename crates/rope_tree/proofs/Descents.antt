@@ -1,4 +1,4 @@
--- What a step down from a node to one of its children keeps.
+-- The invariant of a step from a node to one of its children.
 use Rattle.std.proofs.Common.{◌≡◌, ℕ, zero, suc, ◌+◌, ◌-◌, ◌<◌, ◌≤◌, false, List, [], ◌∷◌, ◌++◌, length, get_or, take, drop, refl, sym, ap, ap₂, subst, ◌∙◌, arith}
 use Rattle.std.specs.List.{concat}
 use Rattle.std.proofs.lemmas.List.{append-nil, append_assoc, take-append-drop, take_more, take-append-le}
@@ -37,7 +37,7 @@ count_of-nil Char breaks = refl
 count_of-nil CodeUnit breaks = refl
 count_of-nil LineBreak breaks = ap length (break_ends-nil breaks)
 
--- the counts before a place, as the code finds them
+-- the counts before an index, as the code computes them
 pub front_is : (breaks : LineBreaks) (totals : List TextInfo) (ts : List Tree) (k : ℕ) (front : TextInfo) → HasTotals breaks totals ts → k ≤ length totals
     → (k ≡ 0 → (s : LineBreaks) → front ≡ info_of s []) → ((d : TextInfo) → 0 < k → front ≡ get_or totals (k - 1) d) → front ≡ info_of breaks (joined (take k ts))
 front_is breaks totals ts zero front h within first later = first refl breaks
@@ -73,7 +73,7 @@ module _ (breaks : LineBreaks) (left own right : List (List ℕ)) (a : AreLeaves
       ap (λ xs. info_of breaks (concat xs)) (front_leaves i le) ∙ ap (info_of breaks) (concat-append left (take i own))
       ∙ info_of-append_apart breaks (concat left) (concat (take i own)) (front_apart i)
 
--- the total of the k-th child is the counts before it with its own
+-- the total of the k-th child is the sum of the counts before it and its own
 pub child_total : (ts : List Tree) (totals : List TextInfo) (k : ℕ) (child : Tree) (front all : TextInfo) → AreChildren (breaks_of ts) (height_of ts) ts → HasTotals (breaks_of ts) totals ts
     → k < length ts → child ≡ get_or ts k child → front ≡ info_of (breaks_of ts) (joined (take k ts)) → all ≡ get_or totals k all
     → all ≡ info_sum front (info_of child.breaks (text child))
@@ -81,7 +81,7 @@ child_total ts totals k child front all a h l here before is =
     let own = child_at (breaks_of ts) (height_of ts) ts k child a l (sym here) in
     is ∙ h.total_at k all l ∙ more_at (breaks_of ts) (height_of ts) ts k child a l (sym here) ∙ ap₂ info_sum (sym before) (ap (λ b. info_of b (text child)) (sym own.same_breaks))
 
--- so its own are what is left of it
+-- the counts of the child are the difference
 pub child_counts : (ts : List Tree) (totals : List TextInfo) (k : ℕ) (child : Tree) (front all own : TextInfo) → AreChildren (breaks_of ts) (height_of ts) ts → HasTotals (breaks_of ts) totals ts
     → k < length ts → child ≡ get_or ts k child → front ≡ info_of (breaks_of ts) (joined (take k ts)) → all ≡ get_or totals k all → info_sum front own ≡ all
     → own ≡ info_of child.breaks (text child)
@@ -89,7 +89,7 @@ child_counts ts totals k child front all own a h l here before is sum =
     let e = sum ∙ child_total ts totals k child front all a h l here before is in
     same_counts own (info_of child.breaks (text child)) (omega (arith, ap (λ i. i.bytes) e)) (omega (arith, ap (λ i. i.chars) e)) (omega (arith, ap (λ i. i.utf16_surrogates) e)) (omega (arith, ap (λ i. i.break_count) e))
 
--- the place is in the k-th child
+-- the index is in the k-th child
 pub record Descends (breaks : LineBreaks) (unit : Unit) (at : ℕ) (ts : List Tree) (k : ℕ) (child : Tree) (front : TextInfo) : Type 0 where
   pub children : AreChildren breaks (height_of ts) ts
   pub within : k < length ts
@@ -137,7 +137,7 @@ pub descends : (unit : Unit) (at : ℕ) (ts : List Tree) (totals : List TextInfo
     → Descends (breaks_of ts) unit at ts k child front
 descends unit at ts totals k child front a h lt is first later not_past past = descends_to unit at ts totals k child front a h lt (sym is) first later not_past past
 
--- what is found in a leaf
+-- the result of a search in a leaf
 pub found_leaf : (unit : Unit) (at : ℕ) (t : Tree) (leaf : List ℕ) (before : TextInfo) → t ≡ leaf_tree t.breaks leaf → ((breaks : LineBreaks) → before ≡ info_of breaks []) → at < count_of unit (info_of t.breaks (text t)) → IsFound unit at t leaf before
 found_leaf unit at t [] before is none lt = absurd (omega (arith, ap (λ u. count_of unit (info_of t.breaks (text u))) is, count_of-nil unit t.breaks))
 found_leaf unit at t (c ∷ cs) before is none lt =
@@ -151,7 +151,7 @@ found_leaf unit at t (c ∷ cs) before is none lt =
       past = rw leaves (let e = ap (λ xs. count_of unit (info_of t.breaks (concat xs))) leaves in omega (arith, e, lt));
     }
 
--- the counts before what is found are small
+-- the counts before the result are within the bounds of a rope's text
 pub small_found : (unit : Unit) (at : ℕ) (t : Tree) (leaf : List ℕ) (before : TextInfo) → IsTree t → IsFound unit at t leaf before → IsSmall before
 small_found unit at t leaf before i f =
     let parts : concat t.leaves ≡ concat (take f.index t.leaves) ++ concat (drop f.index t.leaves) = ap concat (sym (take-append-drop f.index t.leaves)) ∙ concat-append (take f.index t.leaves) (drop f.index t.leaves) in

@@ -1,4 +1,4 @@
--- A tree of no text has no leaves, and is one node.
+-- A tree without text has no leaves, and is one node.
 use Rattle.std.proofs.Common.{◌≡◌, ◌-◌, ◌^◌, [], length, inl, inr, ap, arith}
 use Rattle.std.specs.List.{concat}
 use Rattle.std.proofs.lemmas.List.{nil_from_length}
@@ -9,7 +9,7 @@ use Rattle.rope_text.specs.Text.{byte_len}
 use Rattle.rope_tree.specs.Tree.{Tree, text, IsTree}
 use Rattle.rope_tree.proofs.LeafLaws.{leaves_le}
 
--- a tree with no text has no leaf, and is one
+-- a tree without text has no leaf, and is a single node
 pub no_leaves_of : (t : Tree) → IsTree t → byte_len (text t) ≡ 0 → t.leaves ≡ []
 no_leaves_of t i none = nil_from_length t.leaves (omega (arith, leaves_le t.leaves i.leaves.each, length-le-encodes (concat t.leaves)))
 

@@ -1,4 +1,4 @@
--- What the form of a node says of it.
+-- Properties of a node, by its form.
 use Rattle.std.proofs.Common.{◌≡◌, ℕ, Bool, true, false, min, Option, Some, None, Result, Ok, Err, List, [], ◌∷◌, ◌<◌, ◌≤◌, refl, sym, ap, subst, ◌∙◌, arith}
 use Rattle.std.specs.Prelude.{IfOk, OnErr, IfSome, IfNone}
 use Rattle.std.proofs.lemmas.List.{nil_from_length}
@@ -34,7 +34,7 @@ inner_of a t rc i e view = record {
   children = subst IsForm e i.form;
 }
 
--- what holds of every node
+-- the invariant of every node
 form_is_tree : (f : Form) → IsForm f → IsTree (form_tree f)
 form_is_tree (Empty b) i = is_leaf_tree b [] (omega arith) refl (omega arith)
 form_is_tree (LeafForm rc) i = i.tree
@@ -50,35 +50,35 @@ node_low a t i view = low_tree t (node_tree a t i view)
 pub no_text : (l : List ℕ) → byte_len l ≡ 0 → l ≡ []
 no_text l none = nil_from_length l (omega (arith, length-le-encodes l))
 
--- a leaf, as the pointer has it
+-- a leaf, by its pointer
 pub leaf_seen : (a : Inside) (t : Tree) (rc : Rc Leaf Global) (x : Tree) → a.form ≡ LeafForm rc → tree_of a ≡ t → x ≡ rc.value → t ≡ x
 leaf_seen a t rc x e view is = sym view ∙ ap form_tree e ∙ sym is
 
--- the children, as the pointer has them
+-- the children, by their pointer
 pub inner_seen : (a : Inside) (t : Tree) (rc : Rc Children Global) (ts : List Tree) → IsNode a → a.form ≡ Inner rc → tree_of a ≡ t → ts ≡ rc.value → IsInner t ts
 inner_seen a t rc ts i e view is = subst (IsInner t) (sym is) (inner_of a t rc i e view)
 
--- a leaf that took a text
+-- a leaf after an insert
 pub grown_leaf : (old t : Tree) (ts : List Tree) (new : List ℕ) → IsLeafNode old → IsInserted old (t ∷ ts) new → IsLeafNode t
 grown_leaf old t ts new own i =
     let w = All-head (IsWide old.breaks (min 12 old.width) old.height) t ts i.parts.each in
     record { flat = w.at_height ∙ own.flat; tree = w.tree }
 
--- one that was cut, or wasn't
+-- a leaf that was split, or wasn't
 pub cut_leaf : {E : Type 0} (r : Result (Option Tree) E) (old new : Tree) (s : List ℕ) → IsLeafNode old → IfOk r (λ found. IfSome found (λ back. IsInserted old (new ∷ back ∷ []) s)) → IfOk r (λ found. IfNone found (new ≡ old)) → OnErr r (new ≡ old)
     → IsLeafNode new
 cut_leaf (Ok (Some back)) old new s own cut kept err = grown_leaf old new (back ∷ []) s own cut
 cut_leaf (Ok None) old new s own cut kept err = rw kept own
 cut_leaf (Err e) old new s own cut kept err = rw err own
 
--- and one that lost characters
+-- a leaf after a removal
 pub fallen_leaf : (first last : ℕ) (old t : Tree) (start end : ℕ) → start < end → IsLeafNode old → IsRemoved first last old t start end → IsLeafNode t
 fallen_leaf first last old t start end order own r = record {
   flat = r.same_height ∙ own.flat;
   tree = tree_removed first last old t start end (omega (arith, order)) own.tree r;
 }
 
--- a node whose children took a text, or didn't
+-- both outcomes of a boolean result
 pub by_answer : {P : Type 0} (b : Bool) → (b ≡ true → P) → (b ≡ false → P) → P
 by_answer true f g = f refl
 by_answer false f g = g refl
@@ -87,11 +87,11 @@ pub by_outcome : {E A Q P : Type 0} (r : Result Bool E) (old new : A) → IsTrie
 by_outcome (Ok did) old new i f g = by_answer did (λ y. f (i.done y)) (λ n. g (i.kept n))
 by_outcome (Err e) old new i f g = g i.err
 
--- what was not tried
+-- an edit that was not tried
 pub not_tried : {E A P : Type 0} (old new : A) → new ≡ old → IsTried {E = E} (Ok false) old new P
 not_tried old new same = record { done = λ yes. cc; kept = λ no. same; err = tt }
 
--- the same of what holds it, and of what follows
+-- a try, by the values around the edited one, with a consequence of its property
 pub tried_in : {E A B P Q : Type 0} (r : Result Bool E) (f : A → B) (old new : A) (t u : B) → t ≡ f old → u ≡ f new → (P → Q) → IsTried r old new P → IsTried r t u Q
 tried_in (Ok did) f old new t u e g q i = record { done = λ yes. q (i.done yes); kept = λ no. g ∙ ap f (i.kept no) ∙ sym e; err = tt }
 tried_in (Err x) f old new t u e g q i = record { done = tt; kept = tt; err = g ∙ ap f i.err ∙ sym e }
@@ -108,7 +108,7 @@ grown_children t ts us at s i g = children_after ts us at s i.children g
 pub grown_node : (t : Tree) (ts us : List Tree) (at : ℕ) (s : List ℕ) → IsInner t ts → AreGrown ts us (inserted (joined ts) at s) → IsInserted t (tree_over us ∷ []) (inserted (text t) at s)
 grown_node t ts us at s i g = rw i.is (over_grown ts us at s i.children g)
 
--- a node whose children lost characters
+-- a node after a removal from its children
 pub removed_children : (first last : ℕ) (t : Tree) (ts us : List Tree) (start end : ℕ) → IsInner t ts → AreRemoved first last ts us start end → AreChildren (breaks_of us) (height_of us) us
 removed_children first last t ts us start end i r = children_of_first (breaks_of ts) (height_of ts) us r.children
 

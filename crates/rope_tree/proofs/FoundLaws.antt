@@ -1,4 +1,4 @@
--- Conversions of a tree's text, by the leaf that holds the place.
+-- Conversions of a tree's text, by the leaf that contains the position.
 use Rattle.std.proofs.Common.{◌≡◌, ℕ, suc, ◌+◌, ◌-◌, ◌<◌, ◌≤◌, List, [], ◌∷◌, ◌++◌, length, get_or, take, drop, refl, sym, ap, subst, ◌∙◌, arith, false, nat_le, Some, slice_get}
 use Rattle.std.specs.Str.{encode_utf8_all}
 use Rattle.std.proofs.lemmas.Str.{encodes-append}
@@ -43,7 +43,7 @@ char_to_utf16_end text = ap utf16_len (take_all (length text) text (omega arith)
 pub byte_to_line_end : (breaks : LineBreaks) (text : List ℕ) → byte_to_line breaks text (byte_len text) ≡ break_count breaks text
 byte_to_line_end breaks text = byte_to_line-byte_to_char breaks text (byte_len text) ∙ ap (char_to_line breaks text) (byte_to_char_end text) ∙ char_to_line_end breaks text
 
--- the breaks up to the end of a leaf
+-- the line breaks up to the end of a leaf
 break_count_apart : (t : Tree) (leaf : List ℕ) (k : ℕ) → IsTree t → k < length t.leaves → get_or t.leaves k [] ≡ leaf → break_count t.breaks (before t.leaves k ++ leaf) ≡ break_count t.breaks (before t.leaves k) + break_count t.breaks leaf
 break_count_apart t leaf k i lt is =
     let whole : AreLeaves (take (k + 1) t.leaves ++ drop (k + 1) t.leaves) = rw take-append-drop i.leaves in
@@ -53,7 +53,7 @@ break_count_apart t leaf k i lt is =
     let apart : parts_crlf (before t.leaves k) leaf ≡ false = (rw append-nil at seam.apart) in
     ap (λ x. x.break_count) (info_of-append_apart t.breaks (before t.leaves k) leaf apart)
 
--- the leaf's place in the text, and the text up to its end
+-- the offset of the leaf in the text, and the text up to its end
 pub record LiesAt (t : Tree) (leaf : List ℕ) (front : TextInfo) (k : ℕ) : Type 0 where
   pub within : k < length t.leaves
   pub leaf_is : get_or t.leaves k [] ≡ leaf
@@ -79,7 +79,7 @@ lies_at unit at t leaf front f =
       around = concat_at t.leaves f.index f.within ∙ ap (λ s. before t.leaves f.index ++ (s ++ after t.leaves f.index)) here;
     }
 
--- each conversion is that of the leaf, behind what lies before it
+-- each conversion is that of the leaf, after the text before it
 module _ (at : ℕ) (t : Tree) (leaf : List ℕ) (front : TextInfo) (i : IsTree t) where
   pub found_byte_to_char : IsFound Byte at t leaf front → byte_to_char (text t) at ≡ front.chars + byte_to_char leaf (at - front.bytes)
   found_byte_to_char f =
@@ -136,7 +136,7 @@ module _ (at : ℕ) (t : Tree) (leaf : List ℕ) (front : TextInfo) (i : IsTree 
       ap utf16_len (front_in f.index l f.not_past (omega (arith, l.chars, f.past, more))) ∙ IsMeasure-utf16_len.joined (before t.leaves f.index) (take (at - front.chars) leaf)
       ∙ ap (λ n. n + utf16_len (take (at - front.chars) leaf)) l.units
 
--- the line that starts after the break `at`, counted from 0
+-- the line that starts after the line break `at`, counted from 0
 module _ (at line : ℕ) (t : Tree) (leaf : List ℕ) (front : TextInfo) (i : IsTree t) (f : IsFound LineBreak at t leaf front) (next : line ≡ at + 1) where
   pub found_line_start : line_start t.breaks (text t) line ≡ front.chars + line_start t.breaks leaf (line - front.break_count)
   found_line_start =
@@ -156,7 +156,7 @@ module _ (at line : ℕ) (t : Tree) (leaf : List ℕ) (front : TextInfo) (i : Is
       ∙ ap byte_len (front_in (front.chars + s) t leaf front i f.index l (omega arith) (omega arith)) ∙ IsMeasure-byte_len.joined (before t.leaves f.index) (take ((front.chars + s) - front.chars) leaf)
       ∙ ap (λ n. n + byte_len (take ((front.chars + s) - front.chars) leaf)) l.bytes ∙ ap (λ n. front.bytes + byte_len (take n leaf)) back
 
--- no conversion passes the end
+-- a conversion to characters does not exceed the number of characters
 pub utf16_to_char-le : (text : List ℕ) (u : ℕ) → utf16_to_char text u ≤ length text
 unfolding utf16_to_char
 utf16_to_char-le text u = front-le-length utf16_len IsMeasure-utf16_len text u
@@ -168,14 +168,14 @@ char_to_line-le breaks text i = omega (arith, count_by-le-length (λ p. nat_le p
 pub byte_to_line-le : (breaks : LineBreaks) (text : List ℕ) (b : ℕ) → byte_to_line breaks text b ≤ length text
 byte_to_line-le breaks text b = omega (arith, byte_to_line-byte_to_char breaks text b, char_to_line-le breaks text (byte_to_char text b))
 
--- an element of three lists in a row that lies in the second
+-- an element of three adjacent lists that is in the second
 within_middle : (xs ys zs : List ℕ) (n i : ℕ) → n ≡ length xs + i → i < length ys → slice_get (xs ++ (ys ++ zs)) n ≡ Some (get_or ys i 0)
 within_middle xs ys zs n i e lt =
     ap (slice_get (xs ++ (ys ++ zs))) e
     ∙ slice_get-get_or (xs ++ (ys ++ zs)) (length xs + i) 0 (omega (arith, length-append xs (ys ++ zs), length-append ys zs))
     ∙ ap (λ x. Some x) (get_or-append-add xs (ys ++ zs) i 0 ∙ get_or_append_left ys zs 0 i lt)
 
--- the byte and the character at a place, by the leaf that holds it
+-- the byte and the character at an index, by the leaf that contains it
 module _ (at : ℕ) (t : Tree) (leaf : List ℕ) (front : TextInfo) where
   pub found_byte : IsFound Byte at t leaf front → (at - front.bytes < byte_len leaf) × (slice_get (encode_utf8_all (text t)) at ≡ Some (get_or (encode_utf8_all leaf) (at - front.bytes) 0))
   found_byte f =

@@ -1,4 +1,4 @@
--- The first leaf of a text of two parts.
+-- The first leaf of two adjacent texts.
 use Rattle.std.proofs.Common.{◌≡◌, ℕ, ◌+◌, ◌-◌, ◌<◌, ◌≤◌, ◌||◌, true, false, List, [], ◌++◌, length, take, drop, get_or, ap, ◌∷◌, ap₂, sym, ◌∙◌, arith, append_assoc}
 use Rattle.std.specs.Prelude.{◌==◌}
 use Rattle.std.specs.Str.{chars, IsUtf8}
@@ -14,7 +14,7 @@ use Rattle.rope_text.proofs.CuttingLaws.{parts_crlf-append}
 use Rattle.rope_text.proofs.Walks.{byte_len-chars}
 use Rattle.rope_tree.proofs.BuildLaws.{some_chars}
 
--- the leaf, and what follows it
+-- the leaf, and the text after it
 pub cut_whole : (bs : List ℕ) (r : ℕ) (leaf more whole : List ℕ) → IsCutOff bs r → leaf ≡ chars (take r bs) → more ≡ chars (drop r bs) → chars bs ≡ whole → leaf ++ more ≡ whole
 cut_whole bs r leaf more whole off is_leaf is_more is_whole = ap₂ (λ x y. x ++ y) is_leaf is_more ∙ off.whole ∙ is_whole
 
@@ -27,18 +27,18 @@ inner_cut bs r some inside =
     let end : (r == length bs) ≡ false = grind (arith, nat_tests) in
     ap₂ (λ a b. (a || b) || is_cut_between (get_or bs (r - 1) 0) (get_or bs r 0)) start end
 
--- a cut within the front of a text is one of the text
+-- a legal split position in the front of a text is one in the text
 cut_of_front : (bs : List ℕ) (n r : ℕ) → 0 < r → r < n → n ≤ length bs → is_cut (take n bs) r ≡ is_cut bs r
 cut_of_front bs n r some inside within =
     inner_cut (take n bs) r some (omega (arith, length-take-le n bs within))
     ∙ ap₂ is_cut_between (get_or-take n bs (r - 1) 0 (omega arith)) (get_or-take n bs r 0 inside)
     ∙ sym (inner_cut bs r some (omega arith))
 
--- a leaf that has all of the first part
+-- a leaf that has all of the first text
 pub all_taken : (rest text : List ℕ) (r : ℕ) → length rest ≤ r → drop r (rest ++ text) ≡ drop (r - length rest) text
 all_taken rest text r le = ap (λ k. drop k (rest ++ text)) (let e : r ≡ length rest + (r - length rest) = omega arith in e) ∙ drop-append-add rest text (r - length rest)
 
--- where a text goes on
+-- a text that continues
 module _ (rest text front ahead : List ℕ) (p r : ℕ) (u : IsUtf8 rest) (v : IsUtf8 text) (within : p ≤ length text) (is_front : front ≡ take (p - 0) text) (is_ahead : ahead ≡ rest ++ (front ++ []))
     (some : 0 < r) (inside : r < length rest + p) (cut : is_cut ahead r ≡ true) where
   ahead_is : ahead ≡ take (length rest + p) (rest ++ text)
@@ -64,7 +64,7 @@ apart_behind : (s x u : List ℕ) → 1 ≤ length x → parts_crlf x u ≡ fals
 apart_behind s [] u some apart = absurd (omega (arith, some))
 apart_behind s (c ∷ t) u some apart = parts_crlf-append s c t u ∙ apart
 
--- a leaf of what stands before a text and the front of that
+-- a leaf that consists of the first text and a prefix of the second
 module _ (bs : List ℕ) (r : ℕ) (rest leaf front : List ℕ) (off : IsCutOff bs r) (is_leaf : leaf ≡ rest ++ chars front) (is_front : front ≡ take (r - 0) bs) where
   leaf_chars : leaf ≡ rest ++ chars (take r bs)
   leaf_chars = is_leaf ∙ ap (λ x. rest ++ chars x) (is_front ∙ ap (λ k. take k bs) (omega arith))
@@ -72,7 +72,7 @@ module _ (bs : List ℕ) (r : ℕ) (rest leaf front : List ℕ) (off : IsCutOff 
   pub longer_whole : leaf ++ chars (drop r bs) ≡ rest ++ chars bs
   longer_whole = ap (λ x. x ++ chars (drop r bs)) leaf_chars ∙ append_assoc rest (chars (take r bs)) (chars (drop r bs)) ∙ ap (λ x. rest ++ x) off.whole
 
-  -- nothing of the text is in the leaf
+  -- the leaf has none of the second text
   pub same_apart : r ≡ 0 → parts_crlf rest (chars bs) ≡ false → parts_crlf leaf (chars (drop r bs)) ≡ false
   unfolding chars
   same_apart none apart =

@@ -1,4 +1,4 @@
--- Trees side by side as one.
+-- Adjacent trees as one.
 use Rattle.std.proofs.Common.{◌≡◌, ℕ, ◌+◌, ◌≤◌, List, [], ◌∷◌, length, refl, sym, arith}
 use Rattle.std.specs.List.{All}
 use Rattle.std.proofs.lemmas.List.{append-nil}
@@ -8,7 +8,7 @@ use Rattle.rope_tree.specs.Tree.{Tree, leaves_of, height_of, breaks_of, tree_ove
 use Rattle.rope_tree.specs.Siblings.{gathered}
 use Rattle.rope_tree.proofs.TreeLaws.{is_tree_over}
 
--- what holds of the one
+-- properties of the result
 pub record IsGathered (ts : List Tree) (t : Tree) : Type 0 where
   pub same_breaks : t.breaks ≡ breaks_of ts
   pub leaves : t.leaves ≡ leaves_of ts

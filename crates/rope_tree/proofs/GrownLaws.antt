@@ -1,4 +1,4 @@
--- Children of which one was changed where it stands.
+-- A list of children after one of them was edited in place.
 use Rattle.std.proofs.Common.{◌≡◌, ℕ, zero, suc, ◌+◌, ◌<◌, ◌≤◌, ◌^◌, ◌⊎◌, Bool, true, false, min, List, [], ◌∷◌, ◌++◌, length, get_or, set, take, drop, refl, sym, ap, subst, add-one, ◌∙◌, arith}
 use Rattle.std.proofs.lemmas.List.{length-set, set_split, set-get_or, append-nil}
 use Rattle.std.proofs.lemmas.List.Elements.{All-head, All-weaker}
@@ -21,14 +21,14 @@ use Rattle.rope_tree.proofs.TreeLaws.{wide_weaker, is_leaf_tree}
 use Rattle.rope_tree.proofs.InsertLeaves.{one_inserted, two_inserted}
 use Rattle.rope_tree.proofs.InsertTrees.{replaced, new_text, new_siblings, new_stand, new_length, length-inserted, byte_len-inserted}
 
--- the list with the new child in the old one's place
+-- the list with the new child in place of the old one
 pub set_parts : (ts : List Tree) (k : ℕ) (u : Tree) → k < length ts → set ts k u ≡ take k ts ++ (u ∷ [] ++ drop (k + 1) ts)
 set_parts ts k u lt = set_split ts k u lt ∙ ap (λ n. take k ts ++ (u ∷ [] ++ drop n ts)) (sym (add-one k))
 
 pub same_set : (ts : List Tree) (k : ℕ) (c : Tree) → k < length ts → get_or ts k c ≡ c → set ts k c ≡ ts
 same_set ts k c lt here = ap (λ x. set ts k x) (sym here) ∙ set-get_or ts k c
 
--- a text that went into the child at k
+-- an insert into the child at k
 pub grown : (br : LineBreaks) (h : ℕ) (ts : List Tree) (k : ℕ) (c u : Tree) (a : AreChildren br h ts) (lt : k < length ts) (here : get_or ts k c ≡ c) (at i : ℕ) (s : List ℕ) → 1 ≤ length s
     → at ≡ length (joined (take k ts)) + i → i ≤ length (text c) → (to_right : Bool) → (to_right ≡ true → i < length (text c)) → (to_right ≡ false → at ≡ 0 ⊎ 1 ≤ i) → MayInsert (tree_over ts) at s to_right
     → IsInserted c (u ∷ []) (inserted (text c) i s) → byte_len (joined ts) + byte_len s < 2 ^ 63 → br ≡ breaks_of ts → h ≡ height_of ts → AreGrown ts (set ts k u) (inserted (joined ts) at s)
@@ -45,7 +45,7 @@ grown br h ts k c u a lt here at i s some place within to_right inside outside m
       stand = rw is (new_stand br h ts k c a lt here (tree_over ts) refl at i s some place within (u ∷ []) to_right inside outside may r fits);
     }
 
--- a list with a new child in the old one's place, and another behind it
+-- a list with a new child in place of the old one, and another one after it
 set_and_behind : (ts : List Tree) (k : ℕ) (u b : Tree) → k < length ts → insert (set ts k u) (suc k) b ≡ take k ts ++ (u ∷ b ∷ drop (suc k) ts)
 set_and_behind [] k u b lt = absurd (omega arith)
 set_and_behind (t ∷ ts) zero u b lt = refl
@@ -54,7 +54,7 @@ set_and_behind (t ∷ ts) (suc k) u b lt = ap (λ xs. t ∷ xs) (set_and_behind 
 behind_parts : (ts : List Tree) (k : ℕ) (u b : Tree) → k < length ts → insert (set ts k u) (k + 1) b ≡ take k ts ++ (u ∷ b ∷ [] ++ drop (k + 1) ts)
 behind_parts ts k u b lt = ap (λ n. insert (set ts k u) n b) (add-one k) ∙ set_and_behind ts k u b lt ∙ ap (λ n. take k ts ++ (u ∷ b ∷ [] ++ drop n ts)) (sym (add-one k))
 
--- a text by which the child at k became two
+-- an insert that split the child at k into two
 pub grown_by_one : (br : LineBreaks) (h : ℕ) (ts : List Tree) (k : ℕ) (c u b : Tree) (a : AreChildren br h ts) (lt : k < length ts) (here : get_or ts k c ≡ c) (at i : ℕ) (s : List ℕ) → 1 ≤ length s
     → at ≡ length (joined (take k ts)) + i → i ≤ length (text c) → (to_right : Bool) → (to_right ≡ true → i < length (text c)) → (to_right ≡ false → at ≡ 0 ⊎ 1 ≤ i) → MayInsert (tree_over ts) at s to_right
     → IsInserted c (u ∷ b ∷ []) (inserted (text c) i s) → byte_len (joined ts) + byte_len s < 2 ^ 63 → br ≡ breaks_of ts → h ≡ height_of ts → length ts < 24
@@ -79,7 +79,7 @@ grown_by_one br h ts k c u b a lt here at i s some place within to_right inside 
 pub children_grown : (ts us : List Tree) (new : List ℕ) → AreChildren (breaks_of ts) (height_of ts) ts → AreGrown ts us new → AreChildren (breaks_of ts) (height_of ts) us
 children_grown ts us new a g = children_of (breaks_of ts) (height_of ts) us g.siblings (omega (arith, g.as_many, a.at_least_two)) g.at_most_24
 
--- and the node over them is the old one with the text
+-- the node over them is the old one with the text
 pub node_grown : (t : Tree) (ts us : List Tree) (at : ℕ) (s : List ℕ) → t ≡ tree_over ts → AreChildren (breaks_of ts) (height_of ts) ts → AreGrown ts us (inserted (joined ts) at s)
     → (x : Tree) → x ≡ tree_over us → IsInserted t (x ∷ []) (inserted (text t) at s)
 node_grown t ts us at s is a g x x_is =
@@ -100,7 +100,7 @@ node_grown t ts us at s is a g x x_is =
       };
     })
 
--- what an inserted text makes of a child is a child
+-- a child after an insert is a child
 pub child_grown : (br : LineBreaks) (h : ℕ) (c u : Tree) (new : List ℕ) → IsChild br h c → IsInserted c (u ∷ []) new → IsWide br (min 12 c.width) h u
 child_grown br h c u new own i = rw (sym own.same_breaks, sym own.at_height) (All-head (IsWide c.breaks (min 12 c.width) c.height) u [] i.parts.each)
 
@@ -129,7 +129,7 @@ module _ (br : LineBreaks) (l new : List ℕ) (fits : byte_len new ≤ 984) (sca
   pub leaf_inserted : (at : ℕ) (s : List ℕ) → new ≡ inserted l at s → 1 ≤ length s → IsInserted (leaf_tree br l) (leaf_tree br new ∷ []) (inserted (text (leaf_tree br l)) at s)
   leaf_inserted at s is some = rw leaf_text (one_inserted br l new (inserted l at s) (leaf_tree br new) refl leaf_is_tree is (omega (arith, length-inserted l at s)) (omega (arith, byte_len-inserted l at s)))
 
-  -- what does not fit in stands in another leaf behind
+  -- the rest of a text too long for a leaf is in another leaf after it
   pub leaf_parted : (at : ℕ) (s back : List ℕ) (y : Tree) → y ≡ leaf_tree br back → IsTree y → new ++ back ≡ inserted l at s → (0 < length new) × (0 < length back) × (parts_crlf new back ≡ false) → (491 ≤ byte_len new) × (491 ≤ byte_len back)
       → IsInserted (leaf_tree br l) (leaf_tree br new ∷ y ∷ []) (inserted (text (leaf_tree br l)) at s)
   leaf_parted at s back y y_is y_tree is some halves = rw leaf_text (two_inserted br l new back (inserted l at s) (leaf_tree br new) y refl y_is leaf_is_tree y_tree is some halves)

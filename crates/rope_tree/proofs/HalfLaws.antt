@@ -1,4 +1,4 @@
--- The two halves of a text, and another text put into one of them.
+-- The two halves of a text, and an insert into one of them.
 use Rattle.std.proofs.Common.{◌≡◌, ℕ, zero, suc, ◌+◌, ◌<◌, ◌≤◌, true, false, List, [], ◌∷◌, ◌++◌, length, take, drop, sym, ap, ap₂, subst, ◌∙◌, take-append-drop, arith}
 use Rattle.std.proofs.Math.Seq.{take-append-add, drop-append-add}
 use Rattle.std.proofs.lemmas.List.{append_assoc, take-append-le, drop-append-le, length-drop, length-take-le}
@@ -19,7 +19,7 @@ use Rattle.rope_tree.specs.Halves.{AreHalves}
 use Rattle.rope_tree.specs.Tree.{leaf_tree, IsTree}
 use Rattle.rope_tree.proofs.GrownLaws.{leaf_is_tree}
 
--- a text that is cut near its middle
+-- a text that is split near its middle
 pub halves_at : (room : ℕ) (text front back : List ℕ) (cut : ℕ) → front ≡ take cut text → back ≡ drop cut text → IsUtf8 front → IsUtf8 back → is_cut text cut ≡ true
     → 491 ≤ length front → 491 ≤ length back → length front + room ≤ 984 → length back + room ≤ 984 → cut ≤ length text → AreHalves room text front back
 halves_at room text front back cut front_is back_is front_utf8 back_utf8 is_cut front_least back_least front_room back_room within =
@@ -76,7 +76,7 @@ with_rest : (p r b : List ℕ) → 1 ≤ length r → parts_crlf r b ≡ false �
 with_rest p [] b some apart = absurd (omega arith)
 with_rest p (c ∷ t) b some apart = parts_crlf-append p c t b ∙ apart
 
--- inside of a half it doesn't stand at the seam
+-- inside of a half, the inserted text isn't at the seam
 pub front_seam : (f b s : List ℕ) (at : ℕ) → at < length f → parts_crlf f b ≡ false → parts_crlf (inserted f at s) b ≡ false
 front_seam f b s at inside apart =
     let some : 1 ≤ length (drop at f) = omega (arith, length-drop at f) in

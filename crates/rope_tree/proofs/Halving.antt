@@ -1,4 +1,4 @@
--- What a search by halving keeps.
+-- The invariant of a binary search.
 use Rattle.std.proofs.Common.{◌≡◌, ℕ, ◌+◌, ◌-◌, ◌/◌, ◌<◌, ◌≤◌, min, List, length, get_or, subst, sym, ◌∙◌, arith}
 use Rattle.std.proofs.lemmas.List.{get_or_default}
 use Rattle.rope_tree.specs.Search.{count_of}
@@ -6,7 +6,7 @@ use Rattle.rope_text.specs.declared.text_info.TextInfo.{TextInfo}
 use Rattle.rope_tree.specs.declared.search.Unit.{Unit}
 use Rattle.rope_text.specs.declared.steps.Steps.{Steps}
 
--- how many places are left, after c of five comparisons at most
+-- the number of candidates after c of at most five comparisons
 pub data IsRoom (room c : ℕ) : Type 0 where
   all : room ≡ 32 → c ≤ 0 → IsRoom room c
   in16 : room ≡ 16 → c ≤ 1 → IsRoom room c
@@ -55,7 +55,7 @@ half_room room c d (in4 e l) some less = in2 (omega arith) (omega arith)
 half_room room c d (in2 e l) some less = one (omega arith) (omega arith)
 half_room room c d (one e l) some less = one (omega arith) (omega arith)
 
--- the place sought is one of `room` places from `base` on
+-- the index sought is one of `room` indices from `base` on
 pub record Halves (totals : List TextInfo) (unit : Unit) (at base room : ℕ) (first now : Steps) : Type 0 where
   pub inside : base < length totals
   pub counted : first.compares ≤ now.compares
@@ -67,7 +67,7 @@ pub record Halves (totals : List TextInfo) (unit : Unit) (at base room : ℕ) (f
   pub nodes : now.nodes ≡ first.nodes
   pub made : now.made ≡ first.made
 
--- one comparison more: the half before the place is left, or the half from it on
+-- one more comparison: the lower half remains, or the upper one
 module _ (totals : List TextInfo) (unit : Unit) (at base room next : ℕ) (first now later : Steps) (h : Halves totals unit at base room first now) (some : 1 < room) (within : base + room / 2 < length totals)
     (d : TextInfo) (more : later.compares ≡ now.compares + 1) (nodes : later.nodes ≡ now.nodes) (made : later.made ≡ now.made) where
   room_after : IsRoom (room / 2) (later.compares - first.compares)

@@ -1,4 +1,4 @@
--- The counts of texts that a rope may have.
+-- The counts of the texts that a rope may have.
 use Rattle.std.proofs.Common.{ℕ, ◌*◌, ◌<◌, ◌≤◌, ◌^◌, List, [], ◌∷◌, length, cond, nat_le, nat_lt, length-append, arith}
 use Rattle.std.specs.Char.{encode_utf8}
 use Rattle.std.specs.Str.{encode_utf8_all}
@@ -23,7 +23,7 @@ small_info breaks text fits = record {
   breaks = break_count-le-length breaks text;
 }
 
--- counts that have a sum
+-- counts that may be summed
 pub sum_of_small : (x y : TextInfo) → IsSmall x → IsSmall y → HasSum x y
 sum_of_small x y a b = record {
   bytes = omega (arith, a.bytes, b.bytes);
@@ -40,7 +40,7 @@ small_sum x y a = record {
   breaks = omega (arith, a.bytes, a.chars, a.breaks);
 }
 
--- none of them is above it
+-- no count exceeds the bound
 pub small_below : (info : TextInfo) → IsSmall info → IsBelow (2 ^ 63) info
 small_below info s = record {
   bytes = s.bytes;

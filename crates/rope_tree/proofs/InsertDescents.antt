@@ -23,11 +23,11 @@ last_total breaks totals ts h some d =
 pub inner_some : (breaks : LineBreaks) (h : ℕ) (ts : List Tree) → AreChildren breaks h ts → 1 ≤ length (joined ts)
 inner_some breaks h ts a = omega (arith, (is_wide_over breaks 2 h ts a a.at_least_two).some, leaves_le (leaves_of ts) a.leaves.each)
 
--- before an LF lies a character
+-- a character follows the position before an LF
 pub right_within : (t : Tree) (at : ℕ) (s : List ℕ) (to_right : Bool) → MayInsert t at s to_right → to_right ≡ true → at < length (text t)
 right_within t at s to_right may right = omega (arith, begins_some (drop at (text t)) (may.right right), length-drop at (text t))
 
--- the character to hold lies in the text
+-- the character that the child must contain is in the text
 pub holds_within : (at held n : ℕ) (to_right : Bool) → at ≤ n → 1 ≤ n → (to_right ≡ true → at < n)
     → (to_right ≡ true → held ≡ at) → (to_right ≡ false → at ≡ 0 → held ≡ 0) → (to_right ≡ false → 0 < at → held + 1 ≡ at) → held < n
 holds_within at held n true within some inside right first left = omega (arith, right refl, inside refl)

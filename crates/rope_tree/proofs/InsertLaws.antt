@@ -1,4 +1,4 @@
--- A text that goes into the middle one of three: no CR is parted from an LF.
+-- An insert into the second of three texts splits no CR LF.
 use Rattle.std.proofs.Common.{◌≡◌, ℕ, ◌+◌, ◌<◌, ◌≤◌, Bool, true, false, ◌&&◌, inl, inr, List, [], ◌∷◌, ◌++◌, length, take, drop, refl, sym, ap, subst, ◌∙◌, arith}
 use Rattle.std.proofs.lemmas.Bool.{cases_lt}
 use Rattle.std.proofs.lemmas.List.{append-nil, append_assoc, length-append, take-append-drop, take-append-le, drop-append-le, length-drop, length-take-le, drop_all}
@@ -8,7 +8,7 @@ use Rattle.rope_text.proofs.CuttingLaws.{ends_in_cr-append}
 use Rattle.rope_tree.specs.Leaves.{IsSeam}
 use Rattle.rope_tree.proofs.LeafLaws.{seam_of_left, seam_of_right, seam-take}
 
--- a seam, by the last text before it and the first after it
+-- a seam, by the last text before it and the first text after it
 pub seam_ends : (p q r : List ℕ) → 1 ≤ length q → IsSeam q r → IsSeam (p ++ q) r
 seam_ends p [] r some s = absurd (omega arith)
 seam_ends p (x ∷ xs) r some s = record { apart = rw (ends_in_cr-append p x xs) s.apart }
@@ -39,7 +39,7 @@ module _ (p c n s : List ℕ) (i at : ℕ) (place : at ≡ length p + i) (within
   pub front_of : take at (p ++ (c ++ n)) ≡ p ++ take i c
   front_of = rw (place, take-append-add p (c ++ n) i) (ap (λ x. p ++ x) (take-append-le i c n within))
 
-  -- the whole text with the new one
+  -- the whole text with the inserted one
   pub text_of : p ++ ((take i c ++ (s ++ drop i c)) ++ n) ≡ take at (p ++ (c ++ n)) ++ (s ++ drop at (p ++ (c ++ n)))
   text_of = rw (front_of, rest_of) (simp append_assoc)
 
@@ -76,11 +76,11 @@ module _ (p c n s : List ℕ) (i at : ℕ) (place : at ≡ length p + i) (within
     pub right_child : begins_with_lf (drop at (p ++ (c ++ n))) ≡ true → begins_with_lf (drop i c) ≡ true
     right_child lf = sym (begins_append (drop i c) n (omega (arith, length-drop i c))) ∙ ap begins_with_lf (sym rest_of) ∙ lf
 
-  -- the seam before, where the new text isn't first
+  -- the seam before, if the inserted text isn't first
   pub before_inside : IsSeam p c → 1 ≤ i → IsSeam p (take i c ++ (s ++ drop i c))
   before_inside seam some = seam_begins p (take i c) (s ++ drop i c) (omega (arith, length-take-le i c within)) (seam-take i p c seam)
 
-  -- and where it stands before an LF
+  -- the seam before, if the inserted text is before an LF
   pub before_lf : IsSeam p c → i ≡ 0 → 1 ≤ length c → begins_with_lf (drop at (p ++ (c ++ n))) ≡ true → (r : List ℕ) → IsSeam p r
   before_lf seam none some lf r =
       let first : begins_with_lf c ≡ true = sym (begins_append c n some) ∙ ap (λ j. begins_with_lf (drop j c ++ n)) (sym none) ∙ ap begins_with_lf (sym rest_of) ∙ lf in

@@ -1,4 +1,4 @@
--- What an insert makes becomes one tree.
+-- The results of an insert become one tree.
 use Rattle.std.proofs.Common.{◌≡◌, ℕ, ◌<◌, ◌^◌, eqb, Some, slice_get, List, length, drop, ap, ◌∙◌, arith}
 use Rattle.std.specs.List.{concat}
 use Rattle.std.proofs.lemmas.List.{drop_more}
@@ -12,11 +12,11 @@ use Rattle.rope_tree.proofs.TreeLaws.{breaks_of_wide}
 use Rattle.rope_tree.proofs.NodeLaws.{children_of_first}
 use Rattle.rope_tree.proofs.Gathered.{is_gathered, gathered_tree}
 
--- the character at a place begins what follows
+-- the character at an index begins the rest
 pub begins_at : (xs : List ℕ) (i x : ℕ) → slice_get xs i ≡ Some x → begins_with_lf (drop i xs) ≡ eqb x 10
 begins_at xs i x e = ap begins_with_lf (drop_more xs i x (slice_get_within xs i x e)) ∙ ap (λ d. eqb d 10) (get_or_from_slice_get xs i x x e)
 
--- what an insert made, as one tree
+-- the results of an insert, as one tree
 module _ (old : Tree) (ts : List Tree) (new : List ℕ) (i : IsInserted old ts new) where
   pub root_children : byte_len new < 2 ^ 63 → length ts ≡ 2 → AreChildren (breaks_of ts) (height_of ts) ts
   root_children fits two = children_of_first old.breaks old.height ts (record {

@@ -1,4 +1,4 @@
--- A child is replaced by the one or two that an insert makes of it.
+-- A child is replaced by the nodes that an insert makes of it.
 use Rattle.std.proofs.Common.{◌≡◌, ℕ, ◌+◌, ◌-◌, ◌<◌, ◌≤◌, ◌^◌, Bool, true, false, ◌⊎◌, inl, inr, min, List, [], ◌++◌, length, get_or, take, drop, refl, sym, ap, subst, ◌∙◌, arith}
 use Rattle.std.specs.List.{concat, All}
 use Rattle.std.proofs.lemmas.List.{append_assoc, length-append, length-take-le, length-drop, take-append-drop, take_all, nil_from_length}
@@ -23,7 +23,7 @@ use Rattle.rope_tree.proofs.NodeLaws.{leaves_of-append, joined-append, child_at}
 use Rattle.rope_tree.proofs.Descents.{leaves_at}
 use Rattle.rope_tree.proofs.InsertLaws.{text_of, left_child, left_after, right_after, right_child, before_inside, before_lf, seam_begins}
 
--- an inserted text, its three parts grouped to the right
+-- a text with another inserted, as three texts grouped to the right
 pub inserted_is : (xs : List ℕ) (i : ℕ) (s : List ℕ) → inserted xs i s ≡ take i xs ++ (s ++ drop i xs)
 inserted_is xs i s = append_assoc (take i xs) s (drop i xs)
 
@@ -41,7 +41,7 @@ around ts k ms vs e =
 pub siblings_of_first : (breaks : LineBreaks) (h : ℕ) (ts : List Tree) → 1 ≤ length ts → AreSiblings breaks h ts → AreSiblings (breaks_of ts) (height_of ts) ts
 siblings_of_first breaks h ts some a = rw (height_of_is breaks h ts some a.each, breaks_of_is breaks h ts some a.each) a
 
--- one tree or two stand for the old one
+-- one tree or two replace the old one
 pub replaced : (old : Tree) (ts : List Tree) (new : List ℕ) → IsInserted old ts new → IsReplaced old ts new
 replaced old ts new i = record {
   text_is = i.text_is;
@@ -75,7 +75,7 @@ module _ (breaks : LineBreaks) (h : ℕ) (ts : List Tree) (k : ℕ) (child : Tre
   pub seam_after : IsSeam (text child) (joined (drop (k + 1) ts))
   seam_after = leaves_seam child.leaves (leaves_of (drop (k + 1) ts)) (leaves_right (leaves_of (take k ts)) (child.leaves ++ leaves_of (drop (k + 1) ts)) parted)
 
-  -- what the place of the new text has to meet, for the child as for the node
+  -- the preconditions on the position of the new text, for the child as for the node
   module _ (t : Tree) (is : t ≡ tree_over ts) (at i : ℕ) (s : List ℕ) (some : 1 ≤ length s) (place : at ≡ length (joined (take k ts)) + i) (within : i ≤ length (text child)) where
     rest_is : drop at (text t) ≡ drop at (joined (take k ts) ++ (text child ++ joined (drop (k + 1) ts)))
     rest_is = ap (drop at) (ap text is ∙ text_around)
@@ -105,7 +105,7 @@ module _ (breaks : LineBreaks) (h : ℕ) (ts : List Tree) (k : ℕ) (child : Tre
       | inr l ↦ before_inside (joined (take k ts)) (text child) (joined (drop (k + 1) ts)) s i at place within seam_before l
     ]
 
-    -- the list with the new nodes in the child's place
+    -- the list with the new nodes in place of the child
     module _ (ps : List Tree) (to_right : Bool) (inside : to_right ≡ true → i < length (text child)) (outside : to_right ≡ false → at ≡ 0 ⊎ 1 ≤ i) (may : MayInsert t at s to_right)
         (new : IsReplaced child ps (inserted (text child) i s)) (fits : byte_len (text t) + byte_len s < 2 ^ 63) where
       middle_text : joined ps ≡ take i (text child) ++ (s ++ drop i (text child))
@@ -123,7 +123,7 @@ module _ (breaks : LineBreaks) (h : ℕ) (ts : List Tree) (k : ℕ) (child : Tre
       new_parts : leaves_of (take k ts ++ (ps ++ drop (k + 1) ts)) ≡ leaves_of (take k ts) ++ (leaves_of ps ++ leaves_of (drop (k + 1) ts))
       new_parts = leaves_of-append (take k ts) (ps ++ drop (k + 1) ts) ∙ ap (λ xs. leaves_of (take k ts) ++ xs) (leaves_of-append ps (drop (k + 1) ts))
 
-      -- they may stand where the old ones may
+      -- the new leaves may replace the old ones
       pub new_stand : StandFor 491 491 (leaves_of ts) (leaves_of (take k ts ++ (ps ++ drop (k + 1) ts)))
       new_stand =
           let left = leaves_of (take k ts) in
@@ -168,7 +168,7 @@ module _ (breaks : LineBreaks) (h : ℕ) (ts : List Tree) (k : ℕ) (child : Tre
       pub new_length : length (take k ts ++ (ps ++ drop (k + 1) ts)) + 1 ≡ length ts + length ps
       new_length = omega (arith, length-append (take k ts) (ps ++ drop (k + 1) ts), length-append ps (drop (k + 1) ts), length-take-le k ts (omega arith), length-drop (k + 1) ts)
 
-      -- what the new nodes make
+      -- the result of packing the new nodes
       pub new_node : (rs : List Tree) → leaves_of rs ≡ leaves_of (take k ts ++ (ps ++ drop (k + 1) ts))
           → AreParts (breaks_of (take k ts ++ (ps ++ drop (k + 1) ts))) (length (take k ts ++ (ps ++ drop (k + 1) ts))) (length (take k ts ++ (ps ++ drop (k + 1) ts))) (height_of (take k ts ++ (ps ++ drop (k + 1) ts)) + 1) rs
           → IsInserted t rs (inserted (text t) at s)

@@ -1,4 +1,4 @@
--- Two facts on what a last call answers, as one.
+-- Two facts about the result of a last call, as one.
 use Rattle.std.specs.Prelude.{Result, Ok, Err, IfOk}
 
 pub both_ok : {X E : Type 0} (r : Result X E) (P Q R : X → Type 0) → ((x : X) → P x → Q x → R x) → IfOk r P → IfOk r Q → IfOk r R

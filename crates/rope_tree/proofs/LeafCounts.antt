@@ -1,4 +1,4 @@
--- How many leaves trees have.
+-- The number of leaves of trees.
 use Rattle.std.proofs.Common.{◌≡◌, ℕ, ◌+◌, ◌<◌, ◌^◌, min, List, [], ◌∷◌, ◌++◌, length, get_or, take, drop, refl, sym, ap, ◌∙◌, arith, All}
 use Rattle.std.specs.List.{concat}
 use Rattle.std.proofs.lemmas.List.{length-append, take_more, append-nil, take-append-drop}
@@ -26,7 +26,7 @@ few_leaves breaks h ts i a =
     let same = ap (λ us. length (leaves_of us)) (take-append-drop i ts) in
     omega (arith, whole, same, length-append (leaves_of (take i ts)) (leaves_of (drop i ts)), leaves_le (leaves_of ts) a.leaves.each, length-le-encodes (concat (leaves_of ts)), a.fits)
 
--- leaves side by side, none of them empty
+-- adjacent leaves, none of them empty
 pub lowest : (breaks : LineBreaks) (ts : List Tree) → All (IsChild breaks 0) ts → length (leaves_of ts) ≡ length ts
 lowest breaks [] each = refl
 lowest breaks (t ∷ ts) each =

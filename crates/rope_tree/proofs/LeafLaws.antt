@@ -1,4 +1,4 @@
--- What holds of leaf texts that stand side by side.
+-- Properties of the texts of adjacent leaves.
 use Rattle.std.proofs.Common.{◌≡◌, ℕ, ◌≤◌, ◌<◌, Bool, true, false, ◌&&◌, List, [], ◌∷◌, ◌++◌, length, take, drop, refl, sym, ap, ◌∙◌, arith}
 use Rattle.std.specs.List.{All, concat}
 use Rattle.std.proofs.lemmas.List.{append-nil, append_assoc, length-append, take-append-drop}
@@ -22,7 +22,7 @@ seam-nil xs = record { apart = and_false (ends_in_cr xs) }
 pub nil-seam : (ys : List ℕ) → IsSeam [] ys
 nil-seam ys = record { apart = refl }
 
--- the parts of a text next to a seam
+-- the slices of a text next to a seam
 pub seam_of_right : (p q r : List ℕ) → IsSeam (p ++ q) r → IsSeam q r
 seam_of_right p [] r s = nil-seam r
 seam_of_right p (x ∷ xs) r s = record { apart = rw (ends_in_cr-append p x xs) at s.apart }
@@ -45,7 +45,7 @@ seam-take n xs ys s = seam_of_left xs (take n ys) (drop n ys) (rw take-append-dr
 pub seam-drop : (n : ℕ) (xs ys : List ℕ) → IsSeam xs ys → IsSeam (drop n xs) ys
 seam-drop n xs ys s = seam_of_right (take n xs) (drop n xs) ys (rw take-append-drop s)
 
--- all of two lists side by side
+-- a property of all elements of two adjacent lists
 pub all_left : {A : Type 0} (P : A → Type 0) (xs ys : List A) → All P (xs ++ ys) → All P xs
 all_left P [] ys a = All-nil P
 all_left P (x ∷ xs) ys a = All-cons P x xs (All-head P x (xs ++ ys) a) (all_left P xs ys (All-tail P x (xs ++ ys) a))
@@ -58,7 +58,7 @@ all_right P (x ∷ xs) ys a = all_right P xs ys (All-tail P x (xs ++ ys) a)
 pub nonempty_leaves : (xs : List (List ℕ)) → All IsLeafText xs → All (λ leaf. 0 < length leaf) xs
 nonempty_leaves xs a = All-weaker IsLeafText (λ leaf. 0 < length leaf) (λ leaf i. i.some) xs a
 
--- and each has a byte
+-- each leaf has a byte
 pub leaf_sizes : (xs : List (List ℕ)) → All IsLeafText xs → All (λ leaf. 1 ≤ byte_len leaf) xs
 leaf_sizes xs a = All-weaker IsLeafText (λ leaf. 1 ≤ byte_len leaf) (λ leaf i. omega (arith, i.some, length-le-encodes leaf)) xs a
 
@@ -109,7 +109,7 @@ recuts_kept xs ys a b s near = record {
   last = λ some m n. rw (last_bytes-append n xs ys, last_bytes-some m (last_bytes n xs) ys some) (omega arith);
 }
 
--- leaves stand before the one list, or behind the other
+-- leaves before the first list, or after the second
 pub recuts_right : (zs xs ys new : List (List ℕ)) → AreLeaves (zs ++ xs) → IsSeam (concat (zs ++ xs)) (concat ys) → 1 ≤ length xs → Recuts xs ys new → Recuts (zs ++ xs) ys (zs ++ new)
 recuts_right zs xs ys new a s some r =
     let seam : IsSeam (concat zs) (concat new) = rw (r.same_text, concat-append xs ys) (seam_right_longer (concat zs) (concat xs) (concat ys) (leaves_seam zs xs a) (rw (concat-append zs xs) at s)) in

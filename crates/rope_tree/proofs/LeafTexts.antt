@@ -1,4 +1,4 @@
--- The bytes of a leaf, and the text that they are.
+-- The bytes of a leaf, and its text.
 use Rattle.std.proofs.Common.{◌≡◌, ℕ, true, List, length, sym, ap, ◌∙◌}
 use Rattle.std.specs.Str.{chars, is_utf8, encode_utf8_all}
 use Rattle.std.proofs.lemmas.Str.{encodes-chars, IsUtf8-from_is_utf8}

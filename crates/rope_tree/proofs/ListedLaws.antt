@@ -16,14 +16,14 @@ use Rattle.rope_tree.proofs.TreeLaws.{height_of_is, breaks_of_is}
 use Rattle.rope_tree.proofs.TotalLaws.{totals_after}
 use Rattle.rope_tree.proofs.GrownLaws.{set_parts}
 
--- a child by its place among the nodes
+-- a child by its index among the nodes
 pub seen_at : (a : Inside) (ts : List Tree) (k : ℕ) (d : Tree) → listed a ≡ ts → k < length ts → get_or a.nodes k d ≡ get_or ts k (get_or a.nodes k d)
 seen_at a ts k d view lt =
     let n = length a.totals in
     let few : k < n = omega (arith, ap length view, length-take n a.nodes) in
     sym (get_or-take n a.nodes k d few) ∙ ap (λ xs. get_or xs k d) view ∙ get_or_default ts k d (get_or a.nodes k d) lt
 
--- other children, with their totals, where behind them still stand empty nodes
+-- other children, with their totals, followed by empty nodes
 pub listed_as : (a b : Inside) (ts us : List Tree) → IsListed a → listed a ≡ ts → listed b ≡ us → AreChildren (breaks_of ts) (height_of ts) us → b.height ≡ a.height → b.breaks ≡ a.breaks
     → length b.nodes ≡ 24 → HasTotals (breaks_of us) b.totals us → All IsFlat (drop (length b.totals) b.nodes) → IsListed b
 listed_as a b ts us i view seen g height breaks room totals places =
@@ -38,7 +38,7 @@ listed_as a b ts us i view seen g height breaks room totals places =
       places = places;
     }
 
--- one of the children changed
+-- one changed child
 module _ (a b : Inside) (ts : List Tree) (k : ℕ) (u : Tree) (i : IsListed a) (view : listed a ≡ ts) (lt : k < length ts) (g : AreChildren (breaks_of ts) (height_of ts) (set ts k u)) (height : b.height ≡ a.height) (breaks : b.breaks ≡ a.breaks)
     (nodes : b.nodes ≡ set a.nodes k u) (totals : HasTotals (breaks_of (set ts k u)) b.totals (set ts k u)) where
   few : k < length a.totals
@@ -60,7 +60,7 @@ rotated p x m zs e r =
     let n : length m - 1 ≡ length p = omega (arith, ap length e, length-append p (x ∷ [])) in
     r ∙ (rw (n, e, drop-append_seam p (x ∷ []), take-append_seam p (x ∷ [])) refl)
 
--- the last of some places is turned to the front of those from a place on
+-- the last of some entries is rotated to the front of those from an index on
 pub turned : (ys ws : List Tree) (a : ℕ) (x : Tree) (zs : List Tree) → ws ≡ ys ++ x ∷ [] → a ≤ length ys
     → zs ≡ drop (length (mid_of a (length ws - a) ws) - 1) (mid_of a (length ws - a) ws) ++ take (length (mid_of a (length ws - a) ws) - 1) (mid_of a (length ws - a) ws)
     → put_mid a (length ws - a) ws zs ≡ insert ys a x
@@ -72,13 +72,13 @@ turned ys ws a x zs e le r =
     let front : take a ws ≡ take a ys = ap (take a) e ∙ take-append-le a ys (x ∷ []) le in
     rw (now, none, front, append-nil (x ∷ drop a ys)) refl
 
--- the last place written over
+-- the last entry is overwritten
 pub last_set : (xs : List Tree) (x : Tree) → 1 ≤ length xs → set xs (length xs - 1) x ≡ take (length xs - 1) xs ++ x ∷ []
 last_set xs x some =
     let n = length xs - 1 in
     set_parts xs n x (omega arith) ∙ ap (λ ys. take n xs ++ (x ∷ [] ++ ys)) (drop_all (n + 1) xs (omega arith))
 
--- a node behind the one that was changed, in the first place that was empty
+-- a node after the changed one, in the first empty entry
 pub put_in_place : (a : Inside) (ts : List Tree) (k : ℕ) (u x : Tree) (n : ℕ) (new : List Tree) → IsListed a → listed a ≡ ts → k < length ts → n ≡ length a.totals → n < 24
     → new ≡ insert (take (length (take (n + 1) (set a.nodes k u)) - 1) (take (n + 1) (set a.nodes k u))) (k + 1) x → new ≡ insert (set ts k u) (k + 1) x
 put_in_place a ts k u x n new i view lt n_is some e =
@@ -88,7 +88,7 @@ put_in_place a ts k u x n new i view lt n_is some e =
     let front : take n (take (n + 1) ws) ≡ set ts k u = take-take n (n + 1) ws (omega arith) ∙ take-set-lt n a.nodes k u few ∙ ap (λ m. set (take m a.nodes) k u) n_is ∙ ap (λ xs. set xs k u) view in
     e ∙ ap (λ m. insert (take m (take (n + 1) ws)) (k + 1) x) long ∙ ap (λ xs. insert xs (k + 1) x) front
 
--- one place more is taken
+-- one more entry is in use
 module _ (a b : Inside) (ts us : List Tree) (k : ℕ) (u : Tree) (n : ℕ) (i : IsListed a) (view : listed a ≡ ts) (lt : k < length ts) (g : AreChildren (breaks_of ts) (height_of ts) us) (height : b.height ≡ a.height)
     (breaks : b.breaks ≡ a.breaks) (more : length us ≡ n + 1) (n_is : n ≡ length a.totals) (nodes : b.nodes ≡ us ++ drop (n + 1) (set a.nodes k u)) (totals : HasTotals (breaks_of us) b.totals us) where
   pub more_seen : listed b ≡ us
@@ -102,7 +102,7 @@ module _ (a b : Inside) (ts us : List Tree) (k : ℕ) (u : Tree) (n : ℕ) (i : 
       let room : length b.nodes ≡ 24 = omega (arith, ap length nodes, length-append us (drop (n + 1) (set a.nodes k u)), length-drop (n + 1) (set a.nodes k u), length-set a.nodes k u, i.room, g.at_most_24) in
       listed_as a b ts us i view more_seen g height breaks room totals (rw behind (All-drop IsFlat 1 (drop (length a.totals) a.nodes) i.places))
 
--- the totals where one of the children changed
+-- the totals after one of the children changed
 pub set_totals : (ts : List Tree) (k : ℕ) (child u : Tree) (items seen after : List TextInfo) (old new : TextInfo) → AreChildren (breaks_of ts) (height_of ts) ts → k < length ts → get_or ts k child ≡ child
     → child.breaks ≡ breaks_of ts → AreChildren (breaks_of ts) (height_of ts) (set ts k u) → u.breaks ≡ breaks_of ts → HasTotals (breaks_of ts) seen ts → seen ≡ items → old ≡ info_of child.breaks (text child)
     → new ≡ info_of u.breaks (text u) → length after ≡ length seen → ((j : ℕ) (d : TextInfo) → j < k → get_or after j d ≡ get_or seen j d)

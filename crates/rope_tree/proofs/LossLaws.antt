@@ -1,4 +1,4 @@
--- A child that lost characters among its siblings, and two that lost them one after the other.
+-- A child that lost characters among its siblings, and two that lost them one after another.
 use Rattle.std.proofs.Common.{◌≡◌, ℕ, zero, suc, ◌+◌, ◌-◌, ◌<◌, ◌≤◌, ◌^◌, min, List, [], ◌∷◌, ◌++◌, length, get_or, set, take, drop, refl, sym, ap, ◌∙◌, arith}
 use Rattle.std.proofs.Math.Seq.{drop-append-add}
 use Rattle.std.proofs.lemmas.List.{length-take-le, take-append-le, take-take, drop-drop}
@@ -39,7 +39,7 @@ module _ (ts : List Tree) (k : ℕ) (c u : Tree) (i j start end : ℕ)
       children_removed (breaks_of ts) (height_of ts) ts k c a lt here i j start end held
       wanted ahead low high u r enough more refl refl
 
-  -- by how much the child fell, and the totals that have it
+  -- the decrease of the child's counts, and the totals that include them
   module _ (less none : TextInfo)
       (fell : IsChange less none (info_of c.breaks (text c)) (info_of c.breaks (text u)))
       (totals : List TextInfo) (right : HasTotals (breaks_of ts) totals ts) where
@@ -88,7 +88,7 @@ module _ (ts : List Tree) (k : ℕ) (c u : Tree) (i j start end : ℕ)
     lost_all = change_of_list (breaks_of ts) (height_of ts) ts k c u a lt here lost.children less
         none by_list
 
--- what follows what was removed, removed next
+-- two adjacent ranges, removed one after another
 removed_twice : (t : List ℕ) (a b c : ℕ) → a ≤ b → b ≤ c → b ≤ length t
     → removed (removed t a b) a (a + (c - b)) ≡ removed t a c
 removed_twice t a b c first second within =
@@ -127,7 +127,7 @@ lost_twice first last ts us vs a b c le more within sets heights r s = record {
   stand = stand_twice first last (leaves_of ts) (leaves_of us) (leaves_of vs) r.stand s.stand;
 }
 
--- a leaf among leaves, and how few bytes are enough beside it
+-- a leaf among leaves, and the bytes that it needs beside them
 module _ (br : LineBreaks) (ts : List Tree) (k : ℕ) (c : Tree) (a : AreChildren br 0 ts)
     (lt : k < length ts)
     (here : get_or ts k c ≡ c) (least n : ℕ) (less : n ≤ byte_len (text c)) (is : least ≡ 492 - n)
@@ -162,7 +162,7 @@ module _ (br : LineBreaks) (ts : List Tree) (k : ℕ) (c : Tree) (a : AreChildre
         dense_behind_fewer few few least (leaves_of (drop k ts)) (omega (arith, is, less, own_bytes))
         dense dense
 
--- two places of a list written over, each in a part of it
+-- two overwritten entries of a list, each in a slice of it
 rest_set : (xs : List Tree) (n : ℕ) (v : Tree) → n < length xs
     → take n xs ++ set (drop n xs) 0 v ≡ set xs n v
 rest_set [] n v lt = absurd (omega arith)

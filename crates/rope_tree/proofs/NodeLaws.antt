@@ -1,4 +1,4 @@
--- What holds of nodes, and of trees side by side.
+-- Properties of nodes, and of adjacent trees.
 use Rattle.std.proofs.Common.{◌≡◌, ℕ, ◌+◌, ◌<◌, ◌≤◌, ◌^◌, false, List, [], ◌∷◌, ◌++◌, length, get_or, take, drop, refl, sym, ap, subst, ◌∙◌, arith, inl, inr}
 use Rattle.std.specs.List.{concat}
 use Rattle.std.proofs.lemmas.List.{append-nil, length-append, length-take-le, take_more, take_all, take-take, take-append-drop, get_or_append_left, get_or_push}
@@ -34,7 +34,7 @@ pub leaf_text : (leaf : List ℕ) → concat (one_leaf leaf) ≡ leaf
 leaf_text [] = refl
 leaf_text (c ∷ cs) = append-nil (c ∷ cs)
 
--- children by the facts of the first of them
+-- the properties of children, by those of the first one
 pub children_of_first : (breaks : LineBreaks) (h : ℕ) (ts : List Tree) → AreChildren breaks h ts → AreChildren (breaks_of ts) (height_of ts) ts
 children_of_first breaks h ts a =
     let some : 1 ≤ length ts = omega (arith, a.at_least_two) in
@@ -50,7 +50,7 @@ joined_parts ts k = ap joined (sym (take-append-drop k ts)) ∙ joined-append (t
 pub byte_len-joined : (ts : List Tree) (k : ℕ) → byte_len (joined (take k ts)) ≤ byte_len (joined ts)
 byte_len-joined ts k = omega (arith, ap byte_len (joined_parts ts k), IsMeasure-byte_len.joined (joined (take k ts)) (joined (drop k ts)))
 
--- no CR LF lies across the end of the first trees
+-- no CR LF is split at the end of the first trees
 pub joined_apart : (ts : List Tree) (k : ℕ) (d : Tree) → k < length ts → AreLeaves (leaves_of ts) → parts_crlf (joined (take k ts)) (text (get_or ts k d)) ≡ false
 joined_apart ts k d l a =
     let whole : AreLeaves (leaves_of (take (k + 1) ts) ++ leaves_of (drop (k + 1) ts)) = subst AreLeaves (ap leaves_of (sym (take-append-drop (k + 1) ts)) ∙ leaves_of-append (take (k + 1) ts) (drop (k + 1) ts)) a in
@@ -81,13 +81,13 @@ totals_more breaks ts i totals total lt h e =
       ];
     }
 
--- every total is small
+-- every total is within the bounds of a rope's text
 pub small_totals : (breaks : LineBreaks) (totals : List TextInfo) (ts : List Tree) → HasTotals breaks totals ts → byte_len (joined ts) < 2 ^ 63
     → (k : ℕ) (d : TextInfo) → k < length totals → IsSmall (get_or totals k d)
 small_totals breaks totals ts h fits k d l =
     rw (h.total_at k d (omega (arith, h.as_many))) (small_info breaks (joined (take (k + 1) ts)) (omega (arith, byte_len-joined ts (k + 1))))
 
--- the same tree once more
+-- an equal tree at an index
 pub same_at : (ts : List Tree) (i : ℕ) (n m : Tree) → n ≡ get_or ts i n → m ≡ n → get_or ts i m ≡ m
 same_at ts i n m at is = rw is (sym at)
 
@@ -100,7 +100,7 @@ pub first_breaks : (ts : List Tree) (d : Tree) → 1 ≤ length ts → (get_or t
 first_breaks [] d some = absurd (omega arith)
 first_breaks (t ∷ ts) d some = refl
 
--- the tree at a place among children, and the counts up to its end
+-- the tree at an index among children, and the counts up to its end
 pub child_at : (breaks : LineBreaks) (h : ℕ) (ts : List Tree) (k : ℕ) (child : Tree) → AreChildren breaks h ts → k < length ts → get_or ts k child ≡ child → IsChild breaks h child
 child_at breaks h ts k child a l here = subst (IsChild breaks h) here (All-get_or (IsChild breaks h) ts k child l a.each)
 
@@ -111,7 +111,7 @@ more_at breaks h ts k child a l here =
     let longer : joined (take (k + 1) ts) ≡ joined (take k ts) ++ text child = subst (λ u. joined (take (k + 1) ts) ≡ joined (take k ts) ++ text u) here (joined_more ts k child l) in
     ap (info_of breaks) longer ∙ info_of-append_apart breaks (joined (take k ts)) (text child) apart
 
--- one more node is counted
+-- the counts with one more node
 pub record AddsNode (breaks : LineBreaks) (ts : List Tree) (i : ℕ) (total info : TextInfo) : Type 0 where
   pub small_total : IsSmall total
   pub small_info : IsSmall info

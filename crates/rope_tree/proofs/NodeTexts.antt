@@ -1,4 +1,4 @@
--- A text put in at the byte where a character starts, by characters.
+-- An insert at the byte where a character starts, by characters.
 use Rattle.std.proofs.Common.{◌≡◌, ℕ, ◌++◌, List, take, drop, sym, ap, ap₂, subst, ◌∙◌, refl, arith}
 use Rattle.std.specs.List.{insert_slice}
 use Rattle.std.specs.Str.{chars, IsUtf8, IsCharBoundary}

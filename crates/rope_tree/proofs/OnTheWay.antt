@@ -1,4 +1,4 @@
--- What holds on the way down from a node to the leaf that holds a place of its text.
+-- The invariant of a descent from a node to the leaf that contains an index.
 use Rattle.std.proofs.Common.{◌≡◌, ℕ, ◌+◌, ◌-◌, ◌*◌, ◌<◌, ◌≤◌, false, List, [], ◌∷◌, ◌++◌, length, get_or, take, drop, refl, sym, ap, subst, ◌∙◌, arith}
 use Rattle.std.specs.List.{concat}
 use Rattle.std.proofs.lemmas.List.{append-nil, append_assoc, length-append, get_or-append-add}
@@ -20,7 +20,8 @@ use Rattle.rope_tree.proofs.LeafLaws.{seam_of_left, leaves_seam}
 use Rattle.rope_tree.proofs.Descents.{Descends, count_of-sum, count_of-nil, leaves_at, front_leaves, front_info}
 use Rattle.rope_tree.proofs.Infos.{small_info}
 
--- the node `here` is a part of the tree, before it stand the leaves `left`, and it holds the place, as its place `rest`
+-- the node `here` is on the path: the leaves `left` are before it, and it contains the index, as
+-- `rest` in its own text
 pub record IsOnWay (unit : Unit) (at : ℕ) (t here : Tree) (rest : ℕ) (before : TextInfo) : Type 0 where
   pub left : List (List ℕ)
   pub right : List (List ℕ)
@@ -30,7 +31,7 @@ pub record IsOnWay (unit : Unit) (at : ℕ) (t here : Tree) (rest : ℕ) (before
   pub place : at ≡ count_of unit before + rest
   pub past : rest < count_of unit (info_of here.breaks (text here))
 
--- the steps of a way down from a node of one height to a node of another
+-- the steps of a descent from a node of one height to a node of another
 pub record GoesDown (height low : ℕ) (old new : Steps) : Type 0 where
   pub nodes : new.nodes + low ≡ old.nodes + height
   pub compares : new.compares + 5 * low ≤ old.compares + 5 * height
@@ -49,7 +50,7 @@ at_start unit at t before none lt = record {
   past = lt;
 }
 
--- the leaves before the next node on the way, and those behind it
+-- the leaves before the next node on the path, and those after it
 module _ (ts : List Tree) (k : ℕ) where
   abbrev pub nearer : List (List ℕ) → List (List ℕ)
   nearer left = left ++ leaves_of (take k ts)
@@ -57,7 +58,7 @@ module _ (ts : List Tree) (k : ℕ) where
   abbrev pub farther : List (List ℕ) → List (List ℕ)
   farther right = leaves_of (drop (k + 1) ts) ++ right
 
--- one node further down
+-- one step of the descent
 module _ (unit : Unit) (at : ℕ) (t here : Tree) (rest : ℕ) (before : TextInfo) (ts : List Tree) (k : ℕ) (child : Tree) (front : TextInfo)
     (i : IsTree t) (w : IsOnWay unit at t here rest before) (is : here ≡ tree_over ts) (d : Descends (breaks_of ts) unit rest ts k child front) where
   pub parted : t.leaves ≡ nearer ts k w.left ++ (child.leaves ++ farther ts k w.right)
@@ -103,7 +104,7 @@ module _ (unit : Unit) (at : ℕ) (t here : Tree) (rest : ℕ) (before : TextInf
     past = omega (arith, d.past, d.not_past);
   }
 
--- the leaf at the end of the way
+-- the leaf at the end of the path
 pub at_end : (unit : Unit) (at : ℕ) (t here : Tree) (rest : ℕ) (before : TextInfo) (leaf : List ℕ) → IsTree t → IsOnWay unit at t here rest before → here ≡ leaf_tree here.breaks leaf
     → IsFound unit at t leaf before
 at_end unit at t here rest before [] i w is = absurd (omega (arith, w.past, ap (λ u. count_of unit (info_of here.breaks (text u))) is, count_of-nil unit here.breaks))

@@ -1,4 +1,4 @@
--- Some of the children of a node, and the totals of all of them.
+-- A row of the children of a node, and the totals of all children.
 use Rattle.std.proofs.Common.{◌≡◌, ℕ, ◌+◌, ◌-◌, ◌<◌, ◌≤◌, ◌^◌, inl, inr, min, List, [], ◌∷◌, ◌++◌, length, get_or, take, drop, refl, sym, ap, subst, ◌∙◌, arith}
 use Rattle.std.proofs.lemmas.Bool.{cases_lt}
 use Rattle.std.specs.List.{All}
@@ -26,7 +26,7 @@ use Rattle.rope_tree.proofs.TotalLaws.{same_counts, sums_cancel}
 use Rattle.rope_tree.proofs.SiblingLaws.{byte_len-append, siblings_right}
 use Rattle.rope_tree.proofs.Infos.{small_info}
 
--- the counts of trees side by side are sums
+-- the counts of adjacent trees are sums
 pub counts_both : (b : LineBreaks) (xs ys : List Tree) → AreLeaves (leaves_of (xs ++ ys)) → info_of b (joined (xs ++ ys)) ≡ info_sum (info_of b (joined xs)) (info_of b (joined ys))
 counts_both b xs ys a =
     let apart = (leaves_seam (leaves_of xs) (leaves_of ys) (subst AreLeaves (leaves_of-append xs ys) a)).apart in
@@ -41,7 +41,7 @@ module _ (ts : List Tree) (totals : List TextInfo) (from : ℕ) (p : IsPart ts t
   pub part_within : from + length ts ≤ length p.whole
   part_within = omega (arith, p.within, ap length p.is, length-take (length ts) (drop from p.whole), length-drop from p.whole)
 
-  -- what follows the first of them
+  -- the rest after the first nodes
   pub part_rest : (m k : ℕ) → k ≡ min m (length ts) → IsPart (drop m ts) totals (from + k)
   part_rest m k e = elim (cases_lt (length ts) m) [
     | inl past ↦
@@ -61,7 +61,7 @@ module _ (ts : List Tree) (totals : List TextInfo) (from : ℕ) (p : IsPart ts t
         }
   ]
 
-  -- a total is that of the trees before them, and that of the first of them
+  -- a total is the sum of the counts of the trees before the row and of the first ones in it
   pub part_total : (k : ℕ) (d : TextInfo) → k < length ts → get_or totals (from + k) d ≡ info_sum (info_of (breaks_of p.whole) (joined (take from p.whole))) (info_of (breaks_of p.whole) (joined (take (k + 1) ts)))
   part_total k d lt =
       let b = breaks_of p.whole in
@@ -79,7 +79,7 @@ same_set : (xs ys : List Tree) → 1 ≤ length xs → breaks_of xs ≡ breaks_o
 same_set [] ys some = absurd (omega arith)
 same_set (t ∷ ts) ys some = refl
 
--- the counts of all trees, by the set of line breaks of those and others
+-- the counts of all trees, by the set of line breaks of these trees and others
 front_counts : (xs ys : List Tree) (before : TextInfo) → IsTotalOf xs before → before ≡ info_of (breaks_of (xs ++ ys)) (joined xs)
 front_counts [] ys before is = is.none refl (breaks_of ys)
 front_counts (t ∷ ts) ys before is = is.all (omega arith)
@@ -88,7 +88,7 @@ sums_turned : (base own before : TextInfo) → info_sum (info_sum base own) befo
 sums_turned base own before =
     same_counts (info_sum (info_sum base own) before) (info_sum (info_sum before own) base) (omega arith) (omega arith) (omega arith) (omega arith)
 
--- some of the children of a node behind other trees
+-- a row of the children of a node, after other trees
 module _ (xs ts : List Tree) (totals : List TextInfo) (from : ℕ) (p : IsPart ts totals from) (some : 1 ≤ length ts) (s : AreSiblings (breaks_of (xs ++ ts)) (height_of (xs ++ ts)) (xs ++ ts)) (base before : TextInfo)
     (base_is : base ≡ info_of (breaks_of p.whole) (joined (take from p.whole))) (before_is : IsTotalOf xs before) where
   own_set : breaks_of p.whole ≡ breaks_of (xs ++ ts)
@@ -119,7 +119,7 @@ module _ (xs ts : List Tree) (totals : List TextInfo) (from : ℕ) (p : IsPart t
   pub has_base : (k : ℕ) (d : TextInfo) → k < length ts → HasPart (get_or totals (from + k) d) base
   has_base k d lt = rw (total_is k d lt) (record { bytes = omega arith; chars = omega arith; pairs = omega arith; breaks = omega arith })
 
-  -- where the last total has room in 32 bits, all have
+  -- if the last total fits in 32 bits, all do
   pub part_fits : (k : ℕ) (d : TextInfo) → k < length ts → (get_or totals (from + length ts - 1) d).bytes + before.bytes < 2 ^ 32 + base.bytes → FitsWith (get_or totals (from + k) d) base before
   part_fits k d lt room =
       let n : from + length ts - 1 ≡ from + (length ts - 1) = omega arith in
@@ -135,7 +135,7 @@ module _ (xs ts : List Tree) (totals : List TextInfo) (from : ℕ) (p : IsPart t
         breaks = omega (arith, last, most, room, o.chars, q.chars, o.breaks, q.breaks);
       })
 
-  -- the list with them
+  -- the list with the row
   module _ (a b : NewList) (i : IsNewList a) (view : nodes_in a ≡ xs) (m : ℕ) (m_is : m ≡ length a.totals) (len : length b.totals ≡ length a.totals + length ts)
       (kept : (j : ℕ) (d : TextInfo) → j < length a.totals → get_or b.totals j d ≡ get_or a.totals j d)
       (moved : (j : ℕ) (d : TextInfo) → j < length ts → info_sum (get_or b.totals (length a.totals + j) d) base ≡ info_sum (get_or totals (from + j) d) before)

@@ -1,4 +1,4 @@
--- The leaves that a longer text is cut into.
+-- The leaves into which a medium text is split.
 use Rattle.std.proofs.Common.{◌≡◌, ℕ, ◌+◌, ◌<◌, ◌≤◌, ◌^◌, min, List, [], ◌∷◌, ◌++◌, length, take, drop, sym, ap, ap₂, subst, ◌∙◌, take-append-drop, inl, inr, true, arith}
 use Rattle.std.specs.List.{All, concat}
 use Rattle.std.specs.Str.{chars, IsUtf8}
@@ -25,7 +25,7 @@ use Rattle.rope_tree.proofs.NodeLaws.{leaf_text}
 use Rattle.rope_tree.proofs.StandLaws.{one_leaf_is}
 use Rattle.rope_tree.proofs.TreeLaws.{wide_weaker}
 
--- leaves of half a leaf's bytes may follow any leaf
+-- leaves with half a leaf's bytes may follow any leaf
 long_dense : (n : ℕ) (xs : List (List ℕ)) → 1 ≤ n → All (λ leaf. 491 ≤ byte_len leaf) xs → IsDenseBehind n xs
 long_dense n [] some long = tt
 long_dense n (x ∷ xs) some long =
@@ -89,7 +89,7 @@ pieces_more breaks whole front back t ts s is tree p =
     subst (λ x. ArePieces breaks x (t ∷ ts)) s.joined
     (piece_before breaks front t s.front_utf8 s.front_least is tree ts (chars back) (record { apart = s.apart }) p)
 
--- how a text is split
+-- the split of a text
 pub split_in_halves : (whole front back : List ℕ) → IsUtf8 whole → AreHalves 0 whole front back → IsFirstSplit whole front back
 split_in_halves whole front back u h = record {
   front_utf8 = h.front_utf8;
@@ -127,7 +127,7 @@ split_at_cut whole front back n v w front_is back_is cut long short rest =
       few = inl (omega (arith, first, long));
     }
 
--- they stand for a leaf
+-- the leaves replace one leaf
 pub pieces_stand : (breaks : LineBreaks) (old : List ℕ) (leaf : Tree) (new : List ℕ) (ts : List Tree) → leaf ≡ leaf_tree breaks old → ArePieces breaks new ts → length ts ≤ 6 → IsReplaced leaf ts new
 pieces_stand breaks old leaf new ts is p few =
     rw is (record {

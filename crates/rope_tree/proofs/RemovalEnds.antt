@@ -1,4 +1,4 @@
--- What may stand beside a text that a part was taken out of.
+-- The neighbours that a text may have after a removal.
 use Rattle.std.proofs.Common.{◌≡◌, ℕ, ◌≤◌, Bool, true, false, ◌&&◌, List, [], ◌∷◌, ◌++◌, length, refl, arith}
 use Rattle.std.proofs.lemmas.List.{append-nil, length-append}
 use Rattle.rope_text.specs.Breaks.{begins_with_lf, ends_in_cr}
@@ -21,22 +21,22 @@ first_kept (c ∷ cs) x y p some s = record { apart = s.apart }
 last_kept : (f part b n : List ℕ) → 1 ≤ length b → IsSeam (f ++ (part ++ b)) n → IsSeam (f ++ b) n
 last_kept f part b n some s = seam_ends f b n some (seam_of_right part b n (seam_of_right f (part ++ b) n s))
 
--- out of the middle
+-- from the middle
 ends_of_both : (f part b : List ℕ) → 1 ≤ length f → 1 ≤ length b → KeepsEnds (f ++ (part ++ b)) (f ++ b)
 ends_of_both f part b front back = record { before = λ p s. first_kept f (part ++ b) b p front s; after = λ n s. last_kept f part b n back s }
 
--- from the beginning, up to no LF
+-- from the beginning, if the rest doesn't begin with LF
 ends_of_back : (f part b : List ℕ) → f ≡ [] → 1 ≤ length b → begins_with_lf b ≡ false → KeepsEnds (f ++ (part ++ b)) (f ++ b)
 ends_of_back f part b none back lf = rw none (record { before = λ p s. no_lf p b lf; after = λ n s. seam_of_right part b n s })
 
--- to the end, from behind no CR
+-- up to the end, if the rest doesn't end in CR
 ends_of_front : (f part b : List ℕ) → 1 ≤ length f → b ≡ [] → ends_in_cr f ≡ false → KeepsEnds (f ++ (part ++ b)) (f ++ b)
 ends_of_front f part b front none cr = record {
   before = λ p s. first_kept f (part ++ b) b p front s;
   after = λ n s. rw (none, append-nil) (no_cr f n cr);
 }
 
--- where an end that is bared is none of the two
+-- if the new ends are neither LF first nor CR last
 pub ends_kept : (f part b : List ℕ) → 1 ≤ length (f ++ b)
     → (length f ≡ 0 → begins_with_lf b ≡ false) → (length b ≡ 0 → ends_in_cr f ≡ false)
     → KeepsEnds (f ++ (part ++ b)) (f ++ b)
@@ -46,7 +46,7 @@ ends_kept (x ∷ xs) part [] some first last =
 ends_kept (x ∷ xs) part (y ∷ ys) some first last =
     ends_of_both (x ∷ xs) part (y ∷ ys) (omega arith) (omega arith)
 
--- the ends of a text with a middle that keeps its own
+-- the ends of a text in which the middle keeps its own
 pub ends_around : (l c u r : List ℕ) → 1 ≤ length u → KeepsEnds c u → KeepsEnds (l ++ (c ++ r)) (l ++ (u ++ r))
 ends_around l c u r some k = record { before = λ p s. before l p s; after = λ n s. after r n s } where
   before : (l p : List ℕ) → IsSeam p (l ++ (c ++ r)) → IsSeam p (l ++ (u ++ r))

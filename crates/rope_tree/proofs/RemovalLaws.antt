@@ -1,4 +1,4 @@
--- Characters that are taken out of one leaf below a node.
+-- Characters removed from one leaf below a node.
 use Rattle.std.proofs.Common.{◌≡◌, ℕ, ◌+◌, ◌-◌, ◌<◌, ◌≤◌, true, max, List, [], ◌∷◌, ◌++◌, length, get_or, set, take, drop, refl, sym, ap, subst, ◌∙◌, arith}
 use Rattle.std.specs.List.{concat}
 use Rattle.std.specs.Str.{all_scalars}
@@ -36,7 +36,7 @@ byte_len-removed xs a b order =
       size_le byte_len IsMeasure-byte_len xs a b order,
     )
 
--- as many leaves under as many nodes are a tree
+-- with as many leaves under as many nodes, the result is a tree
 pub tree_removed : (first last : ℕ) (old new : Tree) (a b : ℕ) → a ≤ b → IsTree old → IsRemoved first last old new a b → IsTree new
 tree_removed first last old new a b order t r = record {
   lone = λ z. omega (arith, t.lone (omega (arith, r.same_height)), r.as_many);
@@ -57,7 +57,7 @@ child_removed first last br h old new a b order c r = record {
   tree = tree_removed first last old new a b order c.tree r;
 }
 
--- characters of the middle one of three texts
+-- characters of the second of three texts
 module _ (p c n : List ℕ) (i j start end : ℕ) (first : start ≡ length p + i) (last : end ≡ length p + j) (order : i ≤ j) (within : j ≤ length c) where
   front_is : take start (p ++ (c ++ n)) ≡ p ++ take i c
   front_is = front_of p c n [] i start first (omega arith)
@@ -68,14 +68,14 @@ module _ (p c n : List ℕ) (i j start end : ℕ) (first : start ≡ length p + 
   pub removed_middle : p ++ (removed c i j ++ n) ≡ removed (p ++ (c ++ n)) start end
   removed_middle = rw (front_is, back_is) (simp append_assoc)
 
--- the child at k has the characters from start up to end, as its characters from i up to j
+-- the child at k contains the characters from start up to end, as its characters from i up to j
 pub record Holds (ts : List Tree) (k : ℕ) (c : Tree) (i j start end : ℕ) : Type 0 where
   pub first : start ≡ length (joined (take k ts)) + i
   pub last : end ≡ length (joined (take k ts)) + j
   pub order : i < j
   pub within : j ≤ length (text c)
 
--- the child in which they start, where they end by its total
+-- the child that contains the start also contains the end, by its total
 pub holds : (ts : List Tree) (k : ℕ) (c : Tree) (i start end : ℕ) (totals : List TextInfo) (d : TextInfo)
     → Takes ts k c start i true → HasTotals (breaks_of ts) totals ts → start < end → end ≤ (get_or totals k d).chars → Holds ts k c i (end - (start - i)) start end
 holds ts k c i start end totals d way h order le =
@@ -83,7 +83,7 @@ holds ts k c i start end totals d way h order le =
     let place = way.place in
     record { first = place; last = omega arith; order = omega arith; within = omega (arith, total, place, le, order) }
 
--- a child without some characters, in the old one's place
+-- a child without some characters, in place of the old one
 module _ (br : LineBreaks) (h : ℕ) (ts : List Tree) (k : ℕ) (c : Tree) (a : AreChildren br h ts) (lt : k < length ts) (here : get_or ts k c ≡ c)
     (i j start end : ℕ) (held : Holds ts k c i j start end) where
   before : i ≤ j
@@ -162,7 +162,7 @@ module _ (br : LineBreaks) (h : ℕ) (ts : List Tree) (k : ℕ) (c : Tree) (a : 
       stand = new_stand;
     }
 
--- a node over the children that are left is the old one without the characters
+-- a node over the remaining children is the old one without the characters
 pub over_removed : (first last : ℕ) (t x : Tree) (ts us : List Tree) (start end : ℕ) → t ≡ tree_over ts → x ≡ tree_over us → AreRemoved first last ts us start end → IsRemoved first last t x start end
 over_removed first last t x ts us start end is x_is r =
     let some : 1 ≤ length us = omega (arith, r.children.at_least_two) in
@@ -197,7 +197,7 @@ leaf_removed first last br l new t x start end t_is x_is is order within some en
       stand = leaf_stands first last l new (omega (arith, ap length is, some)) (omega (arith, ap byte_len is, enough)) (omega (arith, ap byte_len is, enough)) (omega (arith, ap length old));
     })
 
--- where it stands
+-- the leaf among its neighbours
 pub leaf_left : (first last : ℕ) (br : LineBreaks) (l new : List ℕ) (start end : ℕ) → new ≡ removed l start end → start < end → end ≤ length (text (leaf_tree br l)) → 1 ≤ length (removed l start end) → KeepsEnds l (removed l start end)
     → max first last ≤ byte_len (removed l start end) → byte_len new ≤ 984 → all_scalars new ≡ true → IsRemoved first last (leaf_tree br l) (leaf_tree br new) start end
 leaf_left first last br l new start end is order within some ends enough fits scalars =

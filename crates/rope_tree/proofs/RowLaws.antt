@@ -28,7 +28,7 @@ counts_more b xs x a =
     let apart = (leaves_seam (leaves_of xs) x.leaves (subst AreLeaves e a)).apart in
     ap (info_of b) (joined-append xs (x ∷ []) ∙ ap (λ l. joined xs ++ l) (joined_one x)) ∙ info_of-append_apart b (joined xs) (text x) apart
 
--- the counts of all trees, by the set of line breaks of those and one more
+-- the counts of all trees, by the set of line breaks of these trees and one more
 front_counts : (xs : List Tree) (x : Tree) (before : TextInfo) → IsTotalOf xs before → before ≡ info_of (breaks_of (xs ++ x ∷ [])) (joined xs)
 front_counts [] x before is = is.none refl x.breaks
 front_counts (t ∷ ts) x before is = is.all (omega arith)
@@ -45,19 +45,19 @@ last_counts_all a m total i e first later =
           ∙ ap (λ us. info_of (breaks_of ts) (joined us)) (take_all m ts (omega (arith, many)));
     }
 
--- with one more tree behind them the totals stay right
+-- the totals stay correct with one more tree after them
 kept : (x : Tree) (xs : List Tree) (totals : List TextInfo) → HasTotals (breaks_of xs) totals xs → HasTotals (breaks_of (xs ++ x ∷ [])) totals xs
 kept x [] totals h = record { as_many = h.as_many; total_at = λ k d p. absurd (omega arith) }
 kept x (t ∷ ts) totals h = h
 
--- one more tree is counted
+-- the counts with one more tree
 pub record AddsTree (xs : List Tree) (x : Tree) (before info : TextInfo) : Type 0 where
   pub small_before : IsSmall before
   pub small_own : IsSmall info
   pub small_sum : IsSmall (info_sum before info)
   pub sum : info_of (breaks_of (xs ++ x ∷ [])) (joined (xs ++ x ∷ [])) ≡ info_sum before info
 
--- the counts with it are those of all
+-- the sum is that of all trees
 pub total_more : (xs : List Tree) (x : Tree) (ys : List Tree) (total : TextInfo) → ys ≡ xs ++ x ∷ [] → total ≡ info_of (breaks_of (xs ++ x ∷ [])) (joined (xs ++ x ∷ [])) → IsTotalOf ys total
 total_more xs x ys total is counts = record {
   none = λ empty. absurd (omega (arith, ap length is, length-append xs (x ∷ [])));
@@ -83,7 +83,7 @@ module _ (xs : List Tree) (x : Tree) (s : AreSiblings (breaks_of (xs ++ x ∷ []
         sum = whole;
       }
 
-  -- the list with it
+  -- the list with one more tree
   module _ (a b : NewList) (n : ℕ) (total : TextInfo) (i : IsNewList a) (view : nodes_in a ≡ xs) (room : length xs < 24) (n_is : n ≡ length a.totals) (totals : b.totals ≡ a.totals ++ total ∷ [])
       (nodes : b.nodes ≡ set a.nodes n x) (total_is : total ≡ info_of (breaks_of (xs ++ x ∷ [])) (joined (xs ++ x ∷ []))) where
     many : n ≡ length xs
@@ -120,7 +120,7 @@ module _ (xs : List Tree) (x : Tree) (s : AreSiblings (breaks_of (xs ++ x ∷ []
           places = rw behind (All-drop IsFlat 1 (drop (length a.totals) a.nodes) i.places);
         }
 
--- trees in front of others
+-- the first of some adjacent trees
 pub front_siblings : (xs ys : List Tree) → AreSiblings (breaks_of (xs ++ ys)) (height_of (xs ++ ys)) (xs ++ ys) → AreSiblings (breaks_of xs) (height_of xs) xs
 front_siblings [] ys s = record { each = All-nil (IsChild (breaks_of []) 0); leaves = no_leaves; fits = omega arith }
 front_siblings (x ∷ xs) ys s = siblings_left _ _ (x ∷ xs) ys s
@@ -128,7 +128,7 @@ front_siblings (x ∷ xs) ys s = siblings_left _ _ (x ∷ xs) ys s
 pub siblings_of : (b : LineBreaks) (h : ℕ) (ts : List Tree) → AreChildren b h ts → AreSiblings b h ts
 siblings_of b h ts a = record { each = a.each; leaves = a.leaves; fits = a.fits }
 
--- the first of some trees, by what they are seen as
+-- the first of some trees, by their model
 pub part_siblings : (whole us more ts : List Tree) → AreSiblings (breaks_of whole) (height_of whole) whole → whole ≡ us ++ more → ts ≡ us → AreSiblings (breaks_of ts) (height_of ts) ts
 part_siblings whole us more ts s e f =
     let p : List Tree → Type 0 = λ l. AreSiblings (breaks_of l) (height_of l) l in
@@ -144,7 +144,7 @@ next_siblings xs ys i x ts s lt here e =
     ap (λ l. xs ++ l) (sym (take-append-drop (i + 1) ys) ∙ ap (λ l. l ++ drop (i + 1) ys) more) ∙ sym (append_assoc xs (take i ys ++ x ∷ []) (drop (i + 1) ys)) ∙ ap (λ l. l ++ drop (i + 1) ys) (sym (append_assoc xs (take i ys) (x ∷ []))) in
     part_siblings (xs ++ ys) us (drop (i + 1) ys) (ts ++ x ∷ []) s whole (ap (λ l. l ++ x ∷ []) e)
 
--- the first of two lists' trees, and what follows them
+-- the first trees of two lists, and the rest
 take_both : (n : ℕ) (xs ys : List Tree) → take n (xs ++ ys) ≡ take n xs ++ take (n - length xs) ys
 take_both n xs ys = elim (cases_lt n (length xs)) [
   | inl l ↦
@@ -165,7 +165,7 @@ drop_both n xs ys = elim (cases_lt n (length xs)) [
       ap (λ m. drop m (xs ++ ys)) more ∙ drop-append-add xs ys (n - length xs) ∙ ap (λ l. l ++ drop (n - length xs) ys) (sym (drop_all n xs (omega arith)))
 ]
 
--- three lists cut in the middle
+-- three lists split in the middle
 module _ (xs ys zs : List Tree) (n m k : ℕ) (half : n ≡ (length xs + length ys + length zs) / 2) (past : m ≡ n - length xs) (later : k ≡ m - length ys) where
   middle : n ≡ length (xs ++ (ys ++ zs)) / 2
   middle = half ∙ ap (λ l. l / 2) (omega (arith, length-append xs (ys ++ zs), length-append ys zs))
@@ -178,6 +178,6 @@ module _ (xs ys zs : List Tree) (n m k : ℕ) (half : n ≡ (length xs + length 
   back_row us vs ws a b c =
       (rw (a, b, c, later, past) refl) ∙ ap (λ l. drop n xs ++ l) (sym (drop_both (n - length xs) ys zs)) ∙ sym (drop_both n xs (ys ++ zs)) ∙ ap (λ l. drop l (xs ++ (ys ++ zs))) middle
 
--- children that are seen as others
+-- children with equal models
 pub children_seen : (b : LineBreaks) (h : ℕ) (ts us : List Tree) → us ≡ ts → AreChildren b h ts → AreChildren (breaks_of us) (height_of us) us
 children_seen b h ts us e a = rw e (children_of_first b h ts a)

@@ -1,4 +1,5 @@
--- Rows of numbers: those of 24, read off a row of twice as many, and those into which others are put.
+-- Rows of numbers: 24 of them, read from a row of twice the length, and rows into which others are
+-- copied.
 use Rattle.std.proofs.Common.{◌≡◌, ℕ, ◌+◌, ◌-◌, ◌<◌, ◌≤◌, List, ◌++◌, length, take, drop, get_or, replicate, ap, ◌∙◌, arith}
 use Rattle.std.proofs.lemmas.List.{length-replicate, length-append, length-take-le, length-drop, get_or-replicate, get_or-drop, get_or-take, get_or_append_left, get_or-append_right}
 
@@ -18,7 +19,7 @@ row_behind a b from j le late lt =
     get_or-take (48 - from - (24 - from)) (drop (24 - from) (replicate 24 a ++ replicate 24 b)) j 0 (omega arith) ∙ get_or-drop (24 - from) (replicate 24 a ++ replicate 24 b) j 0
     ∙ get_or-append_right (replicate 24 a) (replicate 24 b) 24 (24 - from + j) 0 (length-replicate 24 a) (omega arith) ∙ get_or-replicate 24 (24 - from + j - 24) b 0 (omega arith)
 
--- numbers of another row put in from a place on
+-- numbers of another row, copied from an index on
 pub put_before : (at count from : ℕ) (xs ys : List ℕ) (k : ℕ) → at ≤ length xs → k < at → get_or (take at xs ++ (take count (drop from ys) ++ drop (at + count) xs)) k 0 ≡ get_or xs k 0
 put_before at count from xs ys k le lt =
     get_or_append_left (take at xs) (take count (drop from ys) ++ drop (at + count) xs) 0 k (omega (arith, length-take-le at xs le)) ∙ get_or-take at xs k 0 lt

@@ -1,4 +1,4 @@
--- Lists of trees that become the children of one node or two.
+-- Lists of trees that become the children of one node or of two.
 use Rattle.std.proofs.Common.{◌≡◌, ℕ, ◌+◌, ◌/◌, ◌<◌, ◌≤◌, min, List, [], ◌∷◌, ◌++◌, length, take, drop, ap, ◌∙◌, arith}
 use Rattle.std.proofs.lemmas.List.{append-nil, take-append-drop, length-take, length-drop}
 use Rattle.std.proofs.lemmas.List.Elements.{All-nil, All-cons, All-weaker}
@@ -32,7 +32,7 @@ siblings_right breaks h xs ys a = record {
 pub children_of : (breaks : LineBreaks) (h : ℕ) (ts : List Tree) → AreSiblings breaks h ts → 2 ≤ length ts → length ts ≤ 24 → AreChildren breaks h ts
 children_of breaks h ts a some few = record { at_least_two = some; at_most_24 = few; each = a.each; leaves = a.leaves; fits = a.fits }
 
--- the two halves of many children
+-- the two halves of the children of two nodes
 module _ (breaks : LineBreaks) (h : ℕ) (ts : List Tree) (a : AreSiblings breaks h ts) (many : 24 < length ts) (few : length ts ≤ 48) where
   pub first_half : AreChildren breaks h (take (length ts / 2) ts)
   first_half =

@@ -1,4 +1,4 @@
--- Leaves in the place of others, between the same neighbours.
+-- Leaves that replace others, between unchanged neighbours.
 use Rattle.std.proofs.Common.{◌≡◌, ℕ, ◌≤◌, min, List, [], ◌∷◌, ◌++◌, length, refl, arith}
 use Rattle.std.specs.List.{All}
 use Rattle.rope_text.specs.Text.{byte_len}
@@ -7,11 +7,11 @@ use Rattle.rope_text.proofs.DenseLaws.{last_bytes-append, last_bytes_least, dens
 use Rattle.rope_tree.specs.Leaves.{StandFor, IsEnoughBehind, IsEnoughAhead}
 use Rattle.rope_tree.specs.Tree.{one_leaf}
 
--- one leaf in another's place
+-- one leaf that replaces another
 stand_alone : (first last : ℕ) (old new : List ℕ) → min first (byte_len old) ≤ byte_len new → min last (byte_len old) ≤ byte_len new → StandFor first last (old ∷ []) (new ∷ [])
 stand_alone first last old new kept here = record { after = λ n half a. (omega (arith, a.0), tt); ahead = λ n. here }
 
--- two in the place of one
+-- two leaves that replace one
 stand_two : (old front back : List ℕ) → 491 ≤ byte_len front → 491 ≤ byte_len back → StandFor 491 491 (old ∷ []) (front ∷ back ∷ [])
 stand_two old front back first second = record { after = λ n half a. (omega arith, (omega arith, tt)); ahead = λ n. omega arith }
 
@@ -27,7 +27,7 @@ pub leaves_stand : (old front back : List ℕ) (xs : List (List ℕ)) → xs ≡
 leaves_stand [] front back xs is first second there = absurd (omega arith)
 leaves_stand (c ∷ cs) front back xs is first second there = rw is (stand_two (c ∷ cs) front back first second)
 
--- half a leaf is enough anywhere
+-- half a leaf is enough beside any leaf
 pub half_behind : (xs : List (List ℕ)) → All (λ leaf. 1 ≤ byte_len leaf) xs → IsEnoughBehind 491 491 xs
 half_behind xs each = λ n some. omega (arith, last_bytes_least n xs (omega arith) each)
 
@@ -38,7 +38,7 @@ ahead_kept : (wanted last m n : ℕ) (ys : List (List ℕ)) → min last m ≤ n
 ahead_kept wanted last m n [] kept more = omega (arith, more refl)
 ahead_kept wanted last m n (y ∷ ys) kept more = omega arith
 
--- between others that they are enough for
+-- leaves that replace others, between neighbours that they are long enough for
 pub stand_between : (wanted ahead first last : ℕ) (xs old new ys : List (List ℕ)) → IsEnoughBehind wanted first xs → IsEnoughAhead ahead last ys → StandFor first last old new → StandFor wanted ahead (xs ++ (old ++ ys)) (xs ++ (new ++ ys))
 stand_between wanted ahead first last xs old new ys b e s = record {
   after = λ n half a.

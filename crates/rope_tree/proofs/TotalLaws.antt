@@ -1,4 +1,4 @@
--- The totals of children of which one was changed.
+-- The totals of a list of children after one of them changed.
 use Rattle.std.proofs.Common.{◌≡◌, ℕ, zero, suc, ◌+◌, ◌<◌, ◌≤◌, ◌^◌, inl, inr, List, length, get_or, set, take, sym, ap, subst, add-one, ◌∙◌, arith}
 use Rattle.std.proofs.lemmas.Bool.{cases_lt}
 use Rattle.std.proofs.lemmas.List.{length-set, take-set-le, get_or-set_same, get_or-set_other, get_or_default}
@@ -19,7 +19,7 @@ same_counts a b bytes chars pairs breaks =
     (record { bytes = b.bytes; chars = b.chars; utf16_surrogates = b.utf16_surrogates; break_count = b.break_count }) = cc in
     same
 
--- the counts of one of a list, with others for those of a part
+-- an entry of a list in which the counts of a slice are replaced
 pub sum_at : (xs : List TextInfo) (i : ℕ) (d e old new less more : TextInfo) → i < length xs → info_sum old less ≡ get_or xs i e → more ≡ info_sum less new → info_sum more old ≡ info_sum (get_or xs i d) new
 sum_at xs i d e old new less more lt part sum =
     let is : info_sum old less ≡ get_or xs i d = part ∙ get_or_default xs i e d lt in
@@ -54,7 +54,7 @@ module _ (br : LineBreaks) (h : ℕ) (ts us : List Tree) (k : ℕ) (c u : Tree) 
   abbrev pub counted : List Tree → ℕ → TextInfo
   counted xs m = info_of br (joined (take m xs))
 
-  -- the child's counts are in each front that has it
+  -- the counts of the child are included in each prefix that has it
   has_own : (m : ℕ) → k ≡ m → HasPart (counted ts (m + 1)) (info_of br (text c))
   has_own m e = subst (λ n. HasPart (counted ts (n + 1)) (info_of br (text c))) e (subst (λ x. HasPart x (info_of br (text c))) (sym (more_at br h ts k c a lt here)) (part_last (counted ts k) (info_of br (text c))))
 
@@ -67,7 +67,7 @@ module _ (br : LineBreaks) (h : ℕ) (ts us : List Tree) (k : ℕ) (c u : Tree) 
     | inr ge ↦ has_own (suc m) (omega arith)
   ]
 
-  -- in each front that has it, the counts of the child as it is now are in place of those of the old
+  -- in each prefix that has it, the counts of the changed child replace those of the old one
   module _ (b : AreChildren br h us) (is : us ≡ set ts k u) where
     same_front : (m : ℕ) → m ≤ k → counted us m ≡ counted ts m
     same_front m le = ap (λ xs. info_of br (joined (take m xs))) is ∙ ap (λ xs. info_of br (joined xs)) (take-set-le m ts k u le)
@@ -98,7 +98,7 @@ module _ (br : LineBreaks) (h : ℕ) (ts us : List Tree) (k : ℕ) (c u : Tree) 
       | inr ge ↦ even_own (suc m) (omega arith)
     ]
 
-    -- and where the whole text has few bytes, so has each front
+    -- if the whole text has few bytes, so has each prefix
     pub fits_after : byte_len (joined us) < 2 ^ 32 → (m : ℕ) → k ≤ m → m < length ts → FitsWith (counted ts (m + 1)) (info_of br (text c)) (info_of br (text u))
     fits_after few m from within =
         let low = info_within br (joined (take (m + 1) us)) 4294967295 (omega (arith, byte_len-joined us (m + 1), few)) in
@@ -110,7 +110,7 @@ module _ (br : LineBreaks) (h : ℕ) (ts us : List Tree) (k : ℕ) (c u : Tree) 
           breaks = omega (arith, low.breaks, ap (λ t. t.break_count) e);
         }
 
-    -- so the totals are right again
+    -- the totals are correct after the change
     pub totals_after : (totals after : List TextInfo) → HasTotals br totals ts → length after ≡ length totals
         → ((j : ℕ) (d : TextInfo) → j < k → get_or after j d ≡ get_or totals j d)
         → ((j : ℕ) (d : TextInfo) → k ≤ j → j < length totals → info_sum (get_or after j d) (info_of br (text c)) ≡ info_sum (get_or totals j d) (info_of br (text u)))

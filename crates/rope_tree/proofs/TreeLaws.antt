@@ -1,4 +1,4 @@
--- What holds of trees.
+-- Properties of trees.
 use Rattle.std.proofs.Common.{◌≡◌, true, ℕ, zero, suc, ◌+◌, ◌-◌, ◌*◌, ◌^◌, ◌<◌, ◌≤◌, List, [], ◌∷◌, length, ap, arith}
 use Rattle.std.specs.List.{concat, All}
 use Rattle.std.proofs.Math.Nat.{pow-suc, pow-le-pow_right, one-le-pow, mul-le-mul_right}
@@ -103,7 +103,7 @@ is_leaf_tree breaks (x ∷ xs) fits scalars few = record {
 pow18 : (n : ℕ) → 18 ≤ n → 12 ^ 18 ≤ 12 ^ n
 pow18 n le = pow-le-pow_right {n = 12} (omega arith) le
 
--- and so is a tree
+-- the height of a tree is at most 18
 pub low_tree : (t : Tree) → IsTree t → t.height ≤ 18
 low_tree t i = elim (cases_lt t.height 19) [
   | inl l ↦ omega arith

@@ -1,4 +1,4 @@
--- An index counted in one unit, as one that counts in another.
+-- Conversions of an index from one unit to another.
 use Rattle.std.specs.Prelude.{ℕ, List, length, Bool, true, false}
 use Rattle.rope_text.specs.declared.line_breaks.LineBreaks.{LineBreaks}
 use Rattle.rope_text.specs.Text.{byte_len, utf16_len}
@@ -7,14 +7,14 @@ use Rattle.rope_text.specs.Conversions.{byte_to_char, byte_to_line, char_to_byte
 use Rattle.rope_tree.specs.declared.search.Unit.{Unit}
 use Rattle.rope_tree.specs.declared.search.Unit.TheVariants.{Byte, Char, CodeUnit, LineBreak}
 
--- the index of the end of a text; of lines it is the one past the last
+-- the index of the end of a text; for lines it is one past the last
 abbrev pub end_index : Unit → LineBreaks → List ℕ → ℕ
 end_index Byte breaks text = byte_len text
 end_index Char breaks text = length text
 end_index CodeUnit breaks text = utf16_len text
 end_index LineBreak breaks text = line_count breaks text
 
--- the first index that a tree is entered for: where the first line starts is known
+-- the first index for which a tree is searched: 1 for lines, since the first line starts at 0
 abbrev pub first_sought : Unit → ℕ
 first_sought LineBreak = 1
 first_sought _ = 0
@@ -31,7 +31,7 @@ are_converted LineBreak Byte = true
 are_converted LineBreak Char = true
 are_converted _ _ = false
 
--- the index in the second unit of the place that an index in the first one names
+-- the index in the second unit of the position that an index in the first unit names
 abbrev pub converted : Unit → Unit → LineBreaks → List ℕ → ℕ → ℕ
 converted Byte Char breaks text idx = byte_to_char text idx
 converted Byte LineBreak breaks text idx = byte_to_line breaks text idx

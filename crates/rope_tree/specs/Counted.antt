@@ -7,7 +7,8 @@ pub record Counted : Type 0 where
   pub breaks : LineBreaks
   pub info : TextInfo
 
--- a text of at most so many bytes may have the counts: none is above its bytes, and a pair takes four of them
+-- counts that a text of at most `most` bytes may have: none exceeds its bytes, and a surrogate pair
+-- takes four of them
 pub record AreWithin (most : ℕ) (info : TextInfo) : Type 0 where
   pub chars : info.chars ≤ most
   pub pairs : 4 * info.utf16_surrogates ≤ most

@@ -1,4 +1,4 @@
--- Each child is smaller than the list that holds it, and each list than its node.
+-- Sizes for termination: each child is smaller than its list, and each list than its node.
 use Rattle.std.specs.Prelude.{ℕ, List, [], ◌∷◌, ◌≤◌, ◌+◌, max, length, take, drop}
 use Rattle.std.proofs.Common.{zero, suc, arith}
 use Rattle.std.specs.List.{All}
@@ -14,7 +14,7 @@ use Rattle.rope_tree.specs.Flat.{IsFlat}
 use Rattle.rope_tree.specs.Listed.{tallest, listed, IsListed}
 use Rattle.rope_tree.specs.Shape.{form_tree, IsForm}
 
--- trees above others that are no higher than a leaf
+-- trees followed by others that are no higher than a leaf
 most_le_tallest : (n : ℕ) (ts : List Tree) → All IsFlat (drop n ts) → most (λ (t : Tree). t.height + t.height + 1) ts ≤ tallest (take n ts)
 most_le_tallest zero [] low = omega arith
 most_le_tallest zero (t ∷ ts) low = omega (arith, All-head IsFlat t ts low, most_le_tallest zero ts (All-tail IsFlat t ts low))

@@ -1,4 +1,4 @@
--- What a descent to a leaf finds.
+-- The result of a descent to a leaf.
 use Rattle.std.specs.Prelude.{◌≡◌, ℕ, ◌+◌, ◌≤◌, ◌<◌, List, [], length, take, slice_index_or}
 use Rattle.std.specs.List.{concat}
 use Rattle.rope_text.specs.declared.text_info.TextInfo.{TextInfo}
@@ -7,7 +7,7 @@ use Rattle.rope_tree.specs.declared.search.Unit.{Unit}
 use Rattle.rope_tree.specs.Search.{count_of}
 use Rattle.rope_tree.specs.Tree.{Tree}
 
--- the leaf that holds the place `at`, and the counts of the text before it
+-- the leaf that contains the index `at`, and the counts of the text before it
 pub record IsFound (unit : Unit) (at : ℕ) (t : Tree) (leaf : List ℕ) (before : TextInfo) : Type 0 where
   pub index : ℕ
   pub within : index < length t.leaves

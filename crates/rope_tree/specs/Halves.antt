@@ -1,10 +1,11 @@
--- A text cut into two, for two leaves.
+-- A text split into two, for two leaves.
 use Rattle.std.specs.Prelude.{◌≡◌, ℕ, ◌+◌, ◌≤◌, false, List, ◌++◌, length}
 use Rattle.std.specs.Str.{chars, IsUtf8}
 use Rattle.rope_text.specs.declared.TheConstants.{MAX_BYTES, MIN_HALF_BYTES}
 use Rattle.rope_text.specs.Cutting.{parts_crlf}
 
--- the bytes of the two are those of the text; each has half a leaf at least, but for a byte, and room for so many more; the cut parts no CR from an LF
+-- the two halves have the bytes of the text; each has at least half a leaf's bytes less one, and
+-- room for `room` more; no CR LF is split
 pub record AreHalves (room : ℕ) (text front back : List ℕ) : Type 0 where
   pub front_utf8 : IsUtf8 front
   pub back_utf8 : IsUtf8 back

@@ -1,4 +1,4 @@
--- What a leaf's fields are seen as, and what holds of them.
+-- The model and the invariant of a leaf.
 use Rattle.std.specs.Prelude.{◌≡◌, ◌≤◌, true}
 use Rattle.std.specs.Str.{all_scalars}
 use Rattle.rope_text.specs.declared.TheConstants.{MAX_BYTES}
@@ -10,7 +10,7 @@ use Rattle.rope_tree.specs.declared.leaf.Leaf.TheInside.{Inside}
 abbrev pub leaf_of : Inside → Tree
 leaf_of a = leaf_tree a.summary.breaks a.text
 
--- a text that fits, with its counts
+-- a text that fits in a leaf, with its counts
 pub record IsLeaf (a : Inside) : Type 0 where
   pub fits : byte_len a.text ≤ MAX_BYTES
   pub scalars : all_scalars a.text ≡ true

@@ -1,4 +1,4 @@
--- The texts of leaves that stand side by side.
+-- The texts of adjacent leaves.
 use Rattle.std.specs.Prelude.{◌≡◌, ℕ, ◌+◌, ◌≤◌, true, false, min, List, ◌++◌, length}
 use Rattle.std.specs.List.{All, concat}
 use Rattle.std.specs.Str.{all_scalars}
@@ -7,7 +7,7 @@ use Rattle.rope_text.specs.Text.{byte_len}
 use Rattle.rope_text.specs.Cutting.{parts_crlf, KeepsCrlf}
 use Rattle.rope_text.specs.Dense.{IsDenseBehind, AreDense, last_bytes}
 
--- no CR at the end of the one stands before an LF at the beginning of the other
+-- a seam, the boundary between two leaves: no CR before it meets an LF after it
 pub record IsSeam (before after : List ℕ) : Type 0 where
   pub apart : parts_crlf before after ≡ false
 
@@ -17,29 +17,33 @@ pub record IsLeafText (leaf : List ℕ) : Type 0 where
   pub fits : byte_len leaf ≤ MAX_BYTES
   pub scalars : all_scalars leaf ≡ true
 
--- each is the text of a leaf, none ends in CR where what follows it begins with LF, and any two side by side have 492 bytes or more together
+-- each is the text of a leaf, no CR LF is split between two leaves, and any two adjacent ones have
+-- at least 492 bytes together
 pub record AreLeaves (leaves : List (List ℕ)) : Type 0 where
   pub each : All IsLeafText leaves
   pub whole : KeepsCrlf leaves
   pub dense : AreDense leaves
 
--- the leaves of two lists as others of the same text, which may stand behind what the first of them may stand behind, and whose last is as long
+-- leaves with the text of two lists, which may follow any leaf that the first list may follow, and
+-- whose last leaf is as long as that of the second
 pub record Recuts (left right new : List (List ℕ)) : Type 0 where
   pub same_text : concat new ≡ concat (left ++ right)
   pub leaves : AreLeaves new
   pub behind : 1 ≤ length left → (n : ℕ) → IsDenseBehind n left → IsDenseBehind n new
   pub last : 1 ≤ length right → (m n : ℕ) → last_bytes m right ≤ last_bytes n new
 
--- other leaves in the place of old ones: they may follow a leaf of n bytes, if the old ones may and n and `first` are 492 or more; and the last of them is as long as the old one or as `last`
+-- leaves that replace others: they may follow a leaf of n bytes if the old ones may and n and
+-- `first` are at least 492 together; and the last leaf is as long as the old last one or as `last`
 pub record StandFor (first last : ℕ) (old new : List (List ℕ)) : Type 0 where
   pub after : (n : ℕ) → MIN_TWO_LEAVES_BYTES ≤ n + first → IsDenseBehind n old → IsDenseBehind n new
   pub ahead : (n : ℕ) → min last (last_bytes n old) ≤ last_bytes n new
 
--- so many bytes are enough for a leaf behind these, and where there are none, as many as are wanted there
+-- `first` bytes are enough for a leaf after these; if there are none, they are enough where
+-- `wanted` bytes are
 abbrev pub IsEnoughBehind : ℕ → ℕ → List (List ℕ) → Type 0
 IsEnoughBehind wanted first before = (n : ℕ) → MIN_TWO_LEAVES_BYTES ≤ n + wanted → MIN_TWO_LEAVES_BYTES ≤ last_bytes n before + first
 
--- so many bytes are enough for a leaf before these, and where there are none, as many as are wanted there
+-- `last` bytes are enough for a leaf before these; if there are none, `last` is at least `wanted`
 pub record IsEnoughAhead (wanted last : ℕ) (after : List (List ℕ)) : Type 0 where
   pub dense : IsDenseBehind last after
   pub at_end : length after ≡ 0 → wanted ≤ last

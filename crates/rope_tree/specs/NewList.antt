@@ -1,4 +1,4 @@
--- What holds of a list of children that is being made.
+-- The invariant of a list of children under construction.
 use Rattle.std.specs.Prelude.{◌≡◌, List, length, take, drop}
 use Rattle.std.specs.List.{All}
 use Rattle.rope_text.specs.declared.TheConstants.{MAX_CHILDREN}
@@ -7,7 +7,7 @@ use Rattle.rope_tree.specs.Tree.{Tree, breaks_of}
 use Rattle.rope_tree.specs.Totals.{HasTotals}
 use Rattle.rope_tree.specs.Flat.{IsFlat}
 
--- the places of its nodes, and the totals of the first of them
+-- the entries of its nodes, and the totals of the first of them
 pub record NewList : Type 0 where
   pub totals : List TextInfo
   pub nodes : List Tree
@@ -19,7 +19,7 @@ new_list totals nodes = record { totals = totals; nodes = nodes }
 abbrev pub nodes_in : NewList → List Tree
 nodes_in a = take (length a.totals) a.nodes
 
--- the totals are those of these nodes, and behind them stand empty ones
+-- the totals are those of these nodes, and the entries after them are empty nodes
 pub record IsNewList (a : NewList) : Type 0 where
   pub room : length a.nodes ≡ MAX_CHILDREN
   pub totals_right : HasTotals (breaks_of (nodes_in a)) a.totals (nodes_in a)

@@ -1,4 +1,4 @@
--- The leaves that a text longer than a leaf is cut into.
+-- The leaves into which a medium text is split.
 use Rattle.std.specs.Prelude.{◌≡◌, ℕ, ◌+◌, ◌≤◌, ◌⊎◌, false, List, ◌++◌, length}
 use Rattle.std.specs.List.{All}
 use Rattle.std.specs.Str.{chars, IsUtf8}
@@ -9,7 +9,7 @@ use Rattle.rope_text.specs.Cutting.{parts_crlf}
 use Rattle.rope_tree.specs.Leaves.{AreLeaves}
 use Rattle.rope_tree.specs.Tree.{Tree, text, joined, leaves_of, IsChild}
 
--- leaves of this text, each of half a leaf's bytes or more, but for one byte
+-- leaves of this text, each with at least half a leaf's bytes less one
 pub record ArePieces (breaks : LineBreaks) (new : List ℕ) (ts : List Tree) : Type 0 where
   pub text_is : joined ts ≡ new
   pub leaves : AreLeaves (leaves_of ts)
@@ -17,7 +17,8 @@ pub record ArePieces (breaks : LineBreaks) (new : List ℕ) (ts : List Tree) : T
   pub each : All (IsChild breaks 0) ts
   pub long : All (λ leaf. MIN_HALF_BYTES ≤ byte_len leaf) (leaves_of ts)
 
--- the bytes of a text, of which a leaf was split off, and the rest of them: both have half a leaf's bytes or more, but for one; and either the leaf is as full as a cut leaves it, or the rest is a leaf
+-- the bytes of a leaf split off a text, and the rest: both have at least half a leaf's bytes less
+-- one; and either the leaf is as full as a split leaves it, or the rest fits in a leaf
 pub record IsFirstSplit (text front back : List ℕ) : Type 0 where
   pub front_utf8 : IsUtf8 front
   pub back_utf8 : IsUtf8 back

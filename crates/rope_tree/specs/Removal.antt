@@ -1,4 +1,4 @@
--- What a removal of characters from one leaf of a tree gives.
+-- Results of removals of characters from leaves.
 use Rattle.std.specs.Prelude.{◌≡◌, ℕ, ◌+◌, ◌-◌, ◌≤◌, false, List, length, take, drop}
 use Rattle.rope_text.specs.declared.TheConstants.{MIN_TWO_LEAVES_BYTES}
 use Rattle.rope_text.specs.Text.{byte_len}
@@ -7,19 +7,23 @@ use Rattle.rope_text.specs.Edit.{removed}
 use Rattle.rope_tree.specs.Leaves.{AreLeaves, IsSeam, StandFor}
 use Rattle.rope_tree.specs.Tree.{Tree, text, joined, leaves_of, height_of, breaks_of, AreChildren}
 
--- what may stand before the old text may stand before the new one, and what may follow it may follow the new one, with no CR before an LF
+-- any text that may precede the old text without a CR LF between them may precede the new one, and
+-- any text that may follow the old one may follow the new one
 pub record KeepsEnds (old new : List ℕ) : Type 0 where
   pub before : (p : List ℕ) → IsSeam p old → IsSeam p new
   pub after : (n : List ℕ) → IsSeam old n → IsSeam new n
 
--- a leaf of this text may lose the characters from a up to b: something stays, of as many bytes as are wanted, and neither an LF comes first nor a CR last that didn't
+-- a leaf of this text may lose the characters from a up to b: the rest is not empty and has at
+-- least `least` bytes, and neither begins with LF nor ends in CR unless the leaf does
 pub record Spares (least a b : ℕ) (t : List ℕ) : Type 0 where
   pub some : 1 ≤ byte_len (removed t a b)
   pub enough : least ≤ byte_len (removed t a b)
   pub first : length (take a t) ≡ 0 → begins_with_lf (drop b t) ≡ false
   pub last : length (drop b t) ≡ 0 → ends_in_cr (take a t) ≡ false
 
--- the tree of the text without the characters from a up to b: as many leaves as before, none of them empty; they stand for the old ones where so many bytes are wanted at the two ends
+-- the tree without the characters from a up to b: with as many leaves as before, none of them
+-- empty, and with leaves that may replace the old ones where `first` and `last` bytes are wanted at
+-- the two ends
 pub record IsRemoved (first last : ℕ) (old new : Tree) (a b : ℕ) : Type 0 where
   pub text_is : text new ≡ removed (text old) a b
   pub ends : KeepsEnds (text old) (text new)
@@ -30,7 +34,7 @@ pub record IsRemoved (first last : ℕ) (old new : Tree) (a b : ℕ) : Type 0 wh
   pub leaves : AreLeaves new.leaves
   pub stand : StandFor first last old.leaves new.leaves
 
--- as many children of the text without the characters from a up to b, over as many leaves as before
+-- children without the characters from a up to b, as many as before, over as many leaves
 pub record AreRemoved (first last : ℕ) (old new : List Tree) (a b : ℕ) : Type 0 where
   pub text_is : joined new ≡ removed (joined old) a b
   pub ends : KeepsEnds (joined old) (joined new)
@@ -39,7 +43,8 @@ pub record AreRemoved (first last : ℕ) (old new : List Tree) (a b : ℕ) : Typ
   pub children : AreChildren (breaks_of old) (height_of old) new
   pub stand : StandFor first last (leaves_of old) (leaves_of new)
 
--- two leaves side by side: the first lost its characters from a on, the second its first b; `first` and `last` are the bytes that are wanted where others stand beside them, and the two have enough together
+-- two adjacent leaves: the first lost its characters from a on, the second its first b; `first` and
+-- `last` are the bytes wanted beside their neighbours, and the two have enough together
 pub record AreShortened (first last a b : ℕ) (left now right after : Tree) : Type 0 where
   pub end : IsRemoved first (MIN_TWO_LEAVES_BYTES - byte_len (text after)) left now a (length (text left))
   pub start : IsRemoved (MIN_TWO_LEAVES_BYTES - byte_len (text now)) last right after 0 b

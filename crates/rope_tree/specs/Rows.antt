@@ -1,11 +1,11 @@
--- Nodes side by side, and the running totals that tell their counts.
+-- Rows of adjacent nodes, and the running totals that give their counts.
 use Rattle.std.specs.Prelude.{◌≡◌, ◌≤◌, ℕ, List, length, take, drop, IfSome}
 use Rattle.rope_text.specs.declared.text_info.TextInfo.{TextInfo}
 use Rattle.rope_tree.specs.Tree.{Tree, height_of, breaks_of, AreChildren}
 use Rattle.rope_tree.specs.Totals.{HasTotals}
 use Rattle.rope_tree.specs.declared.node.row.Row.{Row}
 
--- the trees are some of the children of a node with these totals, and so many stand before them
+-- the trees are some of the children of a node with these totals, and `from` children precede them
 pub record IsPart (ts : List Tree) (totals : List TextInfo) (from : ℕ) : Type 0 where
   pub whole : List Tree
   pub children : AreChildren (breaks_of whole) (height_of whole) whole
@@ -13,6 +13,6 @@ pub record IsPart (ts : List Tree) (totals : List TextInfo) (from : ℕ) : Type 
   pub within : from ≤ length whole
   pub is : ts ≡ take (length ts) (drop from whole)
 
--- where totals are given, they are those
+-- if a row has totals, they are those of the parent
 abbrev pub IsRow : Row → Type 0
 IsRow a = IfSome a.totals (λ totals. IsPart a.nodes.now totals.now a.from)

@@ -1,4 +1,4 @@
--- What searches add to the counts of an edit.
+-- Searches counted by an edit.
 use Rattle.std.specs.Prelude.{ℕ, ◌+◌, ◌≤◌}
 use Rattle.rope_tree.specs.declared.editor.Editor.{Editor}
 

@@ -1,4 +1,4 @@
--- What a node's form is seen as, and what holds of it.
+-- The model and the invariant of a node.
 use Rattle.std.specs.Prelude.{[]}
 use Rattle.rope_tree.specs.Flat.{IsFlat}
 use Rattle.rope_tree.specs.Tree.{Tree, IsTree, AreChildren, leaf_tree, tree_over, height_of, breaks_of}
@@ -6,7 +6,7 @@ use Rattle.rope_tree.specs.declared.node.Node.TheInside.{Inside}
 use Rattle.rope_tree.specs.declared.node.Form.{Form}
 use Rattle.rope_tree.specs.declared.node.Form.TheVariants.{Empty, Leaf, Inner}
 
--- what holds of every node holds of it, and no level lies below it
+-- a leaf node: a tree of height 0, with the invariants of every node
 pub record IsLeafNode (t : Tree) : Type 0 where
   pub flat : IsFlat t
   pub tree : IsTree t
@@ -19,7 +19,7 @@ form_tree (Inner rc) = tree_over rc.value
 abbrev pub tree_of : Inside → Tree
 tree_of a = form_tree a.form
 
--- what is a leaf to the node is one, and what an inner node has are the children of a node
+-- a leaf form points to a leaf, and an inner form to the children of a node
 abbrev pub IsForm : Form → Type 0
 IsForm (Empty b) = Unit {0}
 IsForm (Leaf rc) = IsLeafNode rc.value

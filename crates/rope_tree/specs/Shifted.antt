@@ -1,7 +1,7 @@
--- Counts in which a part was put for another.
+-- Counts in which those of a slice are replaced.
 use Rattle.std.specs.Prelude.{◌≡◌, ℕ, ◌+◌, ◌<◌, ◌≤◌, List, length, slice_index}
 
--- those from one place on and before another have `new` for `old`
+-- the counts from one index up to another have `new` in place of `old`
 pub record IsShifted (before now : List ℕ) (from to old new : ℕ) : Type 0 where
   pub len : length now ≡ length before
   pub early : (k : ℕ) → k < from → slice_index now k ≡ slice_index before k

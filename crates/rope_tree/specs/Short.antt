@@ -1,4 +1,4 @@
--- A text that goes into a leaf, or lies in one.
+-- Texts of leaves, and texts to insert.
 use Rattle.std.specs.Prelude.{◌≡◌, ◌≤◌, true, length}
 use Rattle.std.specs.Str.{chars, is_utf8}
 use Rattle.rope_text.specs.declared.TheConstants.{MAX_BYTES}
@@ -6,7 +6,7 @@ use Rattle.rope_tree.specs.declared.TheConstants.{MAX_MEDIUM_BYTES}
 use Rattle.rope_tree.specs.declared.short_text.ShortText.TheInside.{Inside}
 use Rattle.rope_tree.specs.declared.short_text.MediumText.TheInside as medium
 
--- how many characters it has is known, or the number kept for it is more than that of its bytes
+-- the number of characters is known, or the number kept exceeds the number of bytes
 pub record IsShort (s : Inside) : Type 0 where
   pub utf8 : is_utf8 s.text.now ≡ true
   pub fits : length s.text.now ≤ MAX_BYTES

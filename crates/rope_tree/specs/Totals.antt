@@ -1,4 +1,4 @@
--- The running totals over trees side by side.
+-- Running totals over adjacent trees.
 use Rattle.std.specs.Prelude.{◌≡◌, ℕ, ◌+◌, ◌<◌, List, [], length, take, slice_index_or}
 use Rattle.rope_text.specs.declared.line_breaks.LineBreaks.{LineBreaks}
 use Rattle.rope_text.specs.declared.text_info.TextInfo.{TextInfo}
@@ -10,12 +10,12 @@ pub record HasTotals (breaks : LineBreaks) (totals : List TextInfo) (ts : List T
   pub as_many : length totals ≡ length ts
   pub total_at : (k : ℕ) (d : TextInfo) → k < length ts → slice_index_or totals k d ≡ info_of breaks (joined (take (k + 1) ts))
 
--- the counts of all of some trees, by their set of line breaks, or by any where there are none
+-- the counts of the text of some trees, by their set of line breaks, or by any if there are none
 pub record IsTotalOf (ts : List Tree) (total : TextInfo) : Type 0 where
   pub none : length ts ≡ 0 → (breaks : LineBreaks) → total ≡ info_of breaks []
   pub all : 0 < length ts → total ≡ info_of (breaks_of ts) (joined ts)
 
--- the children below a node of this height, with their totals
+-- the children of a node of this height, with their totals
 pub record AreBelow (height : ℕ) (totals : List TextInfo) (ts : List Tree) : Type 0 where
   pub above : height ≡ height_of ts + 1
   pub children : AreChildren (breaks_of ts) (height_of ts) ts

@@ -1,4 +1,4 @@
--- What running totals of either width are seen as.
+-- The model of running totals of either width.
 use Rattle.std.specs.Prelude.{List}
 use Rattle.rope_text.specs.declared.text_info.TextInfo.{TextInfo}
 use Rattle.rope_tree.specs.declared.search.Totals.TheInside.{Inside}

@@ -1,4 +1,4 @@
--- What a node is seen as.
+-- The model of a node: a tree.
 use Rattle.std.specs.Prelude.{◌≡◌, ℕ, ◌+◌, ◌-◌, ◌*◌, ◌^◌, ◌≤◌, ◌<◌, List, [], ◌∷◌, length}
 use Rattle.std.specs.List.{All, flat_map, concat}
 use Rattle.rope_text.specs.declared.TheConstants.{MAX_CHILDREN, MIN_CHILDREN}
@@ -7,7 +7,8 @@ use Rattle.rope_text.specs.declared.line_breaks.LineBreaks.TheVariants.{Unicode}
 use Rattle.rope_text.specs.Text.{byte_len}
 use Rattle.rope_tree.specs.Leaves.{AreLeaves}
 
--- its set of line breaks, the texts of the leaves below it that are not empty, in order, how many levels lie below it, and how many children it has
+-- the set of line breaks, the texts of the leaves that are not empty, in order, the number of
+-- levels below, and the number of children
 pub record Tree : Type 0 where
   pub breaks : LineBreaks
   pub leaves : List (List ℕ)
@@ -18,11 +19,11 @@ pub record Tree : Type 0 where
 abbrev pub text : Tree → List ℕ
 text t = concat t.leaves
 
--- the texts of all leaves of the trees
+-- the texts of all leaves of some trees
 abbrev pub leaves_of : List Tree → List (List ℕ)
 leaves_of ts = flat_map (λ t. t.leaves) ts
 
--- the text of trees side by side
+-- the text of adjacent trees
 abbrev pub joined : List Tree → List ℕ
 joined ts = concat (leaves_of ts)
 
@@ -35,7 +36,7 @@ abbrev pub breaks_of : List Tree → LineBreaks
 breaks_of [] = Unicode
 breaks_of (t ∷ ts) = t.breaks
 
--- an empty text is no leaf
+-- the leaves of a text that fits in one: none if it is empty
 abbrev pub one_leaf : List ℕ → List (List ℕ)
 one_leaf [] = []
 one_leaf (c ∷ cs) = (c ∷ cs) ∷ []
@@ -48,7 +49,7 @@ leaf_tree breaks leaf = record { breaks = breaks; leaves = one_leaf leaf; height
 abbrev pub tree_over : List Tree → Tree
 tree_over ts = record { breaks = breaks_of ts; leaves = leaves_of ts; height = height_of ts + 1; width = length ts }
 
--- what holds of every node
+-- the invariant of every node
 pub record IsTree (t : Tree) : Type 0 where
   pub lone : t.height ≡ 0 → length t.leaves ≤ 1
   pub at_least_two : 1 ≤ t.height → 2 ≤ t.width
@@ -58,7 +59,8 @@ pub record IsTree (t : Tree) : Type 0 where
   pub leaves : AreLeaves t.leaves
   pub fits : byte_len (concat t.leaves) < 2 ^ 63
 
--- a tree of height h with this set of line breaks that is not empty and whose root, unless it is a leaf, has at least w children
+-- a tree of height h with this set of line breaks that is not empty and whose root, unless it is a
+-- leaf, has at least w children
 pub record IsWide (breaks : LineBreaks) (w h : ℕ) (t : Tree) : Type 0 where
   pub same_breaks : t.breaks ≡ breaks
   pub at_height : t.height ≡ h
@@ -66,7 +68,7 @@ pub record IsWide (breaks : LineBreaks) (w h : ℕ) (t : Tree) : Type 0 where
   pub some : 1 ≤ length t.leaves
   pub tree : IsTree t
 
--- what may stand below another node, at height h
+-- a node that may be a child of another, at height h
 abbrev pub IsChild : LineBreaks → ℕ → Tree → Type 0
 IsChild breaks h t = IsWide breaks MIN_CHILDREN h t
 
@@ -78,6 +80,6 @@ pub record AreChildren (breaks : LineBreaks) (h : ℕ) (ts : List Tree) : Type 0
   pub leaves : AreLeaves (leaves_of ts)
   pub fits : byte_len (joined ts) < 2 ^ 63
 
--- trees that can stand below one node
+-- trees that may be the children of one node
 abbrev pub AreFamily : List Tree → Type 0
 AreFamily ts = AreChildren (breaks_of ts) (height_of ts) ts

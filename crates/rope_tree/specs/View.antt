@@ -1,4 +1,4 @@
--- What a node shows of itself.
+-- The view of a node.
 use Rattle.std.specs.Prelude.{◌≡◌, List, [], ◌∷◌}
 use Rattle.rope_text.specs.declared.text_info.TextInfo.{TextInfo}
 use Rattle.rope_tree.specs.Tree.{Tree, AreChildren, tree_over, height_of, breaks_of}

@@ -1,4 +1,5 @@
-//! How few bytes a leaf may keep beside its neighbours.
+//! The minimum number of bytes of a leaf beside its neighbours: two adjacent leaves have at least
+//! `MIN_TWO_LEAVES_BYTES` together.
 ghost use Rattle.std.specs.Prelude.{ℕ, ◌+◌, ◌<◌, ◌≤◌, List, length, take, drop};
 ghost use Rattle.rope_text.specs.declared.TheConstants.{MIN_TWO_LEAVES_BYTES};
 ghost use Rattle.rope_text.specs.Dense.{IsDenseBehind, last_bytes};
@@ -9,16 +10,16 @@ ghost use Rattle.rope_tree.specs.Totals.{AreBelow};
 use crate::{Totals, total_before};
 use rope_text::{MIN_HALF_BYTES, MIN_TWO_LEAVES_BYTES};
 
-/// How many bytes the first and the last leaf of a node have to keep, so that each has enough
-/// together with the leaf beside it, outside of the node. 0 where none stands beside it.
+/// The minimum number of bytes of the first and of the last leaf of a node, so that each is long
+/// enough beside the leaf next to it, outside of the node. 0 if there is no such leaf.
 #[derive(Clone, Copy)]
 pub struct Least {
     pub first: usize,
     pub last: usize,
 }
 
-/// How many bytes are enough for a leaf beside the child at a place: if that is a leaf, too, what
-/// it lacks of the least that two have. Its length comes from the totals, so it isn't read.
+/// Returns a number of bytes that is enough for a leaf next to the child at an index. If that child
+/// is a leaf, its length comes from the totals, so it isn't read.
 fn least_next_to(height: usize, totals: &Totals, place: usize) -> usize
     requires { place < length totals.now }
     ensures behind { (ts : List Tree) → AreBelow height totals.now ts
@@ -37,8 +38,8 @@ fn least_next_to(height: usize, totals: &Totals, place: usize) -> usize
         .min(MIN_HALF_BYTES)
 }
 
-/// How many bytes are enough at the two ends of the child at a place, in the list of a node of this
-/// height, by how many are enough at the node's ends.
+/// Returns the minimum number of bytes at the two ends of the child at an index, in the list of a
+/// node of this height, by the minimum at the ends of the node.
 pub fn least_at(height: usize, totals: &Totals, place: usize, wanted: Least) -> Least
     requires { place < length totals.now }
     ensures first { (ts : List Tree) → AreBelow height totals.now ts

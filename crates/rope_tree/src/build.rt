@@ -9,7 +9,8 @@ use crate::node_text::first_leaf_len;
 use crate::{Made, Maker, Node, leaf_of, node_over};
 use rope_text::{FRESH_CHILDREN, FRESH_LEAVES, LineBreaks, MAX_BYTES, MAX_CHILDREN};
 
-/// How many nodes the level above these has, by the numbers of children of a fresh tree.
+/// Returns the number of nodes on the level above these, by the numbers of children of a fresh
+/// tree.
 fn count_over(nodes: &[Node]) -> usize
     requires { MAX_CHILDREN < length nodes.now }
     ensures least { MIN_CHILDREN * result ≤ length nodes.now }
@@ -21,7 +22,7 @@ fn count_over(nodes: &[Node]) -> usize
     nodes.len().div_ceil(FRESH_CHILDREN)
 }
 
-/// The level above these nodes: `count` nodes, which share them evenly.
+/// Makes the level above these nodes: `count` nodes, each with an even share of them.
 fn level_over(maker: &mut Maker, nodes: &[Node], count: usize) -> Made<Vec<Node>>
     requires siblings { AreSiblings (breaks_of nodes.now) (height_of nodes.now) nodes.now }
     requires least { MIN_CHILDREN * count ≤ length nodes.now }
@@ -44,7 +45,7 @@ fn level_over(maker: &mut Maker, nodes: &[Node], count: usize) -> Made<Vec<Node>
     Ok(level)
 }
 
-/// The tree over these nodes, built level by level up to its root.
+/// Builds the tree over these nodes, level by level up to its root.
 pub(crate) fn root_over(maker: &mut Maker, nodes: Vec<Node>) -> Made<Node>
     requires siblings { AreSiblings (breaks_of nodes.items) (height_of nodes.items) nodes.items }
     requires some { 1 ≤ length nodes.items }
@@ -64,9 +65,9 @@ pub(crate) fn root_over(maker: &mut Maker, nodes: Vec<Node>) -> Made<Node>
     node_over(maker, &level)
 }
 
-/// A tree of this text, built from the bottom up: leaves in order, each but the last of 981 bytes
-/// or more, and over them levels of nodes with 12 to 22 children. It makes at most two nodes for
-/// each leaf, and one for a text that fits in a leaf. Each byte is counted once.
+/// Builds a tree of this text from the bottom up: leaves in order, each but the last of at least
+/// 981 bytes, and over them levels of nodes with 12 to 22 children. Makes at most two nodes for
+/// each leaf, and one for a text that fits in a leaf. Counts each byte once.
 pub fn build(maker: &mut Maker, whole: &str, breaks: LineBreaks) -> Made<Node>
     ensures text { IfOk result (λ node. text node ≡ chars whole.now) }
     ensures breaks { IfOk result (λ node. node.breaks ≡ breaks) }

@@ -1,4 +1,4 @@
-//! Trees of texts that are passed in one after the other.
+//! Trees of texts that are passed in one after another.
 ghost use Rattle.std.specs.Prelude.{◌≡◌, ◌+◌, ◌-◌, ◌*◌, ◌/◌, ◌<◌, ◌≤◌, ◌^◌, ◌++◌, [], false, length, drop, IsOk, IfOk, IfSome, IfNone, OnOk, OnErr};
 ghost use Rattle.std.specs.Str.{chars, IsCharBoundary};
 ghost use Rattle.rope_text.specs.declared.TheConstants.{MAX_BYTES, MIN_CUT_BYTES};
@@ -15,23 +15,24 @@ use rope_text::{LineBreaks, MAX_BYTES, MIN_CUT_BYTES};
 use std::alloc::{AllocError, Global};
 use std::marker::Model;
 
-// How much of the next text is looked at, at the most, to cut a leaf: a leaf's bytes, and four
-// more, since the cut may have to lie up to three bytes before.
+// The maximum number of bytes of the next text that a split of a leaf reads: the bytes of a leaf,
+// and four more, since the position may have to be up to three bytes before.
 const MAX_AHEAD_BYTES: usize = MAX_BYTES + 4;
 
-// A rest, of at most a leaf's bytes, and what is looked at behind it.
+// The maximum number of bytes of a rest, at most a leaf's, and of the text read after it.
 const MAX_SEAM_BYTES: usize = MAX_BYTES + MAX_AHEAD_BYTES;
 
-// A leaf that was cut off a rest and the text behind it, and how many bytes of the text are in it.
+// A leaf that was split off a rest and the text after it, and the number of bytes of the text in
+// it.
 #[derive(Drop)]
 struct SeamCut {
     leaf: Node,
     taken: usize,
 }
 
-// Cuts the first leaf off a text that begins with `rest` and goes on with `added`. In `rest` stays
-// what of it is behind the leaf. Never inlined: its caller would clear stack for its texts at each
-// call.
+// Splits the first leaf off a text that begins with `rest` and continues with `added`. Leaves in
+// `rest` the bytes of it after the leaf. Never inlined: its caller would clear stack for its texts
+// at each call.
 #[inline(never)]
 fn cut_at_seam(
     maker: &mut Maker,
@@ -73,9 +74,9 @@ fn cut_at_seam(
     Ok(SeamCut { leaf, taken })
 }
 
-// Moves the front of a text, perhaps nothing, behind `rest`, so that the two are a whole leaf, and
-// answers how many bytes. None, and nothing is moved, where that leaf would be too short, as it may
-// be where it ends near the start of the text.
+// Appends a prefix of a text, possibly empty, to `rest`, so that the two are a full leaf, and
+// returns the length of the prefix. Returns `None`, leaving `rest` unchanged, if that leaf would be
+// too short, or if a CR LF would be split at the start of the text.
 fn fill_up(rest: &mut NodeText, text: &str) -> Option<usize>
     requires { MAX_BYTES < byte_len rest.old + length text.now }
     ensures kept { IfNone result (rest.new ≡ rest.old) }
@@ -101,8 +102,8 @@ fn fill_up(rest: &mut NodeText, text: &str) -> Option<usize>
     Some(taken)
 }
 
-// Cuts leaves off the front of `rest` and the text behind it, until what is left fits in one. Where
-// nothing is left of what came before, a leaf is cut straight from the text.
+// Splits leaves off `rest` and the text after it, until the remainder fits in one. If `rest` is
+// empty, a leaf is made directly from the text.
 #[inline(never)]
 fn cut_leaves(
     alloc: Global,
@@ -144,8 +145,8 @@ fn cut_leaves(
     Ok(())
 }
 
-/// Builds a tree of texts that are passed in one after the other. It is seen as the text so far and
-/// the set of line breaks.
+/// Builds a tree of texts that are passed in one after another. Modelled as the text so far and the
+/// set of line breaks.
 #[derive(Drop)]
 pub struct Builder {
     alloc: Global,
@@ -166,7 +167,7 @@ impl Model for Builder {
 }
 
 impl Builder {
-    /// A builder with no text yet. It takes no memory.
+    /// Creates a builder without text. It allocates nothing.
     pub fn new(alloc: Global, breaks: LineBreaks) -> Builder
         ensures text { result.text ≡ [] }
         ensures breaks { result.breaks ≡ breaks }
@@ -180,7 +181,7 @@ impl Builder {
         }
     }
 
-    /// How many bytes were passed in.
+    /// Returns the number of bytes passed in.
     pub fn len_bytes(&self) -> usize
         ensures value { result ≡ byte_len self.now.text }
         ensures fits { byte_len self.now.text < 2 ^ 63 }
@@ -188,8 +189,8 @@ impl Builder {
         self.bytes
     }
 
-    /// Appends a text. If memory is refused, the builder is empty again. An empty text takes no
-    /// memory.
+    /// Appends a text. If an allocation fails, the builder is empty again. An empty text allocates
+    /// nothing.
     pub fn append(&mut self, text: &str) -> Made<()>
         requires { byte_len self.old.text + length text.now < 2 ^ 63 }
         ensures ok { OnOk result (self.new.text ≡ self.old.text ++ chars text.now) }
@@ -211,8 +212,8 @@ impl Builder {
         Ok(())
     }
 
-    /// The tree of what was passed in, with at most one leaf for each 981 bytes and one for the
-    /// rest. All its nodes are counted here, those of leaves that were made before included.
+    /// Returns the tree of the texts passed in, with at most one leaf for each 981 bytes and one
+    /// for the rest. Counts all its nodes here, including the leaves made before.
     pub fn finish(self, maker: &mut Maker) -> Made<Node>
         ensures text { IfOk result (λ node. text node ≡ self.text) }
         ensures breaks { IfOk result (λ node. node.breaks ≡ self.breaks) }

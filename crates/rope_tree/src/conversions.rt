@@ -1,5 +1,5 @@
-//! Conversions between the indices of a tree's text. Each goes down to the leaf that holds the
-//! place, and takes no memory.
+//! Conversions between the indices of a tree's text. [`convert`] descends to the leaf that contains
+//! the position, and allocates nothing.
 ghost use Rattle.std.specs.Prelude.{◌≡◌, ◌≤◌, ◌<◌, true};
 ghost use Rattle.std.specs.Str.{chars};
 ghost use Rattle.rope_text.specs.TextInfo.{info_of};
@@ -11,7 +11,7 @@ use crate::search::Unit::{Byte, Char, CodeUnit, LineBreak};
 use crate::{Node, Unit, count, leaf_at};
 use rope_text::{LineBreaks, Steps, TextInfo, str_utils};
 
-/// The first index for which a conversion goes down the tree: 1 for lines, since the first line
+/// Returns the first index for which a conversion descends: 1 for lines, since the first line
 /// starts at 0.
 pub fn first_sought(unit: Unit) -> usize
     ensures { result ≡ first_sought unit }
@@ -19,9 +19,9 @@ pub fn first_sought(unit: Unit) -> usize
     usize::from(matches!(unit, LineBreak))
 }
 
-/// Converts an index from the unit `from` to the unit `to`, in a text whose counts are known. It
-/// scans the text from its nearer end, and nothing where both units count the same: bytes and
-/// characters in ASCII, characters and code units in a text without pairs.
+/// Converts an index from the unit `from` to the unit `to`, in a text whose counts are known. Scans
+/// the text from its nearer end, or not at all if both units count the same: bytes and characters
+/// in ASCII, characters and code units in a text without surrogate pairs.
 #[inline(always)]
 pub fn convert_in(
     text: &str,
@@ -51,9 +51,9 @@ pub fn convert_in(
 }
 
 /// Converts an index of the tree's text from the unit `from` to the unit `to`: to the character
-/// that holds the byte or the code unit, to the line of the place, or to where the line starts. The
-/// index may be that of the text's end, which for lines is one past the last. Inlined, so that the
-/// units are constants.
+/// that contains the byte or the code unit, to the line of the position, or to the start of the
+/// line. The index may be the end of the text, which for lines is one past the last. Inlined, so
+/// that the units are constants.
 #[inline(always)]
 pub fn convert(node: &Node, from: Unit, to: Unit, idx: usize, steps: &mut Steps) -> usize
     requires units { are_converted from to ≡ true }

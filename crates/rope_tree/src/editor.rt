@@ -1,4 +1,4 @@
-//! What an edit works with: the maker of its nodes, and the counts of its searches.
+//! The state of an edit: the maker of its nodes, and the counts of its searches.
 ghost use Rattle.std.specs.Prelude.{◌≡◌, ◌+◌, ◌-◌, ◌<◌, ◌≤◌, ◌*◌, true, length, slice_index_or, slice_get, Some};
 ghost use Rattle.rope_text.specs.declared.text_info.TextInfo.{TextInfo};
 ghost use Rattle.rope_text.specs.declared.TheConstants.{MAX_CHILDREN};
@@ -12,9 +12,9 @@ use crate::{Maker, Node, Totals, Unit, char_at, place_of};
 use rope_text::Steps;
 use std::alloc::Global;
 
-/// Makes the nodes of one edit, and counts, if it is to, the nodes that its searches enter and the
-/// totals that they compare. A search counts the node that it finds; the root counts as entered by
-/// whoever starts the edit.
+/// Makes the nodes of one edit. If `is_counting`, also counts the nodes that its searches enter and
+/// the totals that they compare. A search counts the node that it finds; the caller that starts the
+/// edit counts the root.
 #[derive(Clone, Copy)]
 pub struct Editor {
     pub maker: Maker,
@@ -24,7 +24,7 @@ pub struct Editor {
 }
 
 impl Editor {
-    /// Creates an editor that counts, and has made, entered and compared nothing.
+    /// Creates an editor that counts, with all counts 0.
     pub fn new(alloc: Global) -> Editor
         ensures counting { result.is_counting ≡ true }
         ensures made { result.maker.made ≡ 0 }
@@ -61,7 +61,7 @@ impl Editor {
         }
     }
 
-    /// Counts one entered node. The counts of an editor stop at the largest number.
+    /// Counts one entered node. The counts of an editor saturate.
     #[inline(always)]
     pub fn enter(&mut self)
         ensures made { self.new.maker.made ≡ self.old.maker.made }
@@ -84,7 +84,7 @@ impl Editor {
         }
     }
 
-    /// Counts the steps of a search of its own.
+    /// Adds the steps of a search that was counted apart.
     pub(crate) fn add(&mut self, steps: Steps)
         ensures made { self.new.maker.made ≡ self.old.maker.made }
         ensures searched { HasSearched steps.nodes steps.compares self.old self.new }
@@ -95,8 +95,8 @@ impl Editor {
         }
     }
 
-    /// Returns the index of the child that holds the character `at`, and enters that child. Halves
-    /// over the totals, in at most five comparisons.
+    /// Returns the index of the child that contains the character `at`, and enters that child. A
+    /// binary search over the totals, with at most five comparisons.
     #[inline(always)]
     pub fn child_at(&mut self, totals: &Totals, at: usize) -> usize
         requires some { 0 < length totals.now }

@@ -1,4 +1,16 @@
-//! Leaves: a text with its counts and its set of line breaks.
+//! Leaves: a text with its counts and its set of line breaks, in a block of 1,024 bytes.
+//!
+//! The counts come first, in eight bytes: a traversal of leaves reads them and the text, and not
+//! the length after the text. An edit changes the counts by sums and differences, so that only the
+//! text added or removed is scanned (`leaf_edits`).
+//!
+//! An insert into a leaf with room moves the text after it once. A leaf without room is split near
+//! its middle, where no CR LF is: `cut_in_place` copies the second half into a new leaf, and
+//! inserts into one of the two; `cut_anew` first joins the leaf and the new text in a buffer. A
+//! removal keeps at least one byte, and as many as the neighbours need.
+//!
+//! A leaf is changed in place, by its only owner. No call allocates anything but a new leaf, and if
+//! that fails, the old one is unchanged.
 ghost use Rattle.std.specs.Prelude.{◌≡◌, ◌+◌, ◌<◌, ◌≤◌, [], ◌∷◌, true, false, max, length, take, IfOk, OnErr, IfSome, IfNone};
 ghost use Rattle.std.specs.Str.{chars};
 ghost use Rattle.rope_text.specs.Text.{byte_len};
@@ -22,8 +34,8 @@ use std::alloc::{AllocError, Global};
 use std::marker::Model;
 use std::rc::Rc;
 
-/// The counts of a leaf's text and its set of line breaks, in eight bytes, seen as the two. No
-/// count is above the text's bytes, and a pair takes four of them.
+/// The counts of a leaf's text and its set of line breaks, in eight bytes. No count exceeds the
+/// bytes of the text, and a surrogate pair takes four of them.
 #[derive(Clone, Copy)]
 struct Summary {
     chars: u16,
@@ -58,7 +70,7 @@ impl Model for Summary {
 }
 
 impl Summary {
-    /// These counts, of which the breaks were counted by this set.
+    /// Packs these counts, made by this set of line breaks.
     fn new(breaks: LineBreaks, info: TextInfo) -> Summary
         requires { AreWithin MAX_BYTES info }
         ensures breaks { result.breaks ≡ breaks }
@@ -73,7 +85,7 @@ impl Summary {
         }
     }
 
-    /// The counts, in words.
+    /// Returns the counts in words.
     fn info(self) -> TextInfo
         ensures { result ≡ self.info }
     {
@@ -86,8 +98,8 @@ impl Summary {
     }
 }
 
-/// A text of at most `MAX_BYTES` bytes, its counts and its set of line breaks. It is seen as the
-/// tree that is a leaf.
+/// A text of at most `MAX_BYTES` bytes, its counts and its set of line breaks. Modelled as a tree
+/// that is a leaf.
 #[derive(Drop)]
 pub(crate) struct Leaf {
     summary: Summary,
@@ -107,8 +119,7 @@ impl Model for Leaf {
 }
 
 impl Leaf {
-    /// Replaces the text by a copy of another, whose counts by this set of line breaks the caller
-    /// knows.
+    /// Replaces the text by a copy of another, whose counts by this set of line breaks are known.
     fn fill(&mut self, breaks: LineBreaks, text: &str, info: TextInfo)
         requires fits { length text.now ≤ MAX_BYTES }
         requires info { info ≡ info_of breaks (chars text.now) }
@@ -118,8 +129,8 @@ impl Leaf {
         self.text.set(text);
     }
 
-    /// A leaf of no text, which is filled where it stays, so that the text is moved once. All its
-    /// bytes are 0, so that the memory is cleared at once.
+    /// Allocates a leaf without text, to be filled in place, so that the text is moved once. All
+    /// its bytes are 0, so that clearing it is one memset.
     #[inline(always)]
     fn empty(alloc: Global) -> Made<Rc<Leaf>>
         ensures { IfOk result (λ leaf. leaf.value ≡ leaf_tree LineBreaks.Lf []) }
@@ -128,15 +139,15 @@ impl Leaf {
             summary: Summary::new(LineBreaks::Lf, TextInfo::new()),
             text: NodeText::new(),
         };
-        // Matched by hand: `?` would move the leaf that a refusal gives back on the path that
-        // succeeds, too.
+        // Matched by hand: `?` would also move the leaf of a failed allocation on the path that
+        // succeeds.
         let Ok(leaf) = Rc::new(alloc, empty) else {
             return Err(AllocError);
         };
         Ok(leaf)
     }
 
-    /// A new leaf, with a copy of this text in place of its own.
+    /// Fills a new leaf with a copy of this text.
     #[inline(always)]
     fn filled(mut leaf: Rc<Leaf>, breaks: LineBreaks, text: &str, info: TextInfo) -> Made<Rc<Leaf>>
         requires fits { length text.now ≤ MAX_BYTES }
@@ -151,7 +162,7 @@ impl Leaf {
         Ok(leaf)
     }
 
-    /// A leaf with a copy of this text, whose counts by this set the caller knows.
+    /// Makes a leaf of a copy of this text, whose counts by this set are known.
     pub fn of_text(alloc: Global, breaks: LineBreaks, text: &str, info: TextInfo) -> Made<Rc<Leaf>>
         requires fits { length text.now ≤ MAX_BYTES }
         requires info { info ≡ info_of breaks (chars text.now) }
@@ -160,34 +171,34 @@ impl Leaf {
         Leaf::filled(Leaf::empty(alloc)?, breaks, text, info)
     }
 
-    /// The same, of a text that wasn't counted.
+    /// Makes a leaf of a copy of this text, and counts it.
     pub fn counted(alloc: Global, breaks: LineBreaks, text: &str) -> Made<Rc<Leaf>>
         requires { length text.now ≤ MAX_BYTES }
         ensures { IfOk result (λ leaf. leaf.value ≡ leaf_tree breaks (chars text.now)) }
     {
         let leaf = Leaf::empty(alloc)?;
-        // Counted only now: the processor counts while the cache lines that were cleared are still
-        // on their way, for which the copy would wait.
+        // Counted only now: the processor counts while the stores that cleared the leaf complete,
+        // for which the copy would wait.
         let info = TextInfo::from_str(text, breaks);
         Leaf::filled(leaf, breaks, text, info)
     }
 
-    /// Its set of line breaks.
+    /// Returns the set of line breaks.
     pub(crate) fn line_breaks(&self) -> LineBreaks
         ensures { result ≡ self.now.breaks }
     {
         self.summary.breaks
     }
 
-    /// The counts of its text.
+    /// Returns the counts of the text.
     pub(crate) fn info(&self) -> TextInfo
         ensures { result ≡ info_of self.now.breaks (text self.now) }
     {
         self.summary.info()
     }
 
-    /// Its text, by its counts, which the caller knows or reads here: the length that is kept with
-    /// the text lies behind it, in a cache line on which a walk over leaves would miss each time.
+    /// Returns the text, by counts that the caller knows or reads here: the text's own length is
+    /// after its bytes, in a cache line on which a traversal of leaves would miss each time.
     pub(crate) fn known_text(&self, info: TextInfo) -> ShortText<'_>
         requires { info ≡ info_of self.now.breaks (text self.now) }
         ensures { IsLeafOf self.now result }
@@ -198,10 +209,9 @@ impl Leaf {
         }
     }
 
-    /// Prefetch: reads the last of `len` bytes, and from `from` on one in each cache line, for an
-    /// edit that will go over them. The length is the caller's, since a load of the text's own
-    /// would miss. Answers whether their sum is one that they can't have: the caller's test keeps
-    /// the compiler from dropping the reads.
+    /// Prefetches the last of `len` bytes, and from `from` on one byte in each cache line, for an
+    /// edit that will scan them. The length is the caller's, since a load of the text's own would
+    /// miss. Always returns false: callers test the result so that the reads aren't optimized away.
     pub(crate) fn touch(&self, from: usize, len: usize) -> bool {
         let bytes = self.text.as_str().as_bytes();
         let len = len.min(MAX_BYTES);
@@ -221,9 +231,9 @@ impl Leaf {
         sum == usize::MAX
     }
 
-    /// Puts a text before the character `at`, if there is room for it. Returns whether it did, and
-    /// in `more` by how much the counts grew. It takes no memory.
-    // Never inlined, so that the frame of its caller, which calls itself, stays small.
+    /// Inserts a text before the character `at`, if there is room for it. Returns whether it did,
+    /// and in `more` by how much the counts grew.
+    // Never inlined, so that the frame of its caller, which is recursive, stays small.
     #[inline(never)]
     pub fn insert_in_place(&mut self, at: usize, added: &ShortText<'_>, more: &mut TextInfo) -> bool
         requires within { at ≤ length (text self.old) }
@@ -250,7 +260,7 @@ impl Leaf {
         true
     }
 
-    /// Keeps the first characters alone, which take `len` bytes, and whose counts the caller knows.
+    /// Truncates to the first characters, which take `len` bytes, and whose counts are known.
     fn keep(&mut self, len: usize, info: TextInfo)
         requires len { len ≡ byte_len (take info.chars (text self.old)) }
         requires info { info ≡ info_of self.old.breaks (take info.chars (text self.old)) }
@@ -261,10 +271,11 @@ impl Leaf {
         self.summary = Summary::new(breaks, info);
     }
 
-    /// Puts a text before the character `at`, where there is no room for it, if it is short and
-    /// goes inside of one half of the leaf: leaves the first half here, and answers a leaf with the
-    /// second. So no byte moves but the second half's, and those behind the text in its half. None,
-    /// and nothing has changed, in any other case.
+    /// Splits a leaf without room and inserts a text before the character `at`, if the leaf splits
+    /// evenly with room for the text in each half, and the text isn't inserted at the split. Keeps
+    /// the first half here, and returns a leaf with the second. Only the bytes of the second half
+    /// and those after the text in its half are moved. Otherwise returns `None`, leaving the leaf
+    /// unchanged.
     fn cut_in_place(
         &mut self,
         maker: &mut Maker,
@@ -307,9 +318,8 @@ impl Leaf {
         Ok(Some(leaf))
     }
 
-    /// Puts a text before the character `at`, where there is no room for it: builds the two
-    /// together, leaves the first part here and answers a leaf with the second. If memory is
-    /// refused, nothing has changed.
+    /// Splits a leaf without room and inserts a text before the character `at`: joins the two texts
+    /// in a buffer, keeps the first half here, and returns a leaf with the second.
     fn cut_anew(&mut self, maker: &mut Maker, at: usize, added: &ShortText<'_>) -> Made<Node>
         requires full { MAX_BYTES < byte_len (text self.old) + byte_len added.now }
         requires some { 1 ≤ length added.now }
@@ -330,9 +340,9 @@ impl Leaf {
         Ok(behind)
     }
 
-    /// Puts a text before the character `at`, where there is no room for it: leaves the first part
-    /// here, and answers a leaf with the second. None, and nothing has changed, where there is
-    /// room. If memory is refused, nothing has changed.
+    /// Inserts a text before the character `at` of a leaf without room for it: keeps the first half
+    /// here, and returns a leaf with the second. Returns `None`, leaving the leaf unchanged, if
+    /// there is room.
     pub fn cut(&mut self, maker: &mut Maker, at: usize, added: &ShortText<'_>) -> Made<Option<Node>>
         requires within { at ≤ length (text self.old) }
         requires some { 1 ≤ length added.now }
@@ -356,8 +366,8 @@ impl Leaf {
         Ok(Some(behind))
     }
 
-    /// Returns how many bytes stay if the characters from `start` up to `end` are removed. `None`
-    /// if none stays, or if an LF would come first or a CR last that didn't.
+    /// Returns the number of bytes that remain if the characters from `start` up to `end` are
+    /// removed. Returns `None` if none remain, or if an LF would be first or a CR last that wasn't.
     pub fn bytes_without(&self, start: usize, end: usize) -> Option<usize>
         requires ordered { start < end }
         requires within { end ≤ length (text self.now) }
@@ -375,9 +385,8 @@ impl Leaf {
         Some(kept)
     }
 
-    /// Removes the characters from `start` up to `end`, if the leaf may do without them and keeps
-    /// enough bytes. Returns whether it did, and in `less` by how much the counts fell. It takes no
-    /// memory.
+    /// Removes the characters from `start` up to `end`, if the leaf may lose them and keeps enough
+    /// bytes. Returns whether it did, and in `less` by how much the counts fell.
     pub fn remove_in_place(
         &mut self,
         start: usize,

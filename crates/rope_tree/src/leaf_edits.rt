@@ -1,4 +1,5 @@
-//! Edits of a leaf's text, whose counts follow by sums and differences.
+//! Edits of a leaf's text. The counts follow by sums and differences, so that only the text
+//! inserted or removed is counted.
 ghost use Rattle.std.specs.Prelude.{◌≡◌, ◌+◌, ◌<◌, ◌≤◌, ◌++◌, true, false, length, IfSome, IfNone};
 ghost use Rattle.std.specs.Str.{chars, all_scalars};
 ghost use Rattle.rope_text.specs.declared.TheConstants.{MAX_BYTES, MAX_SHORT_BYTES};
@@ -14,7 +15,7 @@ use arrayvec::ArrayString;
 use rope_text::str_utils::char_to_byte_idx_of;
 use rope_text::{LineBreaks, MAX_JOINED_BYTES, TextInfo};
 
-/// Whether the last character is CR.
+/// Returns whether the last character is CR.
 pub fn ends_in_cr(text: &str) -> bool
     ensures { result ≡ ends_in_cr (chars text.now) }
 {
@@ -22,24 +23,24 @@ pub fn ends_in_cr(text: &str) -> bool
     !bytes.is_empty() && bytes[bytes.len() - 1] == b'\r'
 }
 
-/// Whether the first character is LF.
+/// Returns whether the first character is LF.
 fn begins_with_lf(text: &str) -> bool
     ensures { result ≡ begins_with_lf (chars text.now) }
 {
     text.chars().next() == Some('\n')
 }
 
-/// How many breaks fewer two texts have when they are joined: one, if a CR that is a break meets an
-/// LF.
+/// Returns the number of line breaks that two texts lose when they are joined: one if a CR that is
+/// a line break meets an LF, else none.
 pub fn shared_breaks(first: &str, second: &str, breaks: LineBreaks) -> usize
     ensures { result ≡ shared_breaks breaks (chars first.now) (chars second.now) }
 {
     usize::from(ends_in_cr(first) && begins_with_lf(second) && breaks.is_break('\r'))
 }
 
-/// The counts of a text with another put between its front and its back, by the counts of the two:
-/// only the new text is counted. If neither the front nor the new text ends in CR, no CR meets an
-/// LF, and the sums are right.
+/// Returns the counts of a text with another inserted between its front and its back, by the counts
+/// of the two. Counts only the new text. If neither the front nor the new text ends in CR, no CR
+/// meets an LF, and the counts are sums.
 #[inline(always)]
 fn info_between(
     info: TextInfo,
@@ -66,8 +67,8 @@ fn info_between(
     }
 }
 
-/// The text of a leaf with another before its character `at`, which may be too long for one leaf,
-/// and its counts, by those of the leaf.
+/// Returns the text of a leaf with another inserted before its character `at`, which may be too
+/// long for one leaf, and its counts, by those of the leaf.
 #[inline(always)]
 pub(crate) fn leaf_with(
     info: TextInfo,
@@ -89,8 +90,8 @@ pub(crate) fn leaf_with(
     (text_of_parts(front, added, back), info)
 }
 
-/// Puts a text before the character `at` of a leaf that has room for it, and answers the counts of
-/// the whole, by those before.
+/// Inserts a text before the character `at` of a leaf that has room for it, and returns the counts
+/// of the whole, by those before.
 // Inlined: a call would store the counts and load them again.
 #[inline(always)]
 pub fn put_in(
@@ -122,8 +123,8 @@ pub fn put_in(
     info
 }
 
-/// Returns whether a text that is removed from between two others leaves no LF first and no CR last
-/// that weren't: beside a neighbour such a one might make a CR LF.
+/// Returns whether a removal between these two texts leaves no LF first and no CR last that wasn't:
+/// beside a neighbour it might form a CR LF.
 #[inline(always)]
 pub fn keeps_ends(front: &str, back: &str) -> bool
     ensures first { result ≡ true → length (chars front.now) ≡ 0
@@ -142,10 +143,10 @@ pub fn keeps_ends(front: &str, back: &str) -> bool
     true
 }
 
-/// Removes the characters from `start` up to `end` from a leaf, and returns the counts of what
-/// stays, by those before: only the part that goes is counted. `None`, and the leaf as it was, if
-/// nothing would stay, or fewer bytes than `least`, or if an LF would come first or a CR last that
-/// didn't.
+/// Removes the characters from `start` up to `end` from a leaf, and returns the counts of the rest,
+/// by those before: only the removed text is counted. Returns `None`, leaving the leaf unchanged,
+/// if the rest would be empty or have fewer bytes than `least`, or if an LF would be first or a CR
+/// last that wasn't.
 pub fn take_out(
     leaf: &mut NodeText,
     start: usize,

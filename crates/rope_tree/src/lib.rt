@@ -1,34 +1,33 @@
-//! The tree of a rope: leaf texts under nodes with running totals.
+//! The tree of a rope: a B+ tree of leaf texts, with running totals in its inner nodes.
 //!
-//! A leaf has 1 to 984 bytes of text, which fill a block of 1,024 with its counts. An inner node
-//! has up to 24 children and, for each kind of count, a row of running totals: a search halves over
-//! one row, and misses on two cache lines at most. Trees share nodes, whose owners are counted; a
-//! node with more than one is copied before it is changed.
+//! ```text
+//! Node -> Children   height, set of line breaks, child of the last edit
+//!         totals     bytes    [  980 | 1950 | 2600 | .. ]   four rows of 24 entries,
+//!                    chars    [  975 | 1900 | 2540 | .. ]   each of 32 bits
+//!                    pairs    [    0 |    3 |    3 | .. ]
+//!                    breaks   [   20 |   41 |   55 | .. ]
+//!         nodes      [   *  |   *  |   *  | .. ]            24 entries
+//!                        v      v      v
+//!                      leaf   leaf   leaf                   980, 970 and 650 bytes
+//! ```
 //!
-//! Any two neighbouring leaves have 492 bytes or more together, so that the memory of a tree
-//! follows its text. An insert needn't look after that: a full leaf is cut into two of 491 bytes or
-//! more, and any neighbour has one. A removal compares with the neighbours' lengths, which the
-//! totals tell. No leaf is merged with another but by a join, so that an edit changes one leaf or
-//! two.
-//!
-//! No CR LF lies in two leaves. So each leaf's line breaks are counted without its neighbours, and
-//! the totals are sums.
+//! A leaf is a block of 1,024 bytes: 1 to 984 bytes of text, and its counts. An inner node has 12
+//! to 24 children, the root at least 2. A binary search reads one row of running totals, and misses
+//! on at most two cache lines. Trees share nodes by reference counting, and an edit copies a shared
+//! node before it changes it. Two adjacent leaves have at least 492 bytes together, so memory is
+//! proportional to the text, and no CR LF is split between them, so the totals are sums. An insert
+//! splits a full leaf into two of at least 491 bytes, which suit any neighbour; a removal compares
+//! with the neighbours' lengths, which the totals give. Only joins merge leaves.
 //!
 //! Modules, lowest first:
-//! - `node_text`: the text of a leaf, and where a longer one is cut
-//! - `short_text`: texts on their way into leaves
-//! - `leaf_edits`: the text of a leaf edited, and its counts by sums and differences
-//! - `leaf`: a text with its counts
-//! - `maker`: where nodes' memory comes from
-//! - `search`: running totals, and the child that holds a place
-//! - `editor`: the maker of an edit's nodes, with the counts of its searches
-//! - `node`: nodes; `node::row` puts them side by side, `node::anew` inserts into a new tree,
-//!   `node::in_place` edits nodes where they stand, `node::across` two leaves side by side, and
-//!   `node::pieces` makes leaves of a leaf and a longer text
-//! - `lookup`, `conversions`: the descent to a leaf, and indices on it
-//! - `beside`: how few bytes a leaf may keep beside its neighbours
-//! - `short_edits`: inserts into whole trees that replace one leaf, and removals from one or two
-//! - `build`, `builder`: trees of whole texts, and of texts passed in one after the other
+//! - `node_text`, `short_text`: the text of a leaf, and borrowed texts to insert
+//! - `leaf_edits`, `leaf`: edits of a leaf's text, and a text with its counts
+//! - `maker`, `search`, `editor`: new nodes, running totals, and both with the counts of an edit
+//! - `node`: nodes; `row` makes nodes over rows of others, `anew` inserts into a new tree, `in_place`
+//!   edits nodes in place, `across` two adjacent leaves, and `pieces` splits longer texts
+//! - `lookup`, `conversions`: the descent to a leaf, and conversions of indices by it
+//! - `beside`, `short_edits`: the minimum bytes beside neighbours, and edits of whole trees
+//! - `build`, `builder`: trees of whole texts, and of texts passed in one after another
 #![tactic(auto)]
 
 mod beside;
@@ -59,9 +58,9 @@ pub use search::{Totals, Unit, count, place_of, total_before};
 pub use short_edits::{insert_at, insert_medium_at, is_lf, remove_at};
 pub use short_text::{MediumText, ShortText};
 
-/// The most bytes of a text that an insert splits into leaves in the place of one. A longer text is
-/// built as a tree of its own.
+/// The maximum number of bytes of a medium text: an insert of it replaces one leaf by at most
+/// `MAX_PIECES`. A longer text is built as a tree of its own.
 pub const MAX_MEDIUM_BYTES: usize = 4096;
 
-/// The most leaves that a leaf and a medium text make together.
+/// The maximum number of leaves made of a leaf and a medium text.
 pub const MAX_PIECES: usize = 6;

@@ -1,4 +1,5 @@
-//! The descent to the leaf that holds a place.
+//! The descent to the leaf that contains an index. It enters one node on each level, compares at
+//! most five totals in each inner node, and allocates nothing.
 ghost use Rattle.std.specs.Prelude.{◌≡◌, ◌+◌, ◌-◌, ◌*◌, ◌<◌, ◌≤◌, ◌^◌, length, slice_get, Some};
 ghost use Rattle.std.specs.Str.{encode_utf8_all};
 ghost use Rattle.rope_text.specs.declared.text_info.TextInfo.{TextInfo};
@@ -21,8 +22,7 @@ pub struct Found<'a> {
     pub before: TextInfo,
 }
 
-/// The leaf that holds the place `at`. It takes no memory, enters each node on the way once, and
-/// compares at most five totals in each inner one.
+/// Returns the leaf that contains the index `at`, counted in `unit`.
 #[inline(always)]
 pub fn leaf_at<'a>(node: &'a Node, unit: Unit, at: usize, steps: &mut Steps) -> Found<'a>
     requires within { at < count_of unit (info_of node.now.breaks (text node.now)) }
@@ -36,7 +36,8 @@ pub fn leaf_at<'a>(node: &'a Node, unit: Unit, at: usize, steps: &mut Steps) -> 
     ensures made { steps.new.made ≡ steps.old.made }
 {
     let mut here = node;
-    // A leaf's counts come from its list's totals, so that no look-up misses on the leaf's head.
+    // A leaf's counts come from the totals of its list, so that no lookup misses on the leaf's
+    // head.
     let mut inside = node.info();
     let mut rest = at;
     let mut before = TextInfo::new();
@@ -63,8 +64,7 @@ pub fn leaf_at<'a>(node: &'a Node, unit: Unit, at: usize, steps: &mut Steps) -> 
     }
 }
 
-/// The number of chunks, which are the leaves that aren't empty. It reads inner nodes alone, and
-/// takes no memory.
+/// Returns the number of chunks: the leaves that aren't empty. Reads only inner nodes.
 pub fn leaf_count(node: &Node) -> usize
     ensures { result ≡ length node.now.leaves }
 {
@@ -82,8 +82,8 @@ pub fn leaf_count(node: &Node) -> usize
     }
 }
 
-/// The byte at an index.
-// Inlined, so that a caller that makes no use of the steps doesn't count them.
+/// Returns the byte at an index.
+// Inlined, so that a caller that doesn't use the steps doesn't count them.
 #[inline(always)]
 pub fn byte_at(node: &Node, byte_idx: usize, steps: &mut Steps) -> u8
     requires within { byte_idx < byte_len (text node.now) }
@@ -98,8 +98,8 @@ pub fn byte_at(node: &Node, byte_idx: usize, steps: &mut Steps) -> u8
     bytes[byte_idx - found.before.bytes]
 }
 
-/// The character at an index.
-// Inlined, so that a caller that makes no use of the steps doesn't count them.
+/// Returns the character at an index.
+// Inlined, so that a caller that doesn't use the steps doesn't count them.
 #[inline(always)]
 pub fn char_at(node: &Node, char_idx: usize, steps: &mut Steps) -> char
     requires within { char_idx < length (text node.now) }

@@ -3,10 +3,10 @@ ghost use Rattle.std.specs.Prelude.{◌≡◌, ◌+◌, ◌<◌, ◌≤◌, ◌^
 
 use std::alloc::{AllocError, Global};
 
-/// What is made, unless memory for it is refused.
+/// A result of an allocation: the value made, or the error of the allocator.
 pub type Made<T> = Result<T, AllocError>;
 
-/// Where nodes' memory comes from, and how many were made.
+/// The allocator of nodes, and the number of nodes made.
 #[derive(Clone, Copy)]
 pub struct Maker {
     pub alloc: Global,
@@ -14,14 +14,14 @@ pub struct Maker {
 }
 
 impl Maker {
-    /// A maker that has made none yet.
+    /// Creates a maker that has made no node yet.
     pub fn new(alloc: Global) -> Maker
         ensures { result.made ≡ 0 }
     {
         Maker { alloc, made: 0 }
     }
 
-    /// Counts one node more. Above the largest number it stays there.
+    /// Counts one more node. The count saturates.
     pub(crate) fn add_made(&mut self)
         ensures most { self.new.made ≤ self.old.made + 1 }
         ensures added { self.old.made + 1 < 2 ^ 64 → self.new.made ≡ self.old.made + 1 }

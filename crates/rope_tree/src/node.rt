@@ -1,5 +1,5 @@
-//! Nodes: an empty text, or a pointer to a leaf or to a list of children. Their fields are private
-//! to this module and those in it.
+//! Nodes: an empty text, or a pointer to a leaf or to a list of children. The fields are private to
+//! this module and its submodules.
 ghost use Rattle.std.specs.Prelude.{◌≡◌, ◌+◌, ◌^◌, ◌<◌, ◌≤◌, List, length, IfOk, IfSome};
 ghost use Rattle.std.specs.Str.{chars};
 ghost use Rattle.rope_text.specs.declared.TheConstants.{MAX_BYTES, MAX_CHILDREN, MAX_HEIGHT};
@@ -29,8 +29,8 @@ pub struct Node {
     form: Form,
 }
 
-/// What a node is. Its kind lies beside the pointer, so that no memory is read to learn it, and an
-/// empty text takes none.
+/// The form of a node. The tag is kept beside the pointer, so reading it touches no other memory.
+/// An empty text allocates nothing.
 #[cycle(tree)]
 #[derive(Drop)]
 enum Form {
@@ -39,14 +39,14 @@ enum Form {
     Inner(Rc<Children>),
 }
 
-/// The children of an inner node, with their running totals. The places behind the children hold
+/// The children of an inner node, with their running totals. The entries after the children are
 /// empty nodes.
 #[cycle(tree)]
 #[derive(Drop)]
 struct Children {
     height: u8,
     breaks: LineBreaks,
-    /// The child that the last edit went to, where the next one often goes.
+    /// The child of the last edit, tried first by the next one.
     last: u8,
     totals: Totals,
     nodes: [Node; MAX_CHILDREN],
@@ -91,7 +91,7 @@ impl Model for Node {
 }
 
 impl Children {
-    /// The nodes, with their running totals.
+    /// Returns the nodes and their running totals.
     fn parts(&self) -> (&[Node], &Totals)
         ensures nodes { result.0.now ≡ self.now }
         ensures totals { HasTotals (breaks_of self.now) result.1.now self.now }
@@ -99,7 +99,7 @@ impl Children {
         (&self.nodes[..self.totals.len()], &self.totals)
     }
 
-    /// The counts of all children.
+    /// Returns the counts of all children.
     #[inline(always)]
     fn total(&self) -> TextInfo
         requires { 1 ≤ length self.now }
@@ -112,7 +112,7 @@ impl Children {
 impl Default for Node {
     ghost is_default = { IsFlat };
 
-    /// An empty node. All its bytes are 0, so that the places of a list are cleared at once.
+    /// Returns an empty node. All its bytes are 0, so that an array of them is one memset.
     fn default() -> Self {
         let form = Form::Empty(LineBreaks::Lf);
         Node { form }
@@ -120,8 +120,8 @@ impl Default for Node {
 }
 
 impl Node {
-    /// How many levels lie below it: 0 for a leaf, and at most 18. Its clauses also say what holds
-    /// of every node.
+    /// Returns the number of levels below: 0 for a leaf, and at most 18. The other clauses state
+    /// the invariants of every node.
     pub fn height(&self) -> usize
         ensures value { result ≡ self.now.height }
         ensures low { self.now.height ≤ MAX_HEIGHT }
@@ -133,7 +133,7 @@ impl Node {
         }
     }
 
-    /// Its set of line breaks.
+    /// Returns the set of line breaks.
     pub fn line_breaks(&self) -> LineBreaks
         ensures { result ≡ self.now.breaks }
     {
@@ -144,7 +144,7 @@ impl Node {
         }
     }
 
-    /// The counts of its text. Its clauses also say what holds of every node.
+    /// Returns the counts of the text. The other clauses state the invariants of every node.
     pub fn info(&self) -> TextInfo
         ensures value { result ≡ info_of self.now.breaks (text self.now) }
         ensures low { self.now.height ≤ MAX_HEIGHT }
@@ -157,14 +157,15 @@ impl Node {
         }
     }
 
-    /// What the node is.
+    /// Returns the text of a leaf, or the children of an inner node.
     pub fn view(&self) -> View<'_>
         ensures { IsViewOf self.now result }
     {
         self.known_view(self.info())
     }
 
-    /// The same, by the counts of its text, which the caller knows: so nothing of a leaf is read.
+    /// Returns the text of a leaf, or the children of an inner node. The caller passes the counts
+    /// of the text, so that no byte of a leaf is read.
     pub fn known_view(&self, info: TextInfo) -> View<'_>
         requires { info ≡ info_of self.now.breaks (text self.now) }
         ensures { IsViewOf self.now result }
@@ -179,7 +180,7 @@ impl Node {
         }
     }
 
-    /// A node of this leaf.
+    /// Wraps a leaf as a node.
     pub(crate) fn of_leaf(leaf: Rc<Leaf>) -> Node
         requires { IsLeafNode leaf.value }
         ensures { result ≡ leaf.value }
@@ -188,7 +189,7 @@ impl Node {
         Node { form }
     }
 
-    /// The same node, with one owner more.
+    /// Returns another reference to this node.
     pub fn share(&self) -> Made<Node>
         ensures same { IfOk result (λ node. node ≡ self.now) }
         ensures tree { IfOk result (λ node. IsTree node) }
@@ -202,21 +203,22 @@ impl Node {
     }
 }
 
-/// What a node is: a leaf's text, or an inner node's children with their running totals.
+/// A view of a node: the text of a leaf, or the children of an inner node with their running
+/// totals.
 #[derive(Drop)]
 pub enum View<'a> {
     Leaf(ShortText<'a>),
     Inner(&'a [Node], &'a Totals),
 }
 
-/// One node, or two side by side.
+/// One node, or two adjacent ones.
 #[derive(Drop)]
 pub enum Nodes {
     One(Node),
     Two(Node, Node),
 }
 
-/// A leaf of this text, whose counts the caller may know. An empty one takes no memory.
+/// Makes a leaf of this text, whose counts may be known. An empty text allocates nothing.
 #[inline(always)]
 fn leaf_node(
     maker: &mut Maker,
@@ -244,7 +246,7 @@ fn leaf_node(
     Ok(Node::of_leaf(leaf))
 }
 
-/// A leaf of this text, whose counts the caller knows. An empty one takes no memory.
+/// Makes a leaf of this text, whose counts are known. An empty text allocates nothing.
 pub fn make_leaf(maker: &mut Maker, breaks: LineBreaks, text: &str, info: TextInfo) -> Made<Node>
     requires fits { length text.now ≤ MAX_BYTES }
     requires info { info ≡ info_of breaks (chars text.now) }
@@ -257,7 +259,7 @@ pub fn make_leaf(maker: &mut Maker, breaks: LineBreaks, text: &str, info: TextIn
     leaf_node(maker, breaks, text, Some(info))
 }
 
-/// A leaf of this text.
+/// Makes a leaf of this text, and counts it. An empty text allocates nothing.
 pub fn leaf_of(maker: &mut Maker, breaks: LineBreaks, text: &str) -> Made<Node>
     requires { length text.now ≤ MAX_BYTES }
     ensures ok { IfOk result (λ node. node ≡ leaf_tree breaks (chars text.now)) }

@@ -1,4 +1,4 @@
-//! The text of a leaf, edited where it stays, and the places at which longer texts are cut.
+//! The text of a leaf, edited in place, and the positions at which longer texts are split.
 ghost use Rattle.std.specs.Prelude.{◌≡◌, ℕ, ◌+◌, ◌<◌, ◌≤◌, ◌++◌, [], true, length, take, IsTrue, IfSome};
 ghost use Rattle.std.specs.List.{insert_slice, remove_range};
 ghost use Rattle.std.specs.Str.{chars, all_scalars, IsCharBoundary, encode_utf8_all};
@@ -14,7 +14,7 @@ use rope_text::{MAX_BYTES, MAX_JOINED_BYTES, MIN_HALF_BYTES};
 use std::marker::Model;
 use std::str;
 
-// Three texts as one.
+// Concatenates three texts.
 pub(crate) fn text_of_parts<const N: usize>(
     first: &str,
     second: &str,
@@ -30,7 +30,7 @@ pub(crate) fn text_of_parts<const N: usize>(
     text
 }
 
-// Room for the bytes of a leaf.
+// A buffer for the bytes of a leaf.
 type LeafBytes = ArrayVec<u8, MAX_BYTES>;
 
 // Appends bytes.
@@ -44,8 +44,8 @@ fn append_bytes(bytes: &mut LeafBytes, added: &[u8])
     }
 }
 
-// Inserts bytes before the one at `place` of the first `old_len`. What follows it moves up, over as
-// many bytes as are inserted.
+// Inserts bytes before the one at `place` of the first `old_len`. The bytes after it move up by the
+// number of bytes inserted.
 fn put_in_gap(bytes: &mut [u8], place: usize, old_len: usize, added: &[u8])
     requires place { place ≤ old_len }
     requires len { length bytes.old ≡ old_len + length added.now }
@@ -56,14 +56,14 @@ fn put_in_gap(bytes: &mut [u8], place: usize, old_len: usize, added: &[u8])
     bytes[place..end].copy_from_slice(added);
 }
 
-// Inserts bytes before the one at `place`. What follows it moves once.
+// Inserts bytes before the one at `place`. The bytes after it move once.
 fn put_bytes(bytes: &mut LeafBytes, place: usize, added: &[u8])
     requires place { place ≤ length bytes.old.items }
     requires fits { length bytes.old.items + length added.now ≤ MAX_BYTES }
     ensures { bytes.new.items ≡ insert_slice bytes.old.items place added.now }
 {
     if added.len() == 1 {
-        // Mostly a typed character: what follows moves by one byte, a constant, and so by one call.
+        // Mostly a typed character: the rest moves by one byte, a constant, and so by one call.
         bytes.insert(place, added[0]);
         return;
     }
@@ -72,8 +72,8 @@ fn put_bytes(bytes: &mut LeafBytes, place: usize, added: &[u8])
     put_in_gap(bytes.as_mut_slice(), place, old_len, added);
 }
 
-/// Cuts a text that is too long for a leaf into two near its middle, so that each is a leaf's text,
-/// and has at least half a leaf's bytes but for one. No CR is parted from an LF.
+/// Splits a text that is too long for a leaf near its middle, so that each half fits in a leaf and
+/// has at least `MIN_HALF_BYTES` bytes. No CR LF is split.
 pub(crate) fn halves_of(text: &str) -> (&str, &str)
     requires long { MAX_BYTES < length text.now }
     requires short { length text.now ≤ MAX_JOINED_BYTES }
@@ -83,9 +83,9 @@ pub(crate) fn halves_of(text: &str) -> (&str, &str)
     (&text[..cut], &text[cut..])
 }
 
-/// Cuts the text of a leaf into two near its middle, so that each has at least half a leaf's bytes
-/// but for one, and room for so many more. No CR is parted from an LF. None where no cut next to
-/// the middle is such.
+/// Splits the text of a leaf near its middle, so that each half has at least `MIN_HALF_BYTES`
+/// bytes, and room for `room` more. No CR LF is split. Returns `None` if the legal position next to
+/// the middle gives no such halves.
 pub(crate) fn even_halves(text: &str, room: usize) -> Option<(&str, &str)>
     ensures { IfSome result (λ halves. AreHalves room text.now halves.0.now halves.1.now) }
 {
@@ -98,8 +98,8 @@ pub(crate) fn even_halves(text: &str, room: usize) -> Option<(&str, &str)>
     Some((&text[..cut], back))
 }
 
-/// A text of at most `MAX_BYTES` bytes, held in place and seen as the list of its characters. No
-/// call takes memory.
+/// A text of at most `MAX_BYTES` bytes, kept in the struct itself. Modelled as the list of its
+/// characters. No call allocates.
 #[derive(Drop)]
 pub struct NodeText {
     bytes: LeafBytes,
@@ -119,7 +119,7 @@ impl Model for NodeText {
 }
 
 impl NodeText {
-    /// The empty text.
+    /// Creates an empty text.
     pub fn new() -> Self
         ensures { result ≡ [] }
     {
@@ -128,7 +128,7 @@ impl NodeText {
         }
     }
 
-    /// A copy of a text of at most `MAX_BYTES` bytes.
+    /// Copies a text of at most `MAX_BYTES` bytes.
     pub fn from_str(text: &str) -> Self
         requires { length text.now ≤ MAX_BYTES }
         ensures value { result ≡ chars text.now }
@@ -139,7 +139,7 @@ impl NodeText {
         copy
     }
 
-    /// The text.
+    /// Returns the text.
     pub fn as_str(&self) -> &str
         ensures bytes { result.now ≡ encode_utf8_all self.now }
         ensures chars { chars result.now ≡ self.now }
@@ -150,7 +150,7 @@ impl NodeText {
         unsafe { str::from_utf8_unchecked(self.bytes.as_slice()) }
     }
 
-    /// The length in bytes.
+    /// Returns the length in bytes.
     pub fn len(&self) -> usize
         ensures value { result ≡ byte_len self.now }
         ensures fits { result ≤ MAX_BYTES }
@@ -158,7 +158,7 @@ impl NodeText {
         self.as_str().len()
     }
 
-    /// Inserts `added` where a character starts, or at the end. What follows it moves once.
+    /// Inserts `added` where a character starts, or at the end. The bytes after it move once.
     #[inline(always)]
     pub fn insert_bytes(&mut self, place: usize, added: &str)
         requires boundary { IsCharBoundary (encode_utf8_all self.old) place }
@@ -188,8 +188,8 @@ impl NodeText {
         append_bytes(&mut self.bytes, text.as_bytes());
     }
 
-    /// The bytes at which the characters from `start` up to `end` begin and end. `chars` is the
-    /// number of the text's characters: if it has as many bytes, nothing is scanned.
+    /// Returns the byte range of the characters from `start` up to `end`. `chars` is the number of
+    /// characters of the text: if the text is ASCII, nothing is scanned.
     pub fn byte_range(&self, start: usize, end: usize, chars: usize) -> (usize, usize)
         requires ordered { start ≤ end }
         requires chars { chars ≡ length self.now }
@@ -209,7 +209,7 @@ impl NodeText {
         (from, to)
     }
 
-    /// Removes bytes that are whole characters. What follows them moves once.
+    /// Removes a range of whole characters, given in bytes. The bytes after it move once.
     pub fn remove_bytes(&mut self, from: usize, to: usize)
         requires ordered { from ≤ to }
         requires from { IsCharBoundary (encode_utf8_all self.old) from }
@@ -222,7 +222,7 @@ impl NodeText {
         self.bytes.truncate(len - (to - from));
     }
 
-    /// Keeps the first `chars` characters alone, which take `len` bytes. Nothing moves.
+    /// Truncates to the first `chars` characters, which take `len` bytes. Nothing moves.
     pub fn keep_first(&mut self, chars: usize, len: usize)
         requires { len ≡ byte_len (take chars self.old) }
         ensures value { self.new ≡ take chars self.old }
@@ -232,8 +232,8 @@ impl NodeText {
     }
 }
 
-/// Where the first leaf of a longer text ends: the last cut by which it has at most `MAX_BYTES`
-/// bytes.
+/// Returns the length of the first leaf of a longer text: the last position of at most `MAX_BYTES`
+/// at which it may be split.
 pub fn first_leaf_len(text: &str) -> usize
     requires { MAX_BYTES < length text.now }
     ensures boundary { IsCharBoundary text.now result }

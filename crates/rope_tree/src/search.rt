@@ -1,4 +1,14 @@
-//! Running totals over children, and the search for the child that holds a place.
+//! Running totals over the children of a node, and the search for the child that contains an index.
+//!
+//! Entry `i` has the counts of children 0 to `i`. An index in bytes, characters, code units or line
+//! breaks is found by a binary search over one of the counts, with at most five comparisons for 24
+//! children. The counts of a child are the difference of two totals, so a search or an edit knows
+//! them without a read of the child. An edit of child `i` changes the entries from `i` on.
+//!
+//! Totals have one of two widths. If each text below them has fewer than 4 GiB, each count takes 32
+//! bits, and each kind of count has a row of its own ([`count_rows`]). Other totals are a boxed
+//! list in words. Functions over the wide form are never inlined, so that the narrow path stays
+//! short.
 ghost use Rattle.std.specs.Prelude.{◌≡◌, ℕ, ◌+◌, ◌-◌, ◌<◌, ◌≤◌, ◌^◌, [], ◌∷◌, ◌++◌, true, false, length, slice_index_or, IfOk, OnOk, OnErr};
 ghost use Rattle.rope_text.specs.declared.TheConstants.{MAX_CHILDREN};
 ghost use Rattle.rope_text.specs.declared.line_breaks.LineBreaks.{LineBreaks};
@@ -21,7 +31,7 @@ mod count_rows;
 
 use count_rows::CountRows;
 
-/// What a search counts in.
+/// The unit of an index: the kind of count that a search compares.
 #[derive(Clone, Copy)]
 pub enum Unit {
     Byte,
@@ -30,7 +40,7 @@ pub enum Unit {
     LineBreak,
 }
 
-/// The count in this unit.
+/// Returns the count in this unit.
 pub fn count(info: TextInfo, unit: Unit) -> usize
     requires { IsSmall info }
     ensures { result ≡ count_of unit info }
@@ -43,15 +53,14 @@ pub fn count(info: TextInfo, unit: Unit) -> usize
     }
 }
 
-/// For each child of a list of at most 24, the counts of all children up to it and with it, seen as
-/// the list of those counts. In a text below 4 GiB each takes 32 bits; others lie in a box of their
-/// own, in words.
+/// Running totals over at most 24 children: for each child, the counts of all children up to and
+/// including it. Modelled as the list of those counts.
 #[derive(Drop)]
 pub struct Totals {
     width: Width,
 }
 
-/// Totals in 32 bits each, or in words.
+/// The two widths of totals: 32 bits or words.
 #[derive(Drop)]
 enum Width {
     Narrow(CountRows),
@@ -71,14 +80,14 @@ impl Model for Totals {
     ghost view = { totals_of };
 }
 
-/// The same totals in words. Cold: only a text of 4 GiB or more has such.
+/// Copies totals to words.
 #[inline(never)]
 fn widened(alloc: Global, totals: &CountRows) -> Made<Box<WideTotals>>
     requires { length totals.now ≤ MAX_CHILDREN }
     ensures { IfOk result (λ wide. wide.value.items ≡ totals.now) }
 {
-    // Matched by hand: `?` would move the totals that a refusal gives back on the path that
-    // succeeds, too.
+    // Matched by hand: `?` would also move the totals of a failed allocation on the path that
+    // succeeds.
     let Ok(mut wide) = Box::new(alloc, WideTotals::new()) else {
         return Err(AllocError);
     };
@@ -88,8 +97,8 @@ fn widened(alloc: Global, totals: &CountRows) -> Made<Box<WideTotals>>
     Ok(wide)
 }
 
-/// Replaces the counts of a part by others, in all totals from a place on.
-// Cold: only totals of 4 GiB and more come to it.
+/// Replaces the counts `old` by `new` in all totals from an index on.
+// Cold: reached only by totals of 4 GiB or more.
 #[inline(never)]
 fn shift_wide(totals: &mut [TextInfo], from: usize, old: TextInfo, new: TextInfo)
     requires part { HavePart from totals.old old }
@@ -103,8 +112,8 @@ fn shift_wide(totals: &mut [TextInfo], from: usize, old: TextInfo, new: TextInfo
     }
 }
 
-/// Appends totals, with the counts `new` in each for those of the part `old`.
-// Cold: only totals of 4 GiB and more come to it.
+/// Appends totals, with the counts `old` in each replaced by `new`.
+// Cold: reached only by totals of 4 GiB or more.
 #[inline(never)]
 fn append_wide(totals: &mut WideTotals, others: &[TextInfo], old: TextInfo, new: TextInfo)
     requires room { length totals.old.items + length others.now ≤ MAX_CHILDREN }
@@ -121,9 +130,8 @@ fn append_wide(totals: &mut WideTotals, others: &[TextInfo], old: TextInfo, new:
     }
 }
 
-/// The same counts, in a place of their own. A call takes counts by their address: were those that
-/// an edit has just stored in words passed on as they are, the narrow path would load them as
-/// vectors, and stall.
+/// Returns a copy of the counts. Callees take counts by address: without the copy, the narrow path
+/// would load as vectors the words that an edit has just stored, a store-forwarding stall.
 #[inline(always)]
 fn copied(info: TextInfo) -> TextInfo
     ensures { result ≡ info }
@@ -137,8 +145,8 @@ fn copied(info: TextInfo) -> TextInfo
 }
 
 /// Adds counts to all totals from an index on.
-// Cold: only totals of 4 GiB and more come to it. It takes the counts by reference, so that the
-// narrow path stores no copy.
+// Cold: reached only by totals of 4 GiB or more. Takes the counts by reference, so that the narrow
+// path stores no copy.
 #[inline(never)]
 fn grow_wide(totals: &mut [TextInfo], from: usize, more: &TextInfo)
     requires fits { FitFrom (2 ^ 64) from totals.old no_counts more.now }
@@ -157,8 +165,8 @@ const NONE: TextInfo = TextInfo {
     bytes: 0,
 };
 
-/// Returns whether there is a child at this index that holds the character `at`.
-// Cold: only totals of 4 GiB and more come to it.
+/// Returns whether the child at this index exists and contains the character `at`.
+// Cold: reached only by totals of 4 GiB or more.
 #[inline(never)]
 fn holds_wide(totals: &[TextInfo], place: usize, at: usize) -> bool
     ensures within { result ≡ true → place < length totals.now }
@@ -177,7 +185,7 @@ fn holds_wide(totals: &[TextInfo], place: usize, at: usize) -> bool
     at < past && totals[place - 1].chars <= at
 }
 
-/// A text of so many bytes may have counts that don't fit in 32 bits.
+/// The smallest number of bytes of a text whose counts may not fit in 32 bits.
 const TOO_WIDE: usize = 4_294_967_296;
 
 /// Returns whether totals of `all` bytes keep their width if the text grows by `bytes` bytes.
@@ -190,7 +198,7 @@ fn keeps_width(all: usize, bytes: usize) -> bool
 }
 
 impl Totals {
-    /// The totals of no children.
+    /// Returns the totals of no children.
     pub(crate) fn new() -> Totals
         ensures { result ≡ [] }
     {
@@ -198,7 +206,7 @@ impl Totals {
         Totals { width }
     }
 
-    /// How many children there are.
+    /// Returns the number of children.
     pub fn len(&self) -> usize
         ensures { result ≡ length self.now }
     {
@@ -208,7 +216,7 @@ impl Totals {
         }
     }
 
-    /// The counts of all children up to the one at a place, and with it.
+    /// Returns the counts of all children up to and including the one at `place`.
     pub fn get(&self, place: usize) -> TextInfo
         requires { place < length self.now }
         ensures { (d : TextInfo) → result ≡ slice_index_or self.now place d }
@@ -219,7 +227,7 @@ impl Totals {
         }
     }
 
-    /// Returns whether there is a child at this index that holds the character `at`.
+    /// Returns whether the child at this index exists and contains the character `at`.
     #[inline(always)]
     fn holds(&self, place: usize, at: usize) -> bool
         ensures within { result ≡ true → place < length self.now }
@@ -234,7 +242,7 @@ impl Totals {
         }
     }
 
-    /// Whether the totals keep their width if the text grows by so many bytes.
+    /// Returns whether the totals keep their width if the text grows by `bytes` bytes.
     pub(crate) fn has_room_for(&self, bytes: usize) -> bool
         requires { 1 ≤ length self.now }
         ensures room { result ≡ true → AreNarrow self.now → (d : TextInfo)
@@ -248,7 +256,7 @@ impl Totals {
         }
     }
 
-    /// Appends the total of one child more.
+    /// Appends the total of one more child.
     pub(crate) fn push(&mut self, alloc: Global, total: TextInfo) -> Made<()>
         requires room { length self.old < MAX_CHILDREN }
         requires small { IsSmall total }
@@ -270,9 +278,9 @@ impl Totals {
         Ok(())
     }
 
-    /// Appends `count` totals of another list, from a place on, with the counts `new` in each for
-    /// those of the part `old`. Returns whether it did: not if they would be of two widths, and
-    /// then nothing has changed.
+    /// Appends `count` totals of another list, from the index `from` on, with the counts `old` in
+    /// each replaced by `new`. Returns whether it did: if the result and `others` would have
+    /// different widths, nothing changes.
     pub(crate) fn append(
         &mut self,
         alloc: Global,
@@ -323,7 +331,7 @@ impl Totals {
         }
     }
 
-    /// Inserts the total of one child more before the one at a place.
+    /// Inserts the total of one more child before the one at an index.
     pub(crate) fn insert(&mut self, place: usize, total: TextInfo)
         requires within { place ≤ length self.old }
         requires room { length self.old < MAX_CHILDREN }
@@ -356,7 +364,7 @@ impl Totals {
         }
     }
 
-    /// Replaces the counts of a part by others, in all totals from a place on.
+    /// Replaces the counts `old` by `new` in all totals from an index on.
     #[inline(always)]
     pub(crate) fn retotal(&mut self, place: usize, old: TextInfo, new: TextInfo)
         requires within { place < length self.old }
@@ -377,7 +385,7 @@ impl Totals {
     }
 }
 
-/// The counts of the children before a place.
+/// Returns the counts of the children before an index.
 pub fn total_before(totals: &Totals, place: usize) -> TextInfo
     requires { place ≤ length totals.now }
     ensures first { place ≡ 0 → (breaks : LineBreaks) → result ≡ info_of breaks [] }
@@ -390,8 +398,8 @@ pub fn total_before(totals: &Totals, place: usize) -> TextInfo
     }
 }
 
-/// The place whose total passes `at`, where the total before it doesn't: found by halving, in at
-/// most five comparisons.
+/// Returns the index of the child that contains `at`, by a binary search with at most five
+/// comparisons.
 #[inline(always)]
 pub fn place_of(totals: &Totals, unit: Unit, at: usize, steps: &mut Steps) -> usize
     requires some { 0 < length totals.now }
@@ -423,9 +431,9 @@ pub fn place_of(totals: &Totals, unit: Unit, at: usize, steps: &mut Steps) -> us
     base
 }
 
-/// Returns the index of the child that holds the character `at`, and whether the path still follows
-/// that of the last edit. While it does, that edit's child is tried before the search. The child is
-/// entered.
+/// Returns the index of the child that contains the character `at`, and whether the path still
+/// follows that of the last edit. While it does, the child of that edit is tried before the search.
+/// Counts the child as entered.
 #[inline(always)]
 pub(crate) fn try_place(
     editor: &mut Editor,
@@ -458,8 +466,8 @@ pub(crate) fn try_place(
     (place, false)
 }
 
-/// The character that must lie in the child which takes a text: at a seam, the one before it or the
-/// one behind it.
+/// Returns the character that the child which takes a text must contain: at a boundary between two
+/// children, the one after it if `to_right`, else the one before it.
 pub fn char_to_hold(at: usize, to_right: bool) -> usize
     ensures right { to_right ≡ true → result ≡ at }
     ensures first { to_right ≡ false → at ≡ 0 → result ≡ 0 }

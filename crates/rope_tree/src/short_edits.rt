@@ -1,5 +1,7 @@
-//! Edits of whole trees that replace one leaf, or change two: inserts of short and of medium texts,
-//! and removals of characters that lie in one leaf or in two side by side.
+//! Edits of whole trees that replace one leaf, or change two: inserts of short and medium texts,
+//! and removals from one leaf or from two adjacent ones.
+//!
+//! If an allocation fails, the tree is unchanged.
 ghost use Rattle.std.specs.Prelude.{◌≡◌, ◌+◌, ◌-◌, ◌*◌, ◌<◌, ◌≤◌, ◌^◌, true, false, length, drop, IfOk, OnOk, OnErr};
 ghost use Rattle.std.specs.Str.{chars};
 ghost use Rattle.rope_text.specs.declared.TheConstants.{MAX_BYTES, MAX_SHORT_BYTES};
@@ -45,8 +47,8 @@ fn goes_right(editor: &mut Editor, root: &Node, at: usize, added: &str) -> bool
     ends_in_cr(added) && is_lf(editor, root, at)
 }
 
-/// Inserts a text by splitting full lists where they stand, or else by a new tree, which takes the
-/// old one's place last of all.
+/// Inserts a text by splitting full nodes in place, or else by a new tree, which replaces the old
+/// one as the last step.
 fn insert_or_rebuild(
     editor: &mut Editor,
     root: &mut Node,
@@ -74,16 +76,15 @@ fn insert_or_rebuild(
     Ok(())
 }
 
-/// Puts a text of 1 to 981 bytes before the character `at`, by the first of three ways that can:
+/// Inserts a text of 1 to 981 bytes before the character `at`, by the first of three methods that
+/// applies:
 ///
-/// 1. Where the nodes stand, if the leaf has room, or can be cut into two, since the list that it
-///    is in has room for one more. It takes memory for copies of shared nodes, and for a second
-///    leaf.
+/// 1. In place, if the leaf has room, or if the list above it has room for the second half of a
+///    split. Allocates copies of shared nodes, and the second half.
 /// 2. By a second descent (`Node::insert_splitting`), if that list is full, but one above it isn't:
-///    each full list below that one becomes two new ones.
-/// 3. Else, as where all lists up to the root are full, by a new tree, which shares the nodes off
-///    the way. It takes the old one's place last of all, so that a refusal leaves the tree as it
-///    was.
+///    the full child below is split into two new nodes.
+/// 3. By a new tree, which shares the nodes off the path, and replaces the old tree as the last
+///    step.
 pub fn insert_at(editor: &mut Editor, root: &mut Node, at: usize, added: &str) -> Made<()>
     requires within { at ≤ length (text root.old) }
     requires some { 1 ≤ length added.now }
@@ -102,12 +103,12 @@ pub fn insert_at(editor: &mut Editor, root: &mut Node, at: usize, added: &str) -
     if root.insert_in_place(editor, at, &added, to_right, true, &mut TextInfo::new())? {
         return Ok(());
     }
-    // The first try made the nodes on the way the tree's own, so this one needn't copy any.
+    // The first descent took ownership of the nodes on the path, so this one needn't copy any.
     insert_or_rebuild(editor, root, at, &added.as_medium(), to_right)
 }
 
-/// Inserts a medium text before the character `at` of a tree of more than one leaf: the leaf at its
-/// index is replaced by up to six, by the second or the third way of [`insert_at`].
+/// Inserts a medium text before the character `at` of a tree of more than one leaf: the leaf at the
+/// index is replaced by up to six, by the second or the third method of [`insert_at`].
 pub fn insert_medium_at(editor: &mut Editor, root: &mut Node, at: usize, added: &str) -> Made<()>
     requires within { at ≤ length (text root.old) }
     requires inner { 1 ≤ root.old.height }
@@ -128,13 +129,14 @@ pub fn insert_medium_at(editor: &mut Editor, root: &mut Node, at: usize, added: 
     insert_or_rebuild(editor, root, at, &added, to_right)
 }
 
-/// At a tree's ends no other leaf stands, so the first leaf and the last may have any length.
+/// The first leaf and the last leaf of a tree may have any length, since they have no neighbour
+/// there.
 const ANY: Least = Least { first: 0, last: 0 };
 
-/// Removes the characters from `start` up to `end`, if they lie in one leaf or in two side by side
-/// below one node, which may do without them: each has others, no LF comes first in it that didn't,
-/// and no CR last. So no CR LF comes to lie in two leaves. Returns whether it did. Shared nodes
-/// that it passes are copied; where there are none, it takes no memory.
+/// Removes the characters from `start` up to `end`, if they are in one leaf or in two adjacent ones
+/// below one node, and these stay long enough. Neither leaf may become empty, nor begin with LF or
+/// end in CR if it didn't before, so no CR LF is split between two leaves. Returns whether it did.
+/// Allocates only copies of shared nodes.
 pub fn remove_at(editor: &mut Editor, root: &mut Node, start: usize, end: usize) -> Made<bool>
     requires ordered { start < end }
     requires within { end ≤ length (text root.old) }

@@ -1,5 +1,5 @@
-//! Texts on their way into leaves, and those of leaves: short ones, which fit in a leaf, and medium
-//! ones, which become some leaves side by side.
+//! Borrowed texts of leaves and texts to insert: short ones, which fit in a leaf, and medium ones,
+//! which are split into several leaves.
 ghost use Rattle.std.specs.Prelude.{◌≡◌, ◌+◌, ◌≤◌, true, length, take, drop};
 ghost use Rattle.std.specs.Str.{chars, all_scalars, encode_utf8_all, IsCharBoundary, IsUtf8};
 ghost use Rattle.rope_text.specs.declared.TheConstants.{MAX_BYTES};
@@ -10,14 +10,14 @@ ghost use Rattle.rope_tree.specs.declared.TheConstants.{MAX_MEDIUM_BYTES};
 use rope_text::str_utils;
 use std::marker::Model;
 
-/// A borrowed text of at most `MAX_BYTES` bytes, seen as the list of its characters.
+/// A borrowed text of at most `MAX_BYTES` bytes, modelled as the list of its characters.
 ///
-/// If it is known to be ASCII, a byte index is the character index. If it is known to have fewer
-/// characters than bytes, it is scanned from the end that is nearer to the character.
+/// If the number of characters is known, an index is found faster: in ASCII it is the byte index,
+/// and other texts are scanned from the end that is nearer to the character.
 #[derive(Drop)]
 pub struct ShortText<'a> {
     pub(crate) text: &'a str,
-    /// How many characters it has; where they weren't counted, more than it has bytes.
+    /// The number of characters, or `UNCOUNTED`.
     pub(crate) char_count: usize,
 }
 
@@ -37,7 +37,7 @@ impl<'a> Model for ShortText<'a> {
 }
 
 impl<'a> ShortText<'a> {
-    /// A text of at most `MAX_BYTES` bytes, whose characters aren't counted.
+    /// Wraps a text of at most `MAX_BYTES` bytes, without counting its characters.
     pub fn new(text: &'a str) -> ShortText<'a>
         requires { length text.now ≤ MAX_BYTES }
         ensures value { result ≡ chars text.now }
@@ -47,7 +47,7 @@ impl<'a> ShortText<'a> {
         ShortText { text, char_count }
     }
 
-    /// The text.
+    /// Returns the text.
     pub fn as_str(&self) -> &'a str
         ensures bytes { result.now ≡ encode_utf8_all self.now }
         ensures chars { chars result.now ≡ self.now }
@@ -57,7 +57,7 @@ impl<'a> ShortText<'a> {
         self.text
     }
 
-    /// The length in bytes.
+    /// Returns the length in bytes.
     pub fn len(&self) -> usize
         ensures value { result ≡ byte_len self.now }
         ensures fits { result ≤ MAX_BYTES }
@@ -65,7 +65,8 @@ impl<'a> ShortText<'a> {
         self.as_str().len()
     }
 
-    /// The byte at which a character starts; past the end, the number of bytes.
+    /// Returns the byte index at which a character starts, or the length if the index is past the
+    /// end.
     pub fn char_to_byte_idx(&self, char_idx: usize) -> usize
         ensures value { result ≡ char_to_byte self.now char_idx }
         ensures boundary { IsCharBoundary (encode_utf8_all self.now) result }
@@ -93,7 +94,7 @@ impl<'a> ShortText<'a> {
         (&text[..byte_idx], &text[byte_idx..])
     }
 
-    /// Returns the same text as a medium one.
+    /// Returns this text as a medium one.
     #[inline(always)]
     pub(crate) fn as_medium(&self) -> MediumText<'a>
         ensures value { result ≡ self.now }
@@ -102,7 +103,7 @@ impl<'a> ShortText<'a> {
     }
 }
 
-/// A borrowed text of at most `MAX_MEDIUM_BYTES` bytes, seen as the list of its characters.
+/// A borrowed text of at most `MAX_MEDIUM_BYTES` bytes, modelled as the list of its characters.
 #[derive(Drop)]
 pub struct MediumText<'a> {
     text: &'a str,
@@ -148,7 +149,7 @@ impl<'a> MediumText<'a> {
         self.as_str().len()
     }
 
-    /// Returns the same text as a short one, if it fits in a leaf.
+    /// Returns this text as a short one. It has to fit in a leaf.
     pub(crate) fn as_short(&self) -> ShortText<'a>
         requires { byte_len self.now ≤ MAX_BYTES }
         ensures { result ≡ self.now }

@@ -1,5 +1,5 @@
-//! Removals across the seam of two leaves in one list, where they stand: the one loses its end, the
-//! other its start.
+//! Removals in place across the boundary between two leaves of one list: the first leaf loses its
+//! end, the second its start.
 ghost use Rattle.std.specs.Prelude.{◌≡◌, ◌+◌, ◌-◌, ◌<◌, ◌≤◌, true, false, length, take, slice_index_or, IfOk, OnErr, IfSome, IfNone};
 ghost use Rattle.rope_text.specs.declared.TheConstants.{MIN_TWO_LEAVES_BYTES};
 ghost use Rattle.rope_text.specs.Text.{byte_len};
@@ -18,28 +18,27 @@ use rope_text::{MIN_TWO_LEAVES_BYTES, TextInfo};
 use std::alloc::AllocError;
 use std::rc::Rc;
 
-/// By how much the counts of two leaves fell.
+/// The decrease of the counts of two leaves.
 #[derive(Clone, Copy)]
 struct Losses {
     left: TextInfo,
     right: TextInfo,
 }
 
-/// What two leaves keep of a removal that crosses the seam between them.
+/// A removal across the boundary between two leaves: its bounds, and the bytes that remain.
 #[derive(Clone, Copy)]
 struct Kept {
-    /// The character of the first leaf from which on it is removed.
+    /// The character index in the first leaf at which the removal starts.
     start: usize,
-    /// The character of the second up to which it is removed.
+    /// The character index in the second leaf at which it ends.
     end: usize,
-    /// How many bytes of the first stay.
+    /// The number of bytes that the first leaf keeps.
     left: usize,
-    /// How many bytes of the second stay.
+    /// The number of bytes that the second leaf keeps.
     right: usize,
 }
 
-/// Removes the end of one leaf and the start of the next one, which both may lose. It takes no
-/// memory.
+/// Removes the end of one leaf and the start of the next one.
 fn shorten(left: &mut Leaf, right: &mut Leaf, kept: Kept, least: Least) -> Losses
     requires start { kept.start < length (text left.old) }
     requires some { 0 < kept.end }
@@ -75,8 +74,9 @@ fn shorten(left: &mut Leaf, right: &mut Leaf, kept: Kept, least: Least) -> Losse
     losses
 }
 
-/// Returns what two leaves keep if the first loses its characters from `start` on and the second
-/// those up to `end`. `None` if they may not lose them.
+/// Returns the removal of the first leaf's characters from `start` on and the second one's up to
+/// `end`. Returns `None` if the leaves would become too short, or if an LF would be first or a CR
+/// last that wasn't.
 fn kept_of(left: &Leaf, right: &Leaf, start: usize, end: usize, least: Least) -> Option<Kept>
     requires start { start < length (text left.now) }
     requires some { 0 < end }
@@ -111,8 +111,8 @@ fn kept_of(left: &Leaf, right: &Leaf, start: usize, end: usize, least: Least) ->
     })
 }
 
-/// Removes the end of one leaf and the start of the next one, which both may lose. A leaf that is
-/// shared is copied first. If memory is refused, nothing has changed.
+/// Removes the end of one leaf and the start of the next one, after copying those that are shared.
+/// If an allocation fails, both are unchanged.
 fn shorten_shared(
     maker: &mut Maker,
     left: &mut Rc<Leaf>,
@@ -142,7 +142,7 @@ fn shorten_shared(
 {
     own_leaf(left, maker)?;
     own_leaf(right, maker)?;
-    // Neither has another owner now, so both are given.
+    // Neither has another owner now, so neither lookup fails.
     let Some(left) = Rc::get_mut(left) else {
         return Err(AllocError);
     };
@@ -153,8 +153,8 @@ fn shorten_shared(
 }
 
 /// Removes the characters of one leaf from `start` on, and those of the next one up to `end`, if
-/// both may do without them and keep enough bytes. Returns by how much their counts fell, or `None`
-/// where nothing has changed. If memory is refused, nothing has changed either.
+/// both leaves may lose them. Returns by how much their counts fell, or `None` if nothing has
+/// changed. If an allocation fails, both are unchanged.
 fn shorten_nodes(
     maker: &mut Maker,
     left: &mut Node,
@@ -191,11 +191,10 @@ fn shorten_nodes(
 }
 
 impl Children {
-    /// Removes the characters from `start` up to `end`, which begin inside of the child at a place,
-    /// `inside` characters after its start, if they end in the next one, both are leaves, and both
-    /// may do without their part and keep enough bytes beside their neighbours. Returns whether it
-    /// did, and in `less` by how much the counts fell. If memory is refused, the children are as
-    /// they were.
+    /// Removes the characters from `start` up to `end`, which start `inside` characters into the
+    /// child at `place`, if they end in the next child, both children are leaves, and both stay
+    /// long enough beside their neighbours. Returns whether it did, and in `less` by how much the
+    /// counts fell. If an allocation fails, the children are unchanged.
     #[cold]
     #[inline(never)]
     pub(super) fn remove_across(

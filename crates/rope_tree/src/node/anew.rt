@@ -1,4 +1,4 @@
-//! Inserts of short and medium texts that leave the old tree as it is, and share its nodes.
+//! Inserts of short and medium texts that leave the old tree unchanged, and share its nodes.
 ghost use Rattle.std.specs.Prelude.{◌≡◌, ◌+◌, ◌*◌, ◌<◌, ◌≤◌, ◌^◌, length, IfOk};
 ghost use Rattle.rope_text.specs.declared.TheConstants.{MAX_SHORT_BYTES};
 ghost use Rattle.rope_text.specs.Text.{byte_len};
@@ -17,9 +17,8 @@ use crate::search::char_to_hold;
 use crate::{Editor, Made, Maker, MediumText, ShortText, total_before};
 use rope_text::{MAX_BYTES, MAX_SHORT_BYTES, TextInfo};
 
-/// The leaf with another text before its character `at`, as one leaf, or as two if one can't hold
-/// both. Nothing of the old leaf is counted again: only the new text is, and of two leaves the
-/// first.
+/// Returns the leaf with a text inserted before the character `at`, as one leaf, or as two if one
+/// can't hold it. Counts only the new text, and the first of two leaves.
 fn insert_into_leaf(
     maker: &mut Maker,
     node: &Node,
@@ -51,9 +50,9 @@ fn insert_into_leaf(
     Ok(Nodes::Two(first, second))
 }
 
-/// Returns the tree with a text before its character `at`, as one tree or as two of the same
-/// height. The old tree stays as it is, and shares its nodes off the path. A medium text needs a
-/// tree of more than one leaf: the leaf at its index becomes up to six.
+/// Returns the tree with a text inserted before the character `at`, as one tree or as two of the
+/// same height. The old tree is unchanged, and the new one shares its nodes off the path. A medium
+/// text needs a tree of more than one leaf: the leaf at the index is replaced by up to six.
 pub(crate) fn insert(
     editor: &mut Editor,
     node: &Node,

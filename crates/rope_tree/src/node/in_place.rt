@@ -1,6 +1,23 @@
-//! Edits where the nodes stand: short inserts, which may cut a leaf into two, and removals from one
-//! leaf or from two side by side. Each is one descent, on which nodes that other trees share are
-//! copied.
+//! Edits in place: inserts of short texts, removals from one leaf or from two adjacent ones, and
+//! inserts that split full nodes.
+//!
+//! Each edit is one descent to the leaf. On the ascent it adds the change of the counts to the
+//! totals of each list, from the child's index on.
+//!
+//! - `insert_in_place`: a leaf with room takes the text. A leaf without room is split into two, if
+//!   the list above it has room for one more child.
+//! - `insert_splitting`: for a leaf in a full list, and for medium texts. The child below the lowest
+//!   list with room, other than the leaf's own list, is replaced by one or two new nodes.
+//! - `remove_in_place`: a leaf, or two adjacent ones below one node, lose the characters. Both have
+//!   to stay long enough beside their neighbours ([`Least`]).
+//!
+//! The first and the last copy each node on the path that another tree shares. Without shared
+//! nodes, they allocate only the second leaf of a split. Each edit returns false, with the text
+//! unchanged, where it does not apply. If an allocation fails, the text is unchanged too.
+//!
+//! Each list keeps the index of the child of its last edit. While a descent follows the path of the
+//! last edit (`follows`), it tries that child before it searches. Where the paths differ, it
+//! prefetches the lowest list and the leaf, so that their cache misses overlap.
 ghost use Rattle.std.specs.Prelude.{◌≡◌, ◌+◌, ◌*◌, ◌<◌, ◌≤◌, ◌-◌, ◌^◌, [], ◌∷◌, true, false, length, take, slice_index_or, Ok, IfOk, OnErr, IfSome, IfNone};
 ghost use Rattle.std.specs.List.{insert};
 ghost use Rattle.rope_text.specs.declared.TheConstants.{MAX_CHILDREN, MAX_SHORT_BYTES};
@@ -24,7 +41,7 @@ use crate::{Editor, Made, Maker, MediumText, ShortText, Totals, total_before};
 use rope_text::{MAX_BYTES, MAX_CHILDREN, TextInfo};
 use std::rc::Rc;
 
-/// Replaces a leaf by a copy, which has no other owner.
+/// Replaces a leaf by a copy with no other owner.
 #[inline(never)]
 fn copy_leaf(leaf: &mut Rc<Leaf>, maker: &mut Maker) -> Made<()>
     ensures same { leaf.new.value ≡ leaf.old.value }
@@ -41,7 +58,7 @@ fn copy_leaf(leaf: &mut Rc<Leaf>, maker: &mut Maker) -> Made<()>
     Ok(())
 }
 
-/// Replaces a list of children by a copy, which has no other owner.
+/// Replaces a list of children by a copy with no other owner.
 #[inline(never)]
 fn copy_children(children: &mut Rc<Children>, maker: &mut Maker) -> Made<()>
     requires { AreFamily children.old.value }
@@ -54,7 +71,7 @@ fn copy_children(children: &mut Rc<Children>, maker: &mut Maker) -> Made<()>
     Ok(())
 }
 
-/// Makes a leaf the node's own: replaces it by a copy if another node shares it.
+/// Takes ownership of a leaf: replaces it by a copy if another node shares it.
 #[inline(always)]
 pub(super) fn own_leaf(leaf: &mut Rc<Leaf>, maker: &mut Maker) -> Made<()>
     ensures same { leaf.new.value ≡ leaf.old.value }
@@ -66,7 +83,7 @@ pub(super) fn own_leaf(leaf: &mut Rc<Leaf>, maker: &mut Maker) -> Made<()>
     Ok(())
 }
 
-/// Makes a list of children the node's own: replaces it by a copy if another node shares it.
+/// Takes ownership of a list of children: replaces it by a copy if another node shares it.
 #[inline(always)]
 fn own_children(children: &mut Rc<Children>, maker: &mut Maker) -> Made<()>
     requires { AreFamily children.old.value }
@@ -79,17 +96,21 @@ fn own_children(children: &mut Rc<Children>, maker: &mut Maker) -> Made<()>
     Ok(())
 }
 
-/// Prefetch: reads a child in each cache line of the list, so that the search and the step to a
-/// child don't miss on them one by one. Answers whether all of those are empty, which they never
-/// are: the caller's test keeps the compiler from dropping the reads.
+/// Prefetches the list: reads a child in each cache line, so that the search and the step to a
+/// child don't miss on them one by one. Always returns false: callers test the result so that the
+/// reads aren't optimized away.
 #[inline(never)]
 fn touch_list(nodes: &[Node; MAX_CHILDREN]) -> bool {
-    nodes[0].is_empty() & nodes[4].is_empty() & nodes[8].is_empty()
-        && nodes[12].is_empty() & nodes[16].is_empty() & nodes[20].is_empty()
+    nodes[0].is_empty()
+        & nodes[4].is_empty()
+        & nodes[8].is_empty()
+        & nodes[12].is_empty()
+        & nodes[16].is_empty()
+        & nodes[20].is_empty()
 }
 
-/// Prefetch: if the child at a place is a leaf, reads what an edit at its character `at` goes over.
-/// Its length comes from the totals. The answer is `Leaf::touch`'s.
+/// If the child at an index is a leaf, prefetches the bytes that an edit at its character `at`
+/// scans. Its length comes from the totals. Returns the result of `Leaf::touch`.
 #[inline(never)]
 fn touch_leaf(totals: &Totals, nodes: &[Node], place: usize, at: usize) -> bool
     requires totals { place < length totals.now }
@@ -104,7 +125,7 @@ fn touch_leaf(totals: &Totals, nodes: &[Node], place: usize, at: usize) -> bool
     matches!(nodes[place].leaf(), Some(leaf) if leaf.touch(from, bytes))
 }
 
-/// The answer of an edit that changed nothing. Cold, so that the hot path has no jump.
+/// Returns the result of an edit that changed nothing. Marked cold, so the hot path falls through.
 #[cold]
 #[inline(never)]
 fn unchanged() -> Made<bool>
@@ -113,19 +134,19 @@ fn unchanged() -> Made<bool>
     Ok(false)
 }
 
-/// What became of a node that was to take a text for which it has no room.
+/// The outcome of splitting a full node.
 #[derive(Drop)]
 enum Cut {
-    /// It is as it was: it had room after all.
+    /// The node is unchanged: it had room after all.
     Kept,
-    /// It took the text.
+    /// The node took the text without a split.
     Grown,
-    /// It has the first part of the text; this node has the second.
+    /// The node kept the first half of the text; this node has the second.
     Split(Node),
 }
 
-/// Inserts a node behind the one at a place. The last node, an empty one, drops out.
-fn put_behind(nodes: &mut [Node], place: usize, node: Node)
+/// Inserts a node after the one at an index, and drops the last one, which is empty.
+fn put_after(nodes: &mut [Node], place: usize, node: Node)
     requires { place + 1 < length nodes.old }
     ensures { nodes.new ≡ insert (take (length nodes.old - 1) nodes.old) (place + 1) node }
 {
@@ -134,20 +155,20 @@ fn put_behind(nodes: &mut [Node], place: usize, node: Node)
     nodes[place + 1..].rotate_right(1);
 }
 
-/// Where an edit goes on below a list of children.
+/// The next step of a descent, from a list of children.
 #[derive(Clone, Copy)]
 struct WayIn {
-    /// The place of the child.
+    /// The index of the child.
     place: usize,
-    /// The character of its text before which the edit begins.
+    /// The character index in the child.
     inside: usize,
-    /// Whether the way still follows that of the last edit.
+    /// Whether the path still follows that of the last edit.
     follows: bool,
 }
 
 impl Children {
-    /// The way to the child that takes a text before the character `at`. While it follows that of
-    /// the last edit, that edit's child is tried first.
+    /// Returns the step to the child that takes a text before the character `at`. While the path
+    /// follows that of the last edit, the child of that edit is tried first.
     #[inline(always)]
     fn way_in(&self, editor: &mut Editor, at: usize, to_right: bool, follows: bool) -> WayIn
         requires children { AreFamily self.now }
@@ -177,8 +198,9 @@ impl Children {
         }
     }
 
-    /// The same. Where the way doesn't follow that of the last edit, what this one will go over is
-    /// read ahead. None only if `touch_list` or `touch_leaf` say yes, which they never do.
+    /// Returns the step to the child that takes a text before the character `at`. Where the path
+    /// leaves that of the last edit, prefetches the list and the leaf. Returns `None` only if
+    /// `touch_list` or `touch_leaf` return true, which they never do.
     #[inline(always)]
     fn locate(&self, editor: &mut Editor, at: usize, to_right: bool, follows: bool) -> Option<WayIn>
         requires children { AreFamily self.now }
@@ -208,10 +230,9 @@ impl Children {
         Some(way)
     }
 
-    /// Puts a text before the character `at`, if the leaf has room, or can be cut into two, since
-    /// the list that it is in has room for one more. Returns whether it did, and in `more` by how
-    /// much the counts grew. `follows` says whether the way so far is that of the last edit. If
-    /// memory is refused, the children are as they were.
+    /// Inserts a text before the character `at`, if its leaf has room, or if the list above the
+    /// leaf has room for one more child. Returns whether it did, and in `more` by how much the
+    /// counts grew.
     #[cycle(in_place)]
     #[inline(never)]
     fn insert_in_place(
@@ -259,9 +280,9 @@ impl Children {
         Ok(true)
     }
 
-    /// Puts a text before the character `at`, where the child that takes it has no room: cuts that
-    /// into two, if the list has room for one more. Returns whether it did, and in `more` by how
-    /// much the counts grew. If memory is refused, nothing has changed.
+    /// Inserts a text before the character `at` by splitting the child that has no room for it, if
+    /// the list has room for one more child. Returns whether it did, and in `more` by how much the
+    /// counts grew.
     #[cold]
     #[inline(never)]
     fn cut_child(
@@ -296,7 +317,9 @@ impl Children {
         Ok(true)
     }
 
-    /// The same, but doesn't say by how much the counts grew.
+    /// Inserts a text before the character `at` by splitting the child that has no room for it, if
+    /// the list has room for one more child. Returns whether it did, without reporting the growth
+    /// of the counts.
     fn split_child(
         &mut self,
         editor: &mut Editor,
@@ -345,13 +368,13 @@ impl Children {
         let total = total_before(&self.totals, place).plus(front);
         self.totals.retotal(place, old, front.plus(back.info()));
         self.totals.insert(place, total);
-        put_behind(&mut self.nodes[..count + 1], place, back);
+        put_after(&mut self.nodes[..count + 1], place, back);
         Ok(true)
     }
 
-    /// Puts a text before the character `at`, if a list on the way, but for the lowest, has room
-    /// for one child more: the full list below it becomes two. Returns whether it did. Nothing has
-    /// changed if no list has room, if a node on the way is shared, or if memory is refused.
+    /// Inserts a text before the character `at`, if a list on the path, other than the lowest, has
+    /// room for one more child: the full list below it is split into two. Returns whether it did:
+    /// not if no list has room, or if a node on the path is shared.
     #[cycle(splitting)]
     #[cold]
     #[inline(never)]
@@ -392,11 +415,9 @@ impl Children {
         Ok(true)
     }
 
-    /// Removes the characters from `start` up to `end`, if they lie in one leaf or in two side by
-    /// side below one node, which may do without them and keep enough bytes beside their
-    /// neighbours. Returns whether it did, and in `less` by how much the counts fell. `follows`
-    /// says whether the descent so far is that of the last edit. If memory is refused, the children
-    /// are as they were.
+    /// Removes the characters from `start` up to `end`, if they are in one leaf or in two adjacent
+    /// ones below one node, and these stay long enough beside their neighbours. Returns whether it
+    /// did, and in `less` by how much the counts fell.
     #[cycle(in_place_removal)]
     #[inline(never)]
     fn remove_in_place(
@@ -444,7 +465,7 @@ impl Children {
 }
 
 impl Node {
-    /// The leaf that it is, if it is one.
+    /// Returns the leaf, if the node is one.
     #[inline(always)]
     fn leaf(&self) -> Option<&Leaf>
         ensures leaf { IfSome result (λ leaf. leaf.now ≡ self.now) }
@@ -457,7 +478,7 @@ impl Node {
         }
     }
 
-    /// Whether it is a leaf of more bytes than these.
+    /// Returns whether the node is a leaf of more than `bytes` bytes.
     #[inline(always)]
     fn is_leaf_above(&self, bytes: usize) -> bool
         ensures flat { result ≡ true → self.now.height ≡ 0 }
@@ -468,16 +489,15 @@ impl Node {
         matches!(self.leaf(), Some(leaf) if leaf.info().bytes > bytes)
     }
 
-    /// Whether it has no text and no children.
+    /// Returns whether the node has neither text nor children.
     fn is_empty(&self) -> bool {
         matches!(self.form, Form::Empty(_))
     }
 
-    /// Puts a text of at most 981 bytes before the character `at`, if the leaf has room, or can be
-    /// cut into two, since the list that it is in has room for one more. Returns whether it did,
-    /// and in `more` by how much the counts grew. `follows` says whether the way so far is that of
-    /// the last edit. Shared nodes on the way are copied; where there are none, and the leaf has
-    /// room, it takes no memory. If memory is refused, the tree is as it was.
+    /// Inserts a text of at most 981 bytes before the character `at`, if its leaf has room, or if
+    /// the list above the leaf has room for one more child. Returns whether it did, and in `more`
+    /// by how much the counts grew. `follows` says whether the path so far follows that of the last
+    /// edit.
     #[cycle(in_place)]
     #[inline(always)]
     pub(crate) fn insert_in_place(
@@ -522,9 +542,8 @@ impl Node {
         }
     }
 
-    /// Inserts a text before the character `at`, and returns whether it did: if a list on the path,
-    /// but for the lowest, has room for one more child, and all nodes on the path to it are this
-    /// tree's own. If memory is refused, the tree is as it was.
+    /// Inserts a text before the character `at`, if a list on the path, other than the lowest, has
+    /// room for one more child, and no node on the path to it is shared. Returns whether it did.
     #[cycle(splitting)]
     pub(crate) fn insert_splitting(
         &mut self,
@@ -556,8 +575,8 @@ impl Node {
         }
     }
 
-    /// Puts a text before the character `at` of a node that has no room for it: leaves the first
-    /// part here, and answers the second. If memory is refused, nothing has changed.
+    /// Inserts a text before the character `at` of a node that has no room for it: keeps the first
+    /// half here, and returns the second.
     fn cut(
         &mut self,
         editor: &mut Editor,
@@ -594,8 +613,8 @@ impl Node {
         }
     }
 
-    /// The same by a new tree or two, which share the nodes off the way. The first takes this one's
-    /// place last of all.
+    /// Inserts a text before the character `at` of a node by one or two new nodes, which
+    /// share the nodes off the path. The first replaces this node, as the last step.
     fn cut_anew(
         &mut self,
         editor: &mut Editor,
@@ -626,12 +645,10 @@ impl Node {
         }
     }
 
-    /// Removes the characters from `start` up to `end`, if they lie in one leaf or in two side by
-    /// side below one node, which may do without them; the first leaf of the tree keeps as many
-    /// bytes as `least` says, and the last. Returns whether it did, and in `less` by how much the
-    /// counts fell. `follows` says whether the descent so far is that of the last edit. Shared
-    /// nodes that it passes are copied; where there are none, it takes no memory. If memory is
-    /// refused, the tree is as it was.
+    /// Removes the characters from `start` up to `end`, if they are in one leaf or in two adjacent
+    /// ones below one node. The first leaf of the tree keeps at least `least.first` bytes, and the
+    /// last one `least.last`. Returns whether it did, and in `less` by how much the counts fell.
+    /// `follows` says whether the path so far follows that of the last edit.
     #[cycle(in_place_removal)]
     #[inline(always)]
     pub(crate) fn remove_in_place(

@@ -1,4 +1,4 @@
-//! The leaves that take the place of one when a text longer than a leaf is inserted into it.
+//! The leaves that replace one leaf when a medium text is inserted into it.
 ghost use Rattle.std.specs.Prelude.{◌≡◌, ◌+◌, ◌-◌, ◌/◌, ◌<◌, ◌≤◌, ◌^◌, [], ◌∷◌, length, IfOk, OnOk};
 ghost use Rattle.std.specs.Str.{chars};
 ghost use Rattle.rope_text.specs.declared.TheConstants.{MAX_BYTES, MAX_SHORT_BYTES, MIN_CUT_BYTES, MIN_HALF_BYTES};
@@ -15,14 +15,14 @@ use crate::{MAX_MEDIUM_BYTES, MAX_PIECES, Made, Maker, MediumText};
 use arrayvec::ArrayVec;
 use rope_text::{LineBreaks, MAX_BYTES, MAX_JOINED_BYTES};
 
-/// Leaves side by side.
+/// Adjacent leaves.
 pub(super) type Pieces = ArrayVec<Node, MAX_PIECES>;
 
-/// The most bytes of a leaf and a medium text together.
+/// The maximum number of bytes of a leaf and a medium text together.
 const MAX_WHOLE_BYTES: usize = MAX_BYTES + MAX_MEDIUM_BYTES;
 
-/// Splits the first leaf off a text that is longer than one. The rest is long enough to follow it:
-/// a text that is too short for a full leaf and another is halved.
+/// Splits the first leaf off a text that is too long for one leaf. The rest has at least
+/// `MIN_HALF_BYTES` bytes: a text that fits in two leaves is split near its middle.
 fn split_first(text: &str) -> (&str, &str)
     requires { MAX_BYTES < length text.now }
     ensures { IsFirstSplit text.now result.0.now result.1.now }
@@ -46,7 +46,7 @@ fn last_piece(maker: &mut Maker, breaks: LineBreaks, text: &str) -> Made<Node>
     leaf_of(maker, breaks, text)
 }
 
-/// Fills an empty list with the leaves of a text of at least half a leaf.
+/// Fills an empty list with the leaves of a text of at least `MIN_HALF_BYTES` bytes.
 fn fill(maker: &mut Maker, breaks: LineBreaks, text: &str, pieces: &mut Pieces) -> Made<()>
     requires none { pieces.old.items ≡ [] }
     requires least { MIN_HALF_BYTES ≤ length text.now }
@@ -69,8 +69,8 @@ fn fill(maker: &mut Maker, breaks: LineBreaks, text: &str, pieces: &mut Pieces) 
     Ok(())
 }
 
-/// Fills an empty list with the leaves of a leaf's text with another before its character `at`.
-/// Never inlined: its caller would clear stack for the text at each call.
+/// Fills an empty list with the leaves of a leaf's text with another inserted before the character
+/// `at`. Never inlined: a caller would clear stack for the text at each call.
 #[inline(never)]
 pub(super) fn fill_with(
     maker: &mut Maker,

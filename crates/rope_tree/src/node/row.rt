@@ -1,4 +1,4 @@
-//! Rows of nodes side by side, and the nodes over them.
+//! Rows of adjacent nodes, and the nodes made over them. A new node shares the nodes below it.
 ghost use Rattle.std.specs.Prelude.{◌≡◌, ◌+◌, ◌*◌, ◌^◌, ◌<◌, ◌≤◌, ◌++◌, [], length, take, drop, IfOk, OnOk};
 ghost use Rattle.rope_text.specs.declared.TheConstants.{MAX_CHILDREN};
 ghost use Rattle.rope_tree.specs.Tree.{breaks_of, leaves_of, tree_over, AreFamily};
@@ -15,9 +15,9 @@ use std::alloc::{AllocError, Global};
 use std::mem;
 use std::rc::Rc;
 
-/// Nodes side by side. If they are children of one node, `totals` are the running totals of all its
-/// children, and `from` is how many of those stand before the row: so the counts are known without
-/// a read of each node.
+/// A row of adjacent nodes. If they are children of one node, `totals` are the running totals of
+/// all its children, and `from` is the number of children before the row: the counts are then known
+/// without a read of each node.
 #[derive(Clone, Copy)]
 pub struct Row<'a> {
     pub nodes: &'a [Node],
@@ -25,8 +25,8 @@ pub struct Row<'a> {
     pub from: usize,
 }
 
-/// Shares nodes, and appends them to a list. Their counts are added up beside it, so that no total
-/// is loaded that was just stored.
+/// Appends references to nodes to a list. Their counts are summed in a local, so that no total is
+/// loaded right after it was stored.
 #[inline(always)]
 fn push_all(alloc: Global, totals: &mut Totals, places: &mut [Node], nodes: &[Node]) -> Made<()>
     requires list { IsNewList (new_list totals.old places.old) }
@@ -48,7 +48,8 @@ fn push_all(alloc: Global, totals: &mut Totals, places: &mut [Node], nodes: &[No
     Ok(())
 }
 
-/// The same with a row: if its totals are known, they are copied in one piece.
+/// Appends references to the nodes of a row to a list. If the totals of the row are known, they are
+/// copied in one piece.
 fn push_row(alloc: Global, totals: &mut Totals, places: &mut [Node], row: &Row<'_>) -> Made<()>
     requires list { IsNewList (new_list totals.old places.old) }
     requires room { length (nodes_in (new_list totals.old places.old)) + length row.now.nodes.now
@@ -79,10 +80,10 @@ fn push_row(alloc: Global, totals: &mut Totals, places: &mut [Node], row: &Row<'
     Ok(())
 }
 
-/// Three rows of nodes, one behind the other.
+/// Three adjacent rows of nodes.
 pub(super) type Rows<'a> = (Row<'a>, Row<'a>, Row<'a>);
 
-/// Takes all nodes out of a list. Never inlined, since a caller would clear stack for empty nodes
+/// Removes all nodes from a list. Never inlined, since a caller would clear stack for empty nodes
 /// at each call.
 #[inline(never)]
 fn clear(totals: &mut Totals, places: &mut [Node; MAX_CHILDREN])
@@ -93,8 +94,7 @@ fn clear(totals: &mut Totals, places: &mut [Node; MAX_CHILDREN])
     *places = Default::default();
 }
 
-/// A list of the nodes of three rows, which it shares. It is filled where it stays, so that no node
-/// is moved.
+/// Makes a list of the nodes of three rows. It is filled in place, so that no node is moved.
 #[inline(never)]
 pub(super) fn list_of(maker: &mut Maker, rows: &Rows<'_>) -> Made<Rc<Children>>
     requires before { IsRow rows.now.0 }
@@ -139,13 +139,13 @@ pub(super) fn list_of(maker: &mut Maker, rows: &Rows<'_>) -> Made<Rc<Children>>
         children.breaks = children.nodes[0].line_breaks();
         return Ok(list);
     }
-    // If memory is refused, it is empty again before it is dropped.
+    // If an allocation fails, the list is emptied before it is dropped.
     clear(&mut children.totals, &mut children.nodes);
     Err(AllocError)
 }
 
-/// A node over the nodes of three rows, which it shares. Inlined with its callers, since a row that
-/// is handed on through memory is stored in words, and loaded again wider.
+/// Makes a node over the nodes of three rows. Inlined: a row passed through memory would be stored
+/// in words and loaded as a vector, a store-forwarding stall.
 #[inline(always)]
 fn make_over(maker: &mut Maker, rows: Rows<'_>) -> Made<Node>
     requires before { IsRow rows.0 }
@@ -163,7 +163,7 @@ fn make_over(maker: &mut Maker, rows: Rows<'_>) -> Made<Node>
     Ok(Node { form })
 }
 
-/// A node over nodes side by side, which it shares.
+/// Makes a node over adjacent nodes.
 pub fn node_over(maker: &mut Maker, nodes: &[Node]) -> Made<Node>
     requires { AreFamily nodes.now }
     ensures ok { IfOk result (λ node. node ≡ tree_over nodes.now) }
@@ -175,7 +175,7 @@ pub fn node_over(maker: &mut Maker, nodes: &[Node]) -> Made<Node>
 }
 
 impl Nodes {
-    /// One or two.
+    /// Returns the number of nodes, 1 or 2.
     pub fn len(&self) -> usize
         ensures { result ≡ length (trees_in self.now) }
     {
@@ -187,7 +187,7 @@ impl Nodes {
 }
 
 impl<'a> Row<'a> {
-    /// No node.
+    /// Returns an empty row.
     pub fn none() -> Row<'a>
         ensures row { IsRow result }
         ensures nodes { result.nodes.now ≡ [] }
@@ -195,7 +195,7 @@ impl<'a> Row<'a> {
         Row::new(&[])
     }
 
-    /// Nodes that need not be children of one node.
+    /// Returns a row of nodes, which may have different parents.
     pub fn new(nodes: &'a [Node]) -> Row<'a>
         ensures row { IsRow result }
         ensures nodes { result.nodes.now ≡ nodes.now }
@@ -207,7 +207,7 @@ impl<'a> Row<'a> {
         }
     }
 
-    /// All children of a node, with their running totals.
+    /// Returns a row of all children of a node, with their running totals.
     pub fn of(nodes: &'a [Node], totals: &'a Totals) -> Row<'a>
         requires children { AreFamily nodes.now }
         requires totals { HasTotals (breaks_of nodes.now) totals.now nodes.now }
@@ -221,7 +221,7 @@ impl<'a> Row<'a> {
         }
     }
 
-    /// At most so many nodes from the front.
+    /// Returns the first `most` nodes, or all if there are fewer.
     pub fn first(self, most: usize) -> Row<'a>
         requires { IsRow self }
         ensures row { IsRow result }
@@ -233,7 +233,7 @@ impl<'a> Row<'a> {
         }
     }
 
-    /// The nodes behind so many from the front.
+    /// Returns the nodes after the first `past`.
     pub fn rest(self, past: usize) -> Row<'a>
         requires { IsRow self }
         ensures row { IsRow result }
@@ -248,7 +248,8 @@ impl<'a> Row<'a> {
     }
 }
 
-/// A node over the nodes of three rows, or two over half of them each, if one can't hold them.
+/// Makes a node over the nodes of three rows, or two over half of them each, if one can't hold
+/// them.
 #[inline(always)]
 pub fn pack_over(maker: &mut Maker, before: Row<'_>, middle: Row<'_>, after: Row<'_>) -> Made<Nodes>
     requires before { IsRow before }
@@ -281,7 +282,7 @@ pub fn pack_over(maker: &mut Maker, before: Row<'_>, middle: Row<'_>, after: Row
     Ok(Nodes::Two(first, second))
 }
 
-/// A node over the nodes before, one or two, and the nodes behind; or two over half of them each,
+/// Makes a node over a row, one or two nodes, and another row; or two over half of the nodes each,
 /// if one can't hold them.
 pub fn pack(maker: &mut Maker, before: Row<'_>, middle: Nodes, after: Row<'_>) -> Made<Nodes>
     requires before { IsRow before }
@@ -303,7 +304,8 @@ pub fn pack(maker: &mut Maker, before: Row<'_>, middle: Nodes, after: Row<'_>) -
     }
 }
 
-/// The same with the one or two nodes behind two rows.
+/// Makes a node over two rows and one or two nodes after them; or two over half of the nodes each,
+/// if one can't hold them.
 pub fn pack_last(maker: &mut Maker, before: Row<'_>, middle: Row<'_>, last: Nodes) -> Made<Nodes>
     requires before { IsRow before }
     requires middle { IsRow middle }
@@ -325,7 +327,8 @@ pub fn pack_last(maker: &mut Maker, before: Row<'_>, middle: Row<'_>, last: Node
     }
 }
 
-/// The same with the one or two nodes before two rows.
+/// Makes a node over one or two nodes and two rows after them; or two over half of the nodes each,
+/// if one can't hold them.
 pub fn pack_first(maker: &mut Maker, first: Nodes, middle: Row<'_>, after: Row<'_>) -> Made<Nodes>
     requires middle { IsRow middle }
     requires after { IsRow after }
@@ -347,7 +350,7 @@ pub fn pack_first(maker: &mut Maker, first: Nodes, middle: Row<'_>, after: Row<'
     }
 }
 
-/// One tree or two as one: the only one, or a node over both.
+/// Returns the only tree, or a node over both.
 pub fn root_of(maker: &mut Maker, nodes: Nodes) -> Made<Node>
     requires { length (trees_in nodes) ≡ 2 → AreFamily (trees_in nodes) }
     ensures ok { IfOk result (λ node. node ≡ gathered (trees_in nodes)) }
@@ -360,7 +363,7 @@ pub fn root_of(maker: &mut Maker, nodes: Nodes) -> Made<Node>
     }
 }
 
-/// Nodes side by side as one tree: the only one, or a node over them.
+/// Returns the only node of two rows and the nodes between them, or a node over all.
 pub fn gather_rows(maker: &mut Maker, before: Row<'_>, middle: Nodes, after: Row<'_>) -> Made<Node>
     requires before { IsRow before }
     requires after { IsRow after }

@@ -1,4 +1,4 @@
-//! Running totals kept by kind of count, in 32 bits each.
+//! Running totals in rows: one for each kind of count, with 32 bits for each entry.
 ghost use Rattle.std.specs.Prelude.{◌≡◌, ℕ, ◌+◌, ◌-◌, ◌%◌, ◌<◌, ◌≤◌, ◌^◌, [], ◌∷◌, true, ◌++◌, length, take, drop, slice_index, slice_index_or};
 ghost use Rattle.std.specs.List.{insert};
 ghost use Rattle.rope_text.specs.declared.TheConstants.{MAX_CHILDREN};
@@ -10,8 +10,8 @@ ghost use Rattle.rope_tree.specs.RunningTotals.{HavePart, FitFrom, SameBefore, C
 use rope_text::{MAX_CHILDREN, TextInfo};
 use std::marker::Model;
 
-/// The totals of a list of at most 24 children, seen as the list of their counts. Each kind of
-/// count has a row of 24 places, of which the first are in use.
+/// The totals of a list of at most 24 children, modelled as the list of their counts. Each kind of
+/// count has a row of 24 entries. The first `len` are in use.
 #[derive(Drop)]
 pub(crate) struct CountRows {
     len: usize,
@@ -37,14 +37,14 @@ impl Model for CountRows {
 /// All bits set.
 const ALL: u32 = 4_294_967_295;
 
-/// 24 masks of no bit, and then 24 of all.
+/// 24 masks of no bit, followed by 24 of all bits.
 static MASKS: [u32; 2 * MAX_CHILDREN] = [
     0, 0, 0, 0, 0, 0, 0, 0, 0, 0, 0, 0, 0, 0, 0, 0, 0, 0, 0, 0, 0, 0, 0, 0, ALL, ALL, ALL, ALL,
     ALL, ALL, ALL, ALL, ALL, ALL, ALL, ALL, ALL, ALL, ALL, ALL, ALL, ALL, ALL, ALL, ALL, ALL, ALL,
     ALL,
 ];
 
-/// A mask for each of 24 places: no bit before the place `from`, and all bits from it on.
+/// Returns 24 masks: no bit before the index `from`, and all bits from it on.
 fn masks_from(from: usize) -> &'static [u32]
     requires { from ≤ MAX_CHILDREN }
     ensures len { length result.now ≡ MAX_CHILDREN }
@@ -57,7 +57,7 @@ fn masks_from(from: usize) -> &'static [u32]
 /// Half the entries of a row.
 const HALF: usize = 12;
 
-/// Adds `more` to those of the 12 counts from `start` on whose index is `from` or above. It adds to
+/// Adds `more` to those of the 12 counts from `start` on whose index is `from` or above. Adds to
 /// all 12 under a mask, so that the loop is vectorized.
 #[inline(always)]
 fn add_half(counts: &mut [u32], from: usize, start: usize, more: u32)
@@ -79,9 +79,9 @@ fn add_half(counts: &mut [u32], from: usize, start: usize, more: u32)
     }
 }
 
-/// Replaces the count `old` of a part by `new`, in the first `len` counts of a row from the index
-/// `from` on. Skips a half of the row that has none of them; the branches are predicted, since most
-/// edits are near the last one. Where the two counts are mostly the same, tests that first.
+/// Replaces the count `old` by `new` in the first `len` counts of a row, from the index `from` on.
+/// Skips a half of the row that has none of them: the branches are predicted, since most edits are
+/// near the last one. If `mostly_same`, first tests whether both counts are equal.
 #[inline(always)]
 fn shift(counts: &mut [u32], from: usize, len: usize, old: usize, new: usize, mostly_same: bool)
     requires len { length counts.old ≡ MAX_CHILDREN }
@@ -108,7 +108,7 @@ fn shift(counts: &mut [u32], from: usize, len: usize, old: usize, new: usize, mo
     }
 }
 
-/// The count at a place of a row.
+/// Returns the count at an index of a row.
 fn at(row: &[u32], place: usize) -> usize
     requires { place < length row.now }
     ensures { result ≡ slice_index row.now place }
@@ -116,7 +116,7 @@ fn at(row: &[u32], place: usize) -> usize
     row[place] as usize
 }
 
-/// Inserts a count before the one at a place of a row, whose last one drops out.
+/// Inserts a count before the one at an index of a row, and drops the last one.
 fn put_in(row: &mut [u32], place: usize, count: u32)
     requires { place < length row.old }
     ensures { row.new ≡ insert (take (length row.old - 1) row.old) place count }
@@ -126,7 +126,7 @@ fn put_in(row: &mut [u32], place: usize, count: u32)
     row[place] = count;
 }
 
-/// Copies `count` counts of another row, from one place on, into a row, from another place on.
+/// Copies `count` counts of another row, from the index `from` on, into a row at the index `place`.
 fn put_row(row: &mut [u32], place: usize, others: &[u32], from: usize, count: usize)
     requires room { place + count ≤ length row.old }
     requires within { from + count ≤ length others.now }
@@ -137,7 +137,7 @@ fn put_row(row: &mut [u32], place: usize, others: &[u32], from: usize, count: us
 }
 
 impl CountRows {
-    /// The totals of no children.
+    /// Returns the totals of no children.
     pub fn new() -> CountRows
         ensures { result ≡ [] }
     {
@@ -150,14 +150,14 @@ impl CountRows {
         }
     }
 
-    /// How many children there are.
+    /// Returns the number of children.
     pub fn len(&self) -> usize
         ensures { result ≡ length self.now }
     {
         self.len
     }
 
-    /// The counts of all children up to the one at a place, and with it.
+    /// Returns the counts of all children up to and including the one at `place`.
     pub fn get(&self, place: usize) -> TextInfo
         requires { place < length self.now }
         ensures { (d : TextInfo) → result ≡ slice_index_or self.now place d }
@@ -170,7 +170,7 @@ impl CountRows {
         }
     }
 
-    /// Returns whether there is a child at this index that holds the character `at_char`.
+    /// Returns whether the child at this index exists and contains the character `at_char`.
     #[inline(always)]
     pub fn holds(&self, place: usize, at_char: usize) -> bool
         ensures within { result ≡ true → place < length self.now }
@@ -189,7 +189,7 @@ impl CountRows {
         at_char < past && at(&self.chars, place - 1) <= at_char
     }
 
-    /// Appends the total of one child more.
+    /// Appends the total of one more child.
     pub fn push(&mut self, total: TextInfo)
         requires room { length self.old < MAX_CHILDREN }
         requires narrow { IsNarrow total }
@@ -203,7 +203,7 @@ impl CountRows {
         self.len = len + 1;
     }
 
-    /// Inserts the total of one child more before the one at a place.
+    /// Inserts the total of one more child before the one at an index.
     pub fn insert(&mut self, place: usize, total: TextInfo)
         requires within { place ≤ length self.old }
         requires room { length self.old < MAX_CHILDREN }
@@ -220,7 +220,7 @@ impl CountRows {
         self.len += 1;
     }
 
-    /// Replaces the counts of a part by others, in all totals from a place on.
+    /// Replaces the counts `old` by `new` in all totals from an index on.
     #[inline(always)]
     pub fn retotal(&mut self, place: usize, old: TextInfo, new: TextInfo)
         requires within { place < length self.old }
@@ -252,8 +252,8 @@ impl CountRows {
         );
     }
 
-    /// Appends `count` totals of another list, from a place on. Where these are the first of both,
-    /// the rows are copied whole: a copy of known length is a few loads and stores.
+    /// Appends `count` totals of another list, from the index `from` on. If these are the first of
+    /// both lists, whole rows are copied: a copy of known length is a few loads and stores.
     fn put_rows(&mut self, others: &Self, from: usize, count: usize)
         requires within { from + count ≤ length others.now }
         requires room { length self.old + count ≤ MAX_CHILDREN }
@@ -279,8 +279,8 @@ impl CountRows {
         self.len = len + count;
     }
 
-    /// Appends `count` totals of another list, from a place on, with the counts `new` in each for
-    /// those of the part `old`.
+    /// Appends `count` totals of another list, from the index `from` on, with the counts `old` in
+    /// each replaced by `new`.
     pub fn append(&mut self, others: &Self, from: usize, count: usize, old: TextInfo, new: TextInfo)
         requires some { 1 ≤ count }
         requires within { from + count ≤ length others.now }

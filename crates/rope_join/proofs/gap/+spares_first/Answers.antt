@@ -5,7 +5,7 @@ use Rattle.rope_join.proofs.Gaps.{spares_first_at, first_child_cuts}
 use Rattle.rope_join.proofs.gap.+spares_first.Goals.{After-get}
 use Rattle.rope_join.proofs.gap.+spares_first.Goals as goal
 
--- how many characters the first child has
+-- the number of characters of the first child
 first : (t : ℕ) (c : After-get t) → c.get.result.chars ≡ length (concat (leaves_of (take 1 c.in-Inner.children.now)))
 first t c =
     let i = c.in-Inner.ensures in

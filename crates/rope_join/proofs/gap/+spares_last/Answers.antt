@@ -5,7 +5,7 @@ use Rattle.rope_join.proofs.Gaps.{spares_last_at, last_child_spares, last_child_
 use Rattle.rope_join.proofs.gap.+spares_last.Goals.{After-total_before-before}
 use Rattle.rope_join.proofs.gap.+spares_last.Goals as goal
 
--- how many characters stand before the last child
+-- the number of characters before the last child
 before : (t : ℕ) (c : After-total_before-before t) → c.total_before-before.result.chars ≡ length (concat (leaves_of (take (length c.in-Inner.children.now - 1) c.in-Inner.children.now)))
 before t c =
     let ts = c.in-Inner.children.now in

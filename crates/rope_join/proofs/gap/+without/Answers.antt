@@ -15,7 +15,7 @@ use Rattle.rope_join.proofs.Seams.{left_le}
 use Rattle.rope_join.proofs.gap.+without.Goals.{After-total_before, Joined-first-last-2, then-first-gt0-2, else-first-gt0-2, then-first-last-2+in_ok-part-4, else-first-last-2+in_ok-part-5, else-first-gt0-via-then-first-gt0+else-last-children, else-first-gt0-via-else-first-gt0, Joined-first-last, After-total_before-2, then-first-last+in_ok-part-2, else-first-last+in_ok-part-3}
 use Rattle.rope_join.proofs.gap.+without.Goals as goal
 
--- the ways down to the two ends
+-- the steps to the two ends
 first_down : (t : ℕ) (c : After-total_before t) → Descends (breaks_of c.in-Inner.children.now) Char c.args.start c.in-Inner.children.now c.child_at-first.result c.index-children-first.result c.total_before.result
 first_down t c =
     descends Char c.args.start c.in-Inner.children.now c.in-Inner.totals.now c.child_at-first.result c.index-children-first.result c.total_before.result
@@ -145,7 +145,7 @@ join_sides-requires-else-first-last-clause-fits t c =
     part_fits c.args.node.now c.in-Inner.children.now c.child_at-first.result c.child_at-last.result (c.args.start - c.total_before.result.chars) (c.args.end - c.total_before-2.result.chars) c.args.start c.args.end c.index-children-first.result c.index-children-last.result
     (first_cut t e) (last_cut t e) (at_start t e) (at_end t e) (in_first t e) (in_last t e) (omega (arith, c.requires.ordered)) (whole t e)
 
--- what takes the children's place
+-- the tree that replaces the children
 part_is : (t : ℕ) (c : Joined-first-last t) → IsSides c.index-children-first.result (c.args.start - c.total_before.result.chars) c.index-children-last.result (c.args.end - c.total_before-2.result.chars) c.if-first-last.part × IsTree c.if-first-last.part
 part_is t c = elim c.if-first-last.branch [
   | then-first-last+in_ok-part-2 w ↦
@@ -247,7 +247,7 @@ end_part t c = elim c.if-first-last-2.branch [
   | else-first-last-2+in_ok-part-5 w ↦ rw w.part-is (w.in_ok-part-5.ensures.sides, w.in_ok-part-5.ensures.tree)
 ]
 
--- the children that are cut are the first or the last of the node, and not all
+-- the split children are the first or the last of the node, and not all
 at_first : (t : ℕ) (c : Joined-first-last-2 t) → c.child_at-last.result + 1 < length c.in-Inner.children.now → c.child_at-first.result ≡ 0
 at_first t c more = elim c.else-first-gt0.branch [
   | else-first-gt0-via-then-first-gt0+else-last-children w ↦ absurd (omega (arith, w.if-last-children.false, more))

@@ -77,7 +77,7 @@ returns-then-stands-clause-text t c =
     put_inserted c.args.node.now c.in-Inner.children.now c.child_at-place.result (c.args.at - c.total_before.result.chars) c.args.at c.index-children-place.result (chars c.args.added.now) c.in_ok-part-in-Inner.part
     (cut t e) (place t e) (omega (arith, c.if-inside-eq0.false)) (inside t e) (fits t e) c.in-Inner.ensures.children c.in-Inner.ensures.is c.in_ok-part-in-Inner.ensures.text c.in_ok-part-in-Inner.ensures.breaks c.in_ok-part-in-Inner.ensures.tree r p) c.put.ensures.put
 
--- where the text behind the child begins
+-- the start of the text after the child
 end_is : (t : ℕ) (c : After-get t) → c.get.result.chars ≡ length (joined (take c.child_at-place.result c.in-Inner.children.now)) + length (text c.index-children-place.result)
 end_is t c =
     let d = down t (goal.at.After-get t c).After-total_before in
@@ -123,7 +123,7 @@ returns-else-place-gt0-clause-text t c =
     IfOk-weaker c.join_around.result _ _ (λ r is. around_inserted c.args.node.now c.in-Inner.children.now c.child_at-place.result (c.args.at - c.total_before.result.chars) c.args.at c.index-children-place.result (chars c.args.added.now) c.in_ok-part-in-Inner.part
     (cut t e) (place t e) (omega (arith, c.if-inside-eq0.false)) (inside t e) (fits t e) c.in-Inner.ensures.children c.in-Inner.ensures.is c.in_ok-part-in-Inner.ensures.text c.in_ok-part-in-Inner.ensures.breaks c.in_ok-part-in-Inner.ensures.tree c.get.result.chars r (end_is t (goal.at.returns-else-place-gt0-clause-text t c).After-get) is) c.join_around.ensures.text
 
--- an insert below a node, and what is made at the node itself, at most 298 nodes
+-- the nodes made by an insert below a node, and at most 298 at the node itself
 pub returns-then-stands-clause-made : goal.returns-then-stands-clause-made
 returns-then-stands-clause-made t c =
     let e = (goal.at.returns-then-stands-clause-made t c).After-total_before in

@@ -7,7 +7,7 @@ use Rattle.rope_tree.proofs.TreeLaws.{low_tree}
 use Rattle.rope_join.proofs.Cuts.{byte_len-parts}
 use Rattle.rope_join.proofs.long_edits.insert_apart.Goals as goal
 
--- the parts and the new text together
+-- the two sides and the new text together
 pub append-requires-clause-fits : goal.append-requires-clause-fits
 append-requires-clause-fits c =
     omega (arith, c.requires.fits, byte_len-parts c.args.at (text c.args.node.now), ap byte_len c.in_ok-front.ensures.front.text_is, ap byte_len c.in_ok-middle.ensures.text, byte_len-chars c.args.added.now c.utf8.added)
@@ -26,7 +26,8 @@ append-requires-2-clause-fits c =
       IsMeasure-byte_len.joined (text c.in_ok-front.front) (text c.in_ok-middle.middle),
     )
 
--- what the front, the back, the new tree and the two appends make; none of the trees is higher than 18
+-- the nodes made for the front, the back, the new tree and the two appends; no tree is higher than
+-- 18
 pub returns-clause-made : goal.returns-clause-made
 returns-clause-made c =
     omega (

@@ -69,7 +69,7 @@ returns-clause-text c =
     let b = (goal.at.returns-clause-text c).In_ok-append-3 in
     IfOk-weaker c.finish.result _ _ (λ node is. is ∙ built b ∙ sym (inserted_is c.args.leaf.now c.args.at (chars c.args.added.now)) ∙ ap (λ z. inserted z c.args.at (chars c.args.added.now)) (sym (leaf_text e))) c.finish.ensures.text
 
--- two nodes for each leaf, of which there are at most three beside those that the new text fills
+-- two nodes for each leaf: those that the new text fills, and at most three more
 pub returns-clause-made : goal.returns-clause-made
 returns-clause-made c =
     let b = (goal.at.returns-clause-made c).In_ok-append-3 in

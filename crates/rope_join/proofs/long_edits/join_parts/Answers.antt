@@ -7,7 +7,7 @@ use Rattle.rope_join.proofs.Seams.{Meets, meets, pair_first, pair_second, pair_j
 use Rattle.rope_join.proofs.long_edits.join_parts.Goals.{After-meets, In_ok-pair}
 use Rattle.rope_join.proofs.long_edits.join_parts.Goals as goal
 
--- where the CR and the LF meet
+-- the indices at which the CR and the LF meet
 meet : (c : After-meets) → c.meets.result ≡ true → Meets (text c.args.left.now) (text c.args.right.now) c.args.end c.args.start
 meet c e = meets (text c.args.left.now) (text c.args.right.now) c.args.end c.args.start c.requires.end (sym c.meets.ensures.value ∙ e)
 

@@ -1,4 +1,5 @@
--- Before the first child and after the last stands what the caller speaks of, at the others the one beside.
+-- Before the first child and after the last is the leaf that the caller means, at the others the
+-- adjacent child.
 use Rattle.std.proofs.Common.{◌+◌, arith}
 use Rattle.rope_tree.proofs.BesideLaws.{some_next}
 use Rattle.rope_tree.proofs.beside.least_at.Goals as goal

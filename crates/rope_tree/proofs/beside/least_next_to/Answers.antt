@@ -1,4 +1,4 @@
--- The totals say how long a leaf is; of others nothing is asked.
+-- The totals give the length of a leaf; of other nodes nothing is needed.
 use Rattle.std.proofs.Common.{◌≡◌, ◌+◌, take, ap, ◌∙◌, arith}
 use Rattle.rope_text.specs.Text.{byte_len}
 use Rattle.rope_tree.specs.Tree.{joined, height_of, breaks_of}

@@ -1,4 +1,4 @@
--- Each turn cuts one leaf off, and what is left at last is one more.
+-- Each iteration splits one leaf off, and the rest is the last leaf.
 use Rattle.std.proofs.Common.{◌≡◌, refl, ◌+◌, ◌<◌, ◌^◌, [], ◌∷◌, length, ap, ◌∙◌, arith}
 use Rattle.std.proofs.lemmas.List.{length-append}
 use Rattle.std.proofs.lemmas.Result.{IfOk-weaker}

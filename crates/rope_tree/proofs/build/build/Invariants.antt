@@ -1,4 +1,4 @@
--- The nodes so far have a front of the text, each of 981 bytes or more.
+-- The leaves so far have a front of the text, each with at least 981 bytes.
 use Rattle.std.proofs.Common.{◌+◌, ◌*◌, ◌<◌, ◌≤◌, length}
 use denote.Text.{Utf8}
 use denote.Shadow.{shadow}

@@ -1,4 +1,4 @@
--- Each turn makes a node over the next group of nodes.
+-- Each iteration makes a node over the next group of nodes.
 use Rattle.std.proofs.Common.{◌≡◌, ℕ, ◌-◌, ◌*◌, ◌/◌, ◌≤◌, List, [], ◌∷◌, take, length, refl, ap, sym, subst, arith}
 use Rattle.std.proofs.lemmas.List.{length-drop, length-append}
 use Rattle.rope_text.specs.declared.line_breaks.LineBreaks.{LineBreaks}
@@ -9,7 +9,7 @@ use Rattle.rope_tree.proofs.BuildLaws.{share_least, share_most, least_after, mos
 use Rattle.std.proofs.Math.Nat.{div-le_self}
 use Rattle.rope_tree.proofs.build.level_over.Goals as goal
 
--- an even share of the nodes that are left
+-- an even share of the remaining nodes
 record IsShare (left groups n : ℕ) : Type 0 where
   least : 12 ≤ n
   most : n ≤ 24

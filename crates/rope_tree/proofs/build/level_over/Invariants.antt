@@ -1,4 +1,5 @@
--- The nodes so far stand over the first of the nodes, and the groups to come can hold the others.
+-- The nodes so far are over the first of the nodes, and the remaining groups can contain the
+-- others.
 use Rattle.std.proofs.Common.{◌≡◌, ◌+◌, ◌*◌, ◌≤◌, length}
 use Rattle.rope_tree.specs.Tree.{breaks_of, height_of}
 use Rattle.rope_tree.proofs.BuildLaws.{AreOver}

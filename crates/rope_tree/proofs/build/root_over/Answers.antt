@@ -1,4 +1,4 @@
--- Each turn goes one level up.
+-- Each iteration makes the next level.
 use Rattle.std.proofs.Common.{◌∙◌, ◌≤◌, length, ap, sym, subst, arith}
 use Rattle.std.proofs.lemmas.Result.{IfOk-weaker}
 use Rattle.rope_tree.specs.Tree.{IsTree, AreChildren, height_of, breaks_of, tree_over}

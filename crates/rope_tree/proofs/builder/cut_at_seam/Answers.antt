@@ -1,4 +1,4 @@
--- The leaf ends at a cut of the two parts' bytes.
+-- The leaf ends at a legal split position of the two texts' bytes.
 use Rattle.std.proofs.Common.{◌≡◌, min, [], ◌≤◌, ◌-◌, ◌++◌, take, drop, length, ap, sym, ◌∙◌, arith}
 use Rattle.std.proofs.lemmas.List.{drop-append-le, length-append}
 use Rattle.std.proofs.lemmas.Str.{chars-append, IsCharBoundary-start}
@@ -13,7 +13,7 @@ use Rattle.rope_tree.proofs.FrontLaws.{cut_whole, cut_apart, two_parts, leaf_par
 use Rattle.rope_tree.proofs.builder.cut_at_seam.Goals.{In_ok-leaf, After-from_str, After-new, After-range, then-added-le-MAX_AHEAD_BYTES, else-added-le-MAX_AHEAD_BYTES}
 use Rattle.rope_tree.proofs.builder.cut_at_seam.Goals as goal
 
--- so much of the text is looked at that a leaf ends in it: one of four places in a row is a cut
+-- enough of the text is read that a leaf ends in it: one of four adjacent positions is legal
 ahead : (c : After-range) → (min 985 (length c.args.added.now) ≤ c.if-added-le-MAX_AHEAD_BYTES.ahead_len) × (c.if-added-le-MAX_AHEAD_BYTES.ahead_len ≤ length c.args.added.now)
 ahead c = elim c.if-added-le-MAX_AHEAD_BYTES.branch [
   | then-added-le-MAX_AHEAD_BYTES w ↦ (omega (arith, w.ahead_len-is), omega (arith, w.ahead_len-is))

@@ -1,4 +1,4 @@
--- Each turn cuts one leaf off.
+-- Each iteration splits one leaf off.
 use Rattle.std.proofs.Common.{◌≡◌, ◌∙◌, ◌+◌, ◌++◌, [], ◌∷◌, length, ap, arith, refl, subst, sym}
 use Rattle.std.specs.Str.{chars}
 use Rattle.rope_text.specs.Text.{byte_len}
@@ -12,7 +12,7 @@ use Rattle.rope_tree.proofs.builder.cut_leaves.Goals as goal
 pub overflow_add-len : goal.overflow_add-len
 overflow_add-len c = omega (arith, c.len.ensures.fits, c.loop-left.invariant.within)
 
--- a leaf straight from the text
+-- a leaf made directly from the text
 pub loop-left-preserved-then-len-eq0 : goal.loop-left-preserved-then-len-eq0
 loop-left-preserved-then-len-eq0 c =
     let before = c.loop-left.invariant in

@@ -1,4 +1,5 @@
--- The leaves so far are a front of the text, each of 981 bytes or more, and something is left.
+-- The leaves so far are a front of the text, each with at least 981 bytes, and the rest is not
+-- empty.
 use Rattle.std.proofs.Common.{◌+◌, ◌*◌, ◌<◌, ◌≤◌, ◌++◌, length}
 use denote.Text.{Utf8}
 use denote.Shadow.{shadow}

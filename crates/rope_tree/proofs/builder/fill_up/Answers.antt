@@ -1,4 +1,4 @@
--- The leaf ends at a cut of the second part, or between the two.
+-- The leaf ends at a legal split position of the second text, or between the two.
 use Rattle.std.proofs.Common.{◌≡◌, ◌∙◌, ◌<◌, true, false, ◌++◌, ap, ap₂, sym, arith, length, IsTrue, inl, inr, subst}
 use Rattle.std.proofs.lemmas.Bool.{cases_lt}
 use Rattle.std.specs.Str.{chars}
@@ -19,7 +19,7 @@ off c = elim (cases_lt 0 c.prev_break-taken.result) [
   | inr none ↦ subst (IsCutOff c.args.text.now) (omega arith) (none_off c.args.text.now c.utf8.text)
 ]
 
--- nothing is moved, where the rest may be cut off as it is
+-- nothing is moved, if the rest may be split off as it is
 at_seam : (c : After-push_str) → c.prev_break-taken.result ≡ 0 → parts_crlf c.args.rest.now (chars c.args.text.now) ≡ false
 at_seam c none = elim c.else-taken-eq0.branch [
   | else-taken-eq0-via-then-taken-eq0+else-not-seam_is_break w ↦

@@ -15,7 +15,7 @@ same c from_other to_other =
     let ascii : byte_len t ≡ length t = omega (arith, bytes, ap (λ x. x.chars) c.requires.info) in
     omega (arith, c.min.ensures, bytes, ascii_converted c.args.from c.args.to c.args.breaks t c.args.idx c.requires.units ascii from_other to_other)
 
--- a line is converted into a byte or a character alone
+-- a line index is converted only to a byte index or a character index
 only_starts : (from to : Unit) → are_converted from to ≡ true → from ≡ LineBreak → (to ≡ Byte → ⊥) → (to ≡ Char → ⊥) → ⊥
 only_starts LineBreak Byte pair e byte char = byte refl
 only_starts LineBreak Char pair e byte char = char refl

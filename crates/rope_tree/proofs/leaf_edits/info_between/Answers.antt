@@ -20,7 +20,7 @@ new c = rw c.of_short.ensures (small_info c.args.breaks (chars c.args.added.now)
 pub plus-more-requires : goal.plus-more-requires
 plus-more-requires c = sum_of_small _ _ (old c) (new c)
 
--- the place between the front and the back
+-- the position between the front and the back
 pub between : (front a back : List ℕ) → inserted (front ++ back) (length front) a ≡ front ++ (a ++ back)
 between front a back = inserted_is (front ++ back) (length front) a ∙ ap₂ (λ x y. x ++ (a ++ y)) (take_at front back _ refl) (drop_at front back _ refl)
 

@@ -10,7 +10,7 @@ use Rattle.rope_tree.proofs.NodeTexts.{inserted_chars}
 use Rattle.rope_tree.proofs.leaf_edits.put_in.Goals.{After-range_from, Joined-info, then-info, else-info}
 use Rattle.rope_tree.proofs.leaf_edits.put_in.Goals as goal
 
--- where there are as many bytes as characters, a character's number is its byte's
+-- in a text with as many bytes as characters, the byte index is the character index
 place_is : (c : Joined-info) → c.if-info.place ≡ byte_len (take c.args.at (chars c.as_str-text.result.now))
 place_is c = elim c.if-info.branch [
   | then-info w ↦

@@ -18,7 +18,7 @@ use Rattle.rope_tree.proofs.CountLaws.{Uncounts, uncounts, shared_le}
 use Rattle.rope_tree.proofs.RemovalLaws.{byte_len-removed}
 use Rattle.rope_tree.proofs.leaf_edits.take_out.Goals as goal
 
--- the three parts of a text, cut at the bytes of two characters
+-- the three slices of a text, split at the bytes of two characters
 record IsParted (cs front part back : List ℕ) (start end : ℕ) : Type 0 where
   front_is : chars front ≡ take start cs
   back_is : chars back ≡ drop end cs
@@ -45,7 +45,7 @@ parted bs cs front part back start end from to u v same from_is to_is order with
       some = omega (arith, ap length both, length-append (chars part) (chars back), ap length b, length-drop start cs, length-drop end cs);
     }
 
--- the places of the bytes, by the characters of the bytes
+-- the byte offsets, by the characters of the bytes
 from_place : (c : After-as_str-text) → c.byte_range-from.result.0 ≡ byte_len (take c.args.start (chars c.as_str-text.result.now))
 from_place c = c.byte_range-from.ensures.from ∙ ap (λ l. byte_len (take c.args.start l)) (sym c.as_str-text.ensures.chars)
 
@@ -76,7 +76,7 @@ range-part-requires-clause-end_boundary c = to_boundary (goal.at.range-part-requ
 pub range_from-back-requires : goal.range_from-back-requires
 range_from-back-requires c = λ _. to_boundary (goal.at.range_from-back-requires c).After-as_str-text
 
--- what the leaf has less without the part
+-- the counts of the leaf less those of the removed slice
 less : (c : After-shared_breaks-meeting) → IsParted c.args.leaf.now c.range-front.result.now c.range-part.result.now c.range_from-back.result.now c.args.start c.args.end
     → Uncounts c.args.breaks (chars c.range-front.result.now) (chars c.range_from-back.result.now) c.args.info c.of_short-less.result (c.shared_breaks.result + c.shared_breaks-2.result) c.shared_breaks-meeting.result
 less c p =
@@ -112,7 +112,7 @@ overflow_sub-left-4 c = (less (goal.at.overflow_sub-left-4 c).After-shared_break
 pub overflow_sub-left-5 : goal.overflow_sub-left-5
 overflow_sub-left-5 c = (less (goal.at.overflow_sub-left-5 c).After-shared_breaks-meeting (parts (goal.at.overflow_sub-left-5 c).After-range_from-back)).meeting_le
 
--- what is left is the text without the characters
+-- the rest is the text without the characters
 left_text : (c : After-remove_bytes) → c.remove_bytes.new.self ≡ removed c.args.leaf.now c.args.start c.args.end
 left_text c =
     let e = (goal.at.After-remove_bytes c).After-as_str-text in
@@ -139,7 +139,7 @@ returns-clause-info c =
     let p = parts (goal.at.returns-clause-info c).After-range_from-back in
     (less (goal.at.returns-clause-info c).After-shared_breaks-meeting p).whole ∙ ap (info_of c.args.breaks) (ap₂ (λ x y. x ++ y) p.front_is p.back_is)
 
--- the bytes of what stays
+-- the bytes of the rest
 kept_bytes : (c : After-range_from-back)
     → byte_len (removed c.args.leaf.now c.args.start c.args.end)
     ≡ length c.range-front.result.now + length c.range_from-back.result.now
@@ -167,7 +167,7 @@ returns-then-not-keeps_ends-clause-when c = λ s.
     let yes = c.keeps_ends.ensures.when (rw (p.front_is, p.back_is) s.first) (rw (p.front_is, p.back_is) s.last) in
     absurd (cc)
 
--- no end is bared
+-- no CR or LF becomes an end of the leaf
 kept_ends : (c : After-remove_bytes)
     → KeepsEnds (chars c.range-front.result.now ++ (chars c.range-part.result.now ++ chars c.range_from-back.result.now))
     (chars c.range-front.result.now ++ chars c.range_from-back.result.now)

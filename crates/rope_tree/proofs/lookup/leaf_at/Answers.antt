@@ -11,7 +11,7 @@ use Rattle.rope_tree.proofs.Infos.{small_sum}
 use Rattle.rope_text.proofs.InfoLaws.{part_of_sum}
 use Rattle.rope_tree.proofs.lookup.leaf_at.Goals as goal
 
--- the place is in the child that the search names
+-- the index is in the child that the search returns
 down : (c : After-total_before-front) → Descends (breaks_of c.in-Inner.children.now) c.args.unit c.down.rest c.in-Inner.children.now c.place_of-place.result c.index-children-place.result c.total_before-front.result
 down c =
     descends c.args.unit c.down.rest c.in-Inner.children.now c.in-Inner.totals.now c.place_of-place.result c.index-children-place.result c.total_before-front.result

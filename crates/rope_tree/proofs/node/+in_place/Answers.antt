@@ -97,7 +97,7 @@ Node::insert_in_place-insert_in_place-requires-in-Some-get_mut t c =
       ),
     )
 
--- what the node is then
+-- the node after the edit
 ended : (t : ℕ) (c : Node::insert_in_place-Joined-self t) → IsNode c.match-self.self-inside
 ended t c =
     elim c.match-self.branch [

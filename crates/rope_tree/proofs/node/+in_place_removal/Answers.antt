@@ -21,7 +21,7 @@ use Rattle.rope_tree.proofs.RemovalLaws.{Holds, holds, byte_len-removed, childre
 use Rattle.rope_tree.proofs.node.+in_place_removal.Goals as goal
 use Rattle.rope_tree.proofs.node.+in_place_removal.Goals.{Children::remove_in_place-After-index-self-place, Node::remove_in_place-Joined-self, Node::remove_in_place-in-Empty, Node::remove_in_place-in-Leaf+in_ok-own_leaf-in-Leaf+in-Some, Node::remove_in_place-in-Leaf+in_ok-own_leaf-in-Leaf+in-None, Node::remove_in_place-in-Inner+in_ok-own_children-in-Inner+in-Some-get_mut, Node::remove_in_place-in-Inner+in_ok-own_children-in-Inner+in-None-get_mut}
 
--- the child that holds the characters
+-- the child that contains the characters
 down : (t : ℕ) (c : Children::remove_in_place-After-index-self-place t)
     → Takes c.args.self.now c.in-Some.way.place (get_or c.self.inside.nodes c.in-Some.way.place c.index-self-place.result) c.args.start c.in-Some.way.inside true
 down t c =
@@ -67,7 +67,7 @@ pub Children::remove_in_place-retotal-requires-clause-new :
     goal.Children::remove_in_place-retotal-requires-clause-new
 Children::remove_in_place-retotal-requires-clause-new t c = (change_to c.new.result c.remove_in_place.new.less _ _ c.new.ensures (c.in_ok-remove_in_place.ensures.change c.if-not-branch.false)).low
 
--- the children where something was taken out
+-- the children after the removal
 left : (t : ℕ) (c : Children::remove_in_place-After-index-self-place t) (u : Tree)
     → IsRemoved c.least_at-least.result.first c.least_at-least.result.last (get_or c.self.inside.nodes c.in-Some.way.place c.index-self-place.result) u c.in-Some.way.inside (c.args.end - (c.args.start - c.in-Some.way.inside))
     → AreRemoved c.args.least.first c.args.least.last c.args.self.now (set c.args.self.now c.in-Some.way.place u) c.args.start c.args.end
@@ -168,7 +168,7 @@ Node::remove_in_place-remove_in_place-requires-in-Some-get_mut t c =
     let low = tallest_below (breaks_of ts) (height_of ts) ts i.children.each in
     (omega (arith, c.decreases, low, ap (λ x. x.height) i.is), (i.children, (c.requires.ordered, omega (arith, c.requires.within, ap (λ x. length (text x)) i.is))))
 
--- what the node is then
+-- the node after the edit
 ended : (t : ℕ) (c : Node::remove_in_place-Joined-self t) → IsNode c.match-self.self-inside
 ended t c =
     elim c.match-self.branch [

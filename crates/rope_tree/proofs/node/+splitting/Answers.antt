@@ -80,7 +80,7 @@ Children::insert_splitting-returns-clause-tried t c = record {
   err = tt;
 }
 
--- what the node is then
+-- the node after the edit
 ended : (t : ℕ) (c : Node::insert_splitting-Joined-self t) → IsNode c.match-self.self-inside
 ended t c =
     elim c.match-self.branch [

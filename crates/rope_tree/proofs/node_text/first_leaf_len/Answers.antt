@@ -1,4 +1,4 @@
--- Where the first leaf of a longer text ends.
+-- The end of the first leaf of a longer text.
 use Rattle.std.proofs.Common.{arith, subst, sym, IsTrue}
 use Rattle.rope_text.specs.Cuts.{is_cut}
 use Rattle.std.specs.Str.{IsCharBoundary}

@@ -6,7 +6,7 @@ use Rattle.rope_tree.proofs.HalfLaws.{halves_at}
 use Rattle.rope_tree.proofs.node_text.halves_of.Goals.{After-next_break-cut}
 use Rattle.rope_tree.proofs.node_text.halves_of.Goals as goal
 
--- both parts of a text that is cut near its middle fit into a leaf
+-- both halves of a text that is split near its middle fit in a leaf
 record IsHalf (n cut : ℕ) : Type 0 where
   left : 491 ≤ cut
   left_fits : cut ≤ 984

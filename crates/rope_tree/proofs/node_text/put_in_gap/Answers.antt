@@ -1,4 +1,4 @@
--- Bytes that are moved up, and others that are put into the gap.
+-- Bytes that are moved up, and others that are copied into the gap.
 use Rattle.std.proofs.Common.{◌≡◌, ℕ, ◌+◌, ◌-◌, ◌≤◌, List, ◌++◌, length, take, drop, refl, sym, ap, ap₂, ◌∙◌, arith, take-append-drop}
 use Rattle.std.specs.List.{insert_slice}
 use Rattle.std.proofs.lemmas.List.{append_assoc, append-nil, length-take-le, length-drop, take-take, drop-take, take-append-le}
@@ -9,7 +9,7 @@ use Rattle.std.proofs.Math.Seq.{paste, drop-append_seam}
 use borrow.Rule.Slice.PartMut.{put_mid}
 use Rattle.rope_tree.proofs.node_text.put_in_gap.Goals as goal
 
--- the front stays, and what lies from the gap's end on is what lay from its start on
+-- the front is unchanged, and the bytes from the gap's end on are those that were at its start
 module _ (bs : List ℕ) (place end m : ℕ) (order : place ≤ end) (whole : end + m ≡ length bs) where
   moved_front : take place (paste bs end (drop place bs) m) ≡ take place bs
   moved_front =

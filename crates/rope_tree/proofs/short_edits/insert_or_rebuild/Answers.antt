@@ -1,4 +1,4 @@
--- What was not split where the nodes stand left the tree as it was.
+-- A try in place that does not apply leaves the tree unchanged.
 use Rattle.std.proofs.Common.{◌≡◌, ◌<◌, ◌^◌, ap, ◌∙◌, arith}
 use Rattle.rope_text.specs.Text.{byte_len}
 use Rattle.rope_text.specs.Edit.{inserted}

@@ -1,4 +1,4 @@
--- What was appended to is a front of the whole text.
+-- The text before the append is a front of the whole text.
 use Rattle.std.proofs.Common.{◌≡◌, ◌∙◌, ◌++◌, true, length, ap, sym, subst, arith, append_assoc}
 use Rattle.std.specs.Prelude.{◌==◌}
 use Rattle.std.proofs.lemmas.Bool.Decides.{nat_tests}

@@ -17,7 +17,7 @@ use Rattle.rope_tree.proofs.BuildLaws.{nodes_front, nodes_whole, siblings_whole,
 use Rattle.rope_tree.proofs.builder.Builder.finish.Goals.{In_ok-push}
 use Rattle.rope_tree.proofs.builder.Builder.finish.Goals as goal
 
--- where leaves were finished, something is left for one more
+-- if leaves were finished, the rest is not empty
 left : (c : In_ok-push) → 0 < byte_len c.self.inside.rest
 left c =
     let a = c.self.inside in
@@ -70,7 +70,7 @@ returns-clause-breaks c =
     breaks ∙ breaks_of_is c.self.inside.breaks 0 c.push.new.self.items (some b) (all b).each ∙ ap (λ (x : Building). x.breaks) c.self.view_is)
     c.root_over.ensures.breaks
 
--- each leaf but the last has 981 bytes or more
+-- each leaf but the last has at least 981 bytes
 most : (a : Inside) → IsBuilding a → 981 * length a.leaves.items + byte_len a.rest ≤ a.bytes
 most a i = omega (arith, i.long, nodes_le a.breaks 0 a.leaves.items i.nodes.each)
 

@@ -11,7 +11,7 @@ use Rattle.rope_tree.proofs.HalfLaws.{front_bytes, half_some, half_least, half_c
 use Rattle.rope_tree.proofs.leaf.Leaf.cut_anew.Goals.{After-from_str-front_info}
 use Rattle.rope_tree.proofs.leaf.Leaf.cut_anew.Goals as goal
 
--- the text that is cut is the leaf with the other
+-- the text to be split is that of the leaf with the inserted text
 grown : (c : After-from_str-front_info) → chars c.as_str.result.now ≡ inserted c.known_text-old.result c.args.at c.args.added.now
 grown c = ap chars c.as_str.ensures.value ∙ c.leaf_with-grown.ensures.text
 

@@ -27,7 +27,7 @@ module _ (c : After-from_str-front_info) where
   abbrev br : LineBreaks
   br = c.args.self.now.breaks
 
-  -- the text that is cut is the leaf's
+  -- the text to be split is the leaf's
   same : chars c.as_str-text.result.now ≡ text c.args.self.now
   same = c.as_str-text.ensures.chars ∙ sym (ap text c.known_text.ensures.is ∙ leaf_text c.known_text.result)
 
@@ -43,7 +43,7 @@ module _ (c : After-from_str-front_info) where
   kept : take c.from_str-front_info.result.chars (text c.args.self.now) ≡ f
   kept = ap (λ n. take n (text c.args.self.now)) front_chars ∙ ap (take (length f)) (sym whole) ∙ take-append_seam f b
 
-  -- two leaves in the place of this one
+  -- two leaves that replace this one
   two : (x y : List ℕ) (s : List ℕ) → IsTree (leaf_tree br x) → IsTree (leaf_tree br y) → x ++ y ≡ inserted (text c.args.self.now) c.args.at s → parts_crlf x y ≡ false → 491 ≤ byte_len x → 491 ≤ byte_len y → 0 < length x → 0 < length y
       → IsInserted c.args.self.now (leaf_tree br x ∷ leaf_tree br y ∷ []) (inserted (text c.args.self.now) c.args.at s)
   two x y s x_tree y_tree is apart x_long y_long x_some y_some =

@@ -10,7 +10,7 @@ use Rattle.rope_tree.proofs.GrownLaws.{leaf_inserted}
 use Rattle.rope_tree.proofs.leaf.Leaf.insert_in_place.Goals.{After-put_in-after}
 use Rattle.rope_tree.proofs.leaf.Leaf.insert_in_place.Goals as goal
 
--- the counts of a leaf that took the text
+-- the counts of a leaf after an insert
 low : (c : After-put_in-after) → AreWithin 984 c.put_in-after.result
 low c =
     let now = c.put_in-after.ensures.info ∙ ap (info_of c.old.inside.breaks) (sym c.put_in-after.ensures.text) in

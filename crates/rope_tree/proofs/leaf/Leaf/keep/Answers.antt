@@ -9,7 +9,7 @@ use Rattle.rope_tree.proofs.NodeLaws.{leaf_text}
 use Rattle.rope_tree.proofs.leaf.Leaf.keep.Goals.{After-keep_first}
 use Rattle.rope_tree.proofs.leaf.Leaf.keep.Goals as goal
 
--- the text that stays
+-- the text that is kept
 stays : (c : After-keep_first) → take c.args.info.chars (text c.args.self.now) ≡ c.keep_first.new.self
 stays c = ap (λ t. take c.args.info.chars (text t)) (sym c.self.view_is) ∙ ap (take c.args.info.chars) (leaf_text c.self.inside.text) ∙ sym c.keep_first.ensures.value
 

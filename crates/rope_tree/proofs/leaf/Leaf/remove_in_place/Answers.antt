@@ -10,7 +10,7 @@ use Rattle.rope_tree.proofs.RemovalLaws.{leaf_left}
 use Rattle.rope_tree.proofs.leaf.Leaf.remove_in_place.Goals.{In-Some}
 use Rattle.rope_tree.proofs.leaf.Leaf.remove_in_place.Goals as goal
 
--- the counts of a leaf that lost the characters
+-- the counts of a leaf after a removal
 low : (c : In-Some) → AreWithin 984 c.in-Some.after
 low c =
     let now = c.in-Some.ensures.info ∙ ap (info_of c.old.inside.breaks) (sym c.in-Some.ensures.text) in

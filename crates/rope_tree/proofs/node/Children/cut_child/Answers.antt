@@ -10,7 +10,7 @@ use Rattle.rope_tree.proofs.node.Children.cut_child.Goals as goal
 grown : (c : After-total) → AreGrown c.args.self.now c.split_child.new.self (inserted (joined c.args.self.now) c.args.at c.args.added.now)
 grown c = rw c.as_medium.ensures.value at (c.in_ok-split_child.ensures.tried.done c.if-not-branch.false)
 
--- the counts with the text have those before
+-- the counts with the text include those before
 has : (c : After-total) → HasPart c.total.result c.total-before.result
 has c =
     list_has c.args.self.now c.split_child.new.self c.args.added.now c.args.at c.requires.children (grown c) c.requires.takes.some

@@ -68,7 +68,7 @@ right_here c =
     c.self.view_is (within c))
     ∙ sym (right_is c)
 
--- where the left one ends, and the right one
+-- the end of the left leaf, and of the right one
 left_end : (c : After-index-back-0)
     → c.get-past.result.chars ≡ length (joined (take c.args.place c.args.self.now)) + length
     (text (left c))
@@ -108,7 +108,7 @@ shorten_nodes-requires-clause-end c =
     let e = (goal.at.shorten_nodes-requires-clause-end c).After-index-back-0 in
     omega (arith, right_end e, right_start e, c.if-end-get.false)
 
--- the leaves as they are left
+-- the leaves after the removal
 abbrev now_left : In-Some → Tree
 now_left c = c.shorten_nodes.new.left
 
@@ -202,7 +202,7 @@ first_lost c =
     c.least_at.result.first (492 - byte_len (text (now_right c))) (shortened c).end (first_before c)
     (first_after c)
 
--- the second
+-- the second step
 mid_sets : (c : In-Some) → breaks_of (mid c) ≡ breaks_of c.args.self.now
 mid_sets c =
     let r = first_lost c in

@@ -22,16 +22,16 @@ use Rattle.rope_tree.proofs.GrownLaws.{totals_seen, children_grown, grown_by_one
 use Rattle.rope_tree.proofs.ListedLaws.{put_in_place, more_seen, more_listed}
 use Rattle.rope_tree.proofs.ChildLaws.{Finds, found_at, read, part, child_fits, may, small, still_narrow, fields_after, all_grown}
 use Rattle.rope_tree.proofs.CutLaws.{Cuts, own_first, own_second, small_both, cut_fits, few_bytes, first_narrow, totals_cut}
-use Rattle.rope_tree.proofs.node.Children.split_child.Goals.{After-info-old, After-info-front, After-put_behind, then-count-ge-MAX_CHILDREN-via-then-count-ge-MAX_CHILDREN, then-count-ge-MAX_CHILDREN-via-else-count-ge-MAX_CHILDREN+then-not-has_room_for}
+use Rattle.rope_tree.proofs.node.Children.split_child.Goals.{After-info-old, After-info-front, After-put_after, then-count-ge-MAX_CHILDREN-via-then-count-ge-MAX_CHILDREN, then-count-ge-MAX_CHILDREN-via-else-count-ge-MAX_CHILDREN+then-not-has_room_for}
 use Rattle.rope_tree.proofs.node.Children.split_child.Goals as goal
 
--- the child that takes the text, before it is cut
+-- the child that takes the text, before it is split
 found : (c : After-info-old) → Finds c.self.inside c.args.self.now c.way_in-place.result.place (get_or c.self.inside.nodes c.way_in-place.result.place c.index-self-place.result) c.args.at c.way_in-place.result.inside c.args.to_right
 found c =
     found_at c.self.inside c.args.self.now c.way_in-place.result.place c.index-self-place.result c.args.at c.way_in-place.result.inside c.args.to_right
     c.self.view_is c.self.invariant c.requires.children c.way_in-place.ensures.child c.way_in-place.ensures.place c.way_in-place.ensures.goes
 
--- and then
+-- the child after the split
 abbrev child : After-info-front → Tree
 child c = get_or c.self.inside.nodes c.way_in-place.result.place c.index-self-place.result
 
@@ -113,7 +113,7 @@ returns-in-Grown-clause-tried c = record {
   err = tt;
 }
 
--- the children with both parts of the leaf
+-- the children with both halves of the split child
 abbrev parts : After-info-front → List Tree
 parts c = insert (set c.args.self.now c.way_in-place.result.place c.cut.new.self) (c.way_in-place.result.place + 1) c.in-Split.back
 
@@ -221,14 +221,14 @@ insert-requires-clause-narrow c = λ narrow.
     let before = before_is f c.total_before.result c.total_before.ensures.first c.total_before.ensures.later in
     rw (first_is f c.total_before.result c.plus-total.result before c.plus-total.ensures.sum) (first_narrow _ _ _ _ _ _ (cut f) few)
 
--- the nodes in use, with the second part of the leaf behind the first
-placed : (c : After-put_behind) → c.put_behind.new.nodes ≡ insert (set c.args.self.now c.way_in-place.result.place c.cut.new.self) (c.way_in-place.result.place + 1) c.in-Split.back
+-- the nodes in use, with the second half after the first
+placed : (c : After-put_after) → c.put_after.new.nodes ≡ insert (set c.args.self.now c.way_in-place.result.place c.cut.new.self) (c.way_in-place.result.place + 1) c.in-Split.back
 placed c =
-    put_in_place c.self.inside c.args.self.now c.way_in-place.result.place c.cut.new.self c.in-Split.back c.len-count.result c.put_behind.new.nodes c.self.invariant c.self.view_is c.way_in-place.ensures.child
-    c.len-count.ensures (omega (arith, c.if-count-ge-MAX_CHILDREN.false)) c.put_behind.ensures
+    put_in_place c.self.inside c.args.self.now c.way_in-place.result.place c.cut.new.self c.in-Split.back c.len-count.result c.put_after.new.nodes c.self.invariant c.self.view_is c.way_in-place.ensures.child
+    c.len-count.ensures (omega (arith, c.if-count-ge-MAX_CHILDREN.false)) c.put_after.ensures
 
--- as many as there are places for
-as_many : (c : After-put_behind) → length c.put_behind.new.nodes ≡ c.len-count.result + 1
+-- the number of entries is unchanged
+as_many : (c : After-put_after) → length c.put_after.new.nodes ≡ c.len-count.result + 1
 as_many c =
     let ts = c.args.self.now in
     let k = c.way_in-place.result.place in
@@ -252,26 +252,26 @@ module _ (c : After-info-front) (total back both : TextInfo) (mid after : List T
 
 pub invariant_of-self-2 : goal.invariant_of-self-2
 invariant_of-self-2 c =
-    let e = (goal.at.invariant_of-self-2 c).After-put_behind in
+    let e = (goal.at.invariant_of-self-2 c).After-put_after in
     let f = (goal.at.invariant_of-self-2 c).After-info-front in
     let first = first_is f c.total_before.result c.plus-total.result (before_is f c.total_before.result c.total_before.ensures.first c.total_before.ensures.later) c.plus-total.ensures.sum in
     let both = both_are f c.info.result c.plus.result c.info.ensures.value c.plus.ensures.sum in
     let right = retotaled f c.plus-total.result c.info.result c.plus.result c.retotal-2.new.self c.insert.new.self first both c.retotal-2.ensures.len c.retotal-2.ensures.before c.retotal-2.ensures.after
     c.insert.ensures.len c.insert.ensures.before c.insert.ensures.here c.insert.ensures.behind in
-    more_listed c.self.inside _ c.args.self.now c.put_behind.new.nodes c.way_in-place.result.place c.cut.new.self c.len-count.result c.self.invariant c.self.view_is c.way_in-place.ensures.child (rw (placed e) (children f)) refl refl
+    more_listed c.self.inside _ c.args.self.now c.put_after.new.nodes c.way_in-place.result.place c.cut.new.self c.len-count.result c.self.invariant c.self.view_is c.way_in-place.ensures.child (rw (placed e) (children f)) refl refl
     (as_many e) c.len-count.ensures refl (rw (placed e) right)
 
 pub returns-clause-tried : goal.returns-clause-tried
 returns-clause-tried c = record {
   done = λ yes.
-      let e = (goal.at.returns-clause-tried c).After-put_behind in
+      let e = (goal.at.returns-clause-tried c).After-put_after in
       let f = (goal.at.returns-clause-tried c).After-info-front in
       let first = first_is f c.total_before.result c.plus-total.result (before_is f c.total_before.result c.total_before.ensures.first c.total_before.ensures.later) c.plus-total.ensures.sum in
       let both = both_are f c.info.result c.plus.result c.info.ensures.value c.plus.ensures.sum in
       let right = retotaled f c.plus-total.result c.info.result c.plus.result c.retotal-2.new.self c.insert.new.self first both c.retotal-2.ensures.len c.retotal-2.ensures.before c.retotal-2.ensures.after
       c.insert.ensures.len c.insert.ensures.before c.insert.ensures.here c.insert.ensures.behind in
-      let now : HasTotals (breaks_of c.put_behind.new.nodes) c.insert.new.self c.put_behind.new.nodes = rw (placed e) right in
-      let seen = more_seen c.self.inside (record { height = _; breaks = _; last = c.self.inside.last; totals = _; nodes = _ }) c.args.self.now c.put_behind.new.nodes c.way_in-place.result.place c.cut.new.self c.len-count.result c.self.invariant c.self.view_is c.way_in-place.ensures.child (rw (placed e) (children f)) refl refl
+      let now : HasTotals (breaks_of c.put_after.new.nodes) c.insert.new.self c.put_after.new.nodes = rw (placed e) right in
+      let seen = more_seen c.self.inside (record { height = _; breaks = _; last = c.self.inside.last; totals = _; nodes = _ }) c.args.self.now c.put_after.new.nodes c.way_in-place.result.place c.cut.new.self c.len-count.result c.self.invariant c.self.view_is c.way_in-place.ensures.child (rw (placed e) (children f)) refl refl
       (as_many e) c.len-count.ensures refl now in
       rw (seen, placed e) (parted f);
   kept = λ no. cc;

@@ -15,7 +15,7 @@ use Rattle.rope_tree.proofs.node.Children.way_in.Goals as goal
 totals : (c : After-self) → HasTotals (breaks_of c.args.self.now) c.self.inside.totals c.args.self.now
 totals c = totals_seen (listed c.self.inside) c.args.self.now c.self.inside.totals c.self.inside.totals c.self.view_is refl c.self.invariant.totals_right
 
--- the way down to the child
+-- the step to the child
 down : (c : After-total_before-before) (d : Tree) → Descends (breaks_of c.args.self.now) Char c.char_to_hold-held.result c.args.self.now c.try_place-place.result.0 (get_or c.args.self.now c.try_place-place.result.0 d) c.total_before-before.result
 down c d =
     let ts = c.args.self.now in
@@ -32,7 +32,7 @@ goes c d =
     goes_in c.args.at c.char_to_hold-held.result c.total_before-before.result.chars (length (text (get_or c.args.self.now c.try_place-place.result.0 d))) c.args.to_right w.not_past w.past
     c.char_to_hold-held.ensures.right c.char_to_hold-held.ensures.first c.char_to_hold-held.ensures.left
 
--- any tree, where a list is known to have one
+-- any tree, if a list is known to have one
 some_tree : Tree
 some_tree = record { breaks = breaks_of []; leaves = []; height = 0; width = 0 }
 

@@ -1,4 +1,4 @@
--- The node once more is the node.
+-- A reference to the node has the value of the node.
 use Rattle.std.proofs.Common.{◌≡◌, sym, ap, ◌∙◌, subst}
 use Rattle.rope_tree.specs.Tree.{IsTree, tree_over}
 use Rattle.rope_tree.specs.Shape.{form_tree}

@@ -64,7 +64,7 @@ child_fits t c =
     let parts = ap byte_len (text_around (breaks_of ts) (height_of ts) ts k c.index-children-place.result d.children d.within d.child_is) in
     omega (arith, whole, parts, IsMeasure-byte_len.joined (joined (take k ts)) (text c.index-children-place.result ++ joined (drop (k + 1) ts)), IsMeasure-byte_len.joined (text c.index-children-place.result) (joined (drop (k + 1) ts)))
 
--- a leaf takes a short text alone
+-- a leaf takes only a short text
 low : (t : ℕ) (c : goal.After-insert-arg-1 t) → c.index-children-place.result.height ≡ 0 → byte_len c.args.added.now ≤ 981
 low t c flat =
     elim c.else-len-gt-MAX_SHORT_BYTES.branch [
@@ -88,7 +88,7 @@ returns-in_err-middle-in-Inner-clause-made t c = omega (arith, made_by t (goal.a
 pub returns-in_ok-middle-in-Inner-clause-made : goal.returns-in_ok-middle-in-Inner-clause-made
 returns-in_ok-middle-in-Inner-clause-made t c = omega (arith, made_by t (goal.at.returns-in_ok-middle-in-Inner-clause-made t c).After-index-children-place, c.in_ok-middle-in-Inner.ensures.made, c.pack.ensures.made)
 
--- the nodes that take the child's place, among the others
+-- the nodes that replace the child, among its siblings
 module _ (t : ℕ) (c : After-index-children-place t) (ps : List Tree)
     (new : IsReplaced c.index-children-place.result ps (inserted (text c.index-children-place.result) (c.args.at - c.total_before-front.result.chars) c.args.added.now)) where
   fits : byte_len (text c.args.node.now) + byte_len c.args.added.now < 2 ^ 63

@@ -11,7 +11,7 @@ use Rattle.rope_tree.proofs.InsertLeaves.{one_inserted, two_inserted}
 use Rattle.rope_tree.proofs.node.anew.insert_into_leaf.Goals.{After-as_str-text}
 use Rattle.rope_tree.proofs.node.anew.insert_into_leaf.Goals as goal
 
--- the text that is put in leaves is the leaf with the other
+-- the text to be put into leaves is that of the leaf with the inserted text
 grown : (c : After-as_str-text) → chars c.as_str-text.result.now ≡ inserted c.args.leaf.now c.args.at c.args.added.now
 grown c = ap chars c.as_str-text.ensures.value ∙ c.leaf_with-grown.ensures.text
 

@@ -15,7 +15,7 @@ use Rattle.rope_tree.proofs.RowLaws.{last_counts_all}
 use Rattle.rope_tree.proofs.node.row.push_row.Goals.{After-total_before-before}
 use Rattle.rope_tree.proofs.node.row.push_row.Goals as goal
 
--- nodes put in the places of as many others
+-- nodes that replace an equal number of entries
 put_over : (count k : ℕ) (places nodes now : List Tree) → length now ≡ length nodes → take k now ≡ take k nodes → length nodes ≤ k
     → put_mid count (count + length nodes - count) places now ≡ take count places ++ (nodes ++ drop (count + length nodes) places)
 put_over count k places nodes now len front le =
@@ -23,7 +23,7 @@ put_over count k places nodes now len front le =
     let many : count + length nodes - count ≡ length nodes = omega arith in
     rw (same, many, drop-drop (length nodes) count places) refl
 
--- the row's totals are those of a node of which it is a part
+-- the totals of the row are those of the parent
 part : (c : After-total_before-before) → IsPart c.args.row.now.nodes.now c.in-Some.known.now c.args.row.now.from
 part c = subst (λ o. IfSome o (λ totals. IsPart c.args.row.now.nodes.now totals.now c.args.row.now.from)) c.in-Some.is c.requires.row
 
@@ -35,7 +35,7 @@ base c =
     let p = part c in
     front_is (breaks_of p.whole) c.in-Some.known.now p.whole c.args.row.now.from c.total_before-base.result p.totals_right (omega (arith, p.within, p.totals_right.as_many)) c.total_before-base.ensures.first c.total_before-base.ensures.later
 
--- the counts of the list's nodes
+-- the counts of the nodes of the list
 told : (c : After-total_before-before) → IsTotalOf (nodes_in (new_list c.args.totals.now c.args.places.now)) c.total_before-before.result
 told c =
     last_counts_all (new_list c.args.totals.now c.args.places.now) c.len-count.result c.total_before-before.result c.requires.list c.len-count.ensures c.total_before-before.ensures.first c.total_before-before.ensures.later

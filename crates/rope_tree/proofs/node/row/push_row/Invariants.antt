@@ -1,4 +1,4 @@
--- The first of the places have the nodes, and the others stay.
+-- The first entries have the nodes, and the others are unchanged.
 use Rattle.std.proofs.Common.{◌≡◌, length, take}
 use Rattle.rope_tree.proofs.node.row.push_row.Given as goal
 

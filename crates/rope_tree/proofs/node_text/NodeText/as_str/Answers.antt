@@ -1,4 +1,4 @@
--- What is known of a leaf: its text.
+-- The text of a leaf.
 use Rattle.std.proofs.Common.{ap, ◌∙◌, sym, subst, arith}
 use Rattle.std.proofs.lemmas.Str.{scalars-chars, IsUtf8-from_is_utf8}
 use Rattle.std.specs.Str.{chars, all_scalars, IsUtf8}

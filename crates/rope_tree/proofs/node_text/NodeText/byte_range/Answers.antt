@@ -1,4 +1,4 @@
--- Where there are as many bytes as characters, a character's number is its byte's.
+-- In a text with as many bytes as characters, the byte index is the character index.
 use Rattle.std.proofs.Common.{◌≡◌, ℕ, take, length, ap, sym, subst, ◌∙◌, arith, ◌+◌, ◌-◌, drop}
 use Rattle.std.specs.Str.{IsCharBoundary}
 use Rattle.std.proofs.lemmas.Str.{length-le-encodes, IsCharBoundary-from_rest}
@@ -20,7 +20,7 @@ from_is c = omega (arith, c.min.ensures, c.requires.chars, ascii_front c.args.se
 to_is : (c : After-min-then-chars-text) → c.min-then-chars-text.result ≡ byte_len (take c.args.end c.args.self.now)
 to_is c = omega (arith, c.min-then-chars-text.ensures, c.requires.chars, ascii_front c.args.self.now (ascii c) c.args.end)
 
--- a character's bytes begin at a boundary
+-- the bytes of a character begin at a boundary
 boundary : (c : After-min-then-chars-text) (i n : ℕ) → n ≡ byte_len (take i c.args.self.now) → IsCharBoundary c.as_str-text.result.now n
 boundary c i n is =
     let bs = c.as_str-text.result.now in
@@ -42,7 +42,7 @@ returns-then-chars-text-clause-to_boundary c =
     let e = (goal.at.returns-then-chars-text-clause-to_boundary c).After-min-then-chars-text in
     subst (λ bs. IsCharBoundary bs c.min-then-chars-text.result) c.as_str-text.ensures.bytes (boundary e c.args.end c.min-then-chars-text.result (to_is e))
 
--- what follows the first of the characters has so many less
+-- the number of characters after the first ones is the difference
 pub char_to_byte_idx_of-requires : goal.char_to_byte_idx_of-requires
 char_to_byte_idx_of-requires c =
     let old = c.as_str-text in

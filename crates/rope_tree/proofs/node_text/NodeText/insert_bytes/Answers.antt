@@ -1,4 +1,4 @@
--- The text of a leaf with another put in at a byte.
+-- The text of a leaf with another inserted at a byte.
 use Rattle.std.proofs.Common.{◌≡◌, ◌≤◌, ◌+◌, ℕ, ◌++◌, List, length, take, drop, sym, ap, subst, ◌∙◌, arith}
 use Rattle.std.specs.List.{insert_slice}
 use Rattle.std.specs.Str.{chars, IsUtf8, IsCharBoundary, encode_utf8_all}
@@ -16,7 +16,7 @@ inserted_utf8 bs new i u v at = IsUtf8-append (take i bs ++ new) (drop i bs) (Is
 inserted_len : (bs new : List ℕ) (i : ℕ) → i ≤ length bs → length (insert_slice bs i new) ≡ length bs + length new
 inserted_len bs new i within = omega (arith, length-append (take i bs ++ new) (drop i bs), length-append (take i bs) new, length-take-le i bs within, length-drop i bs)
 
--- the bytes that the text had
+-- the bytes before the insert
 same : (c : After-put_bytes) → encode_utf8_all c.args.self.now ≡ c.self.inside.bytes.items
 same c = bytes_of c.self.inside.bytes.items c.args.self.now c.self.invariant.0 c.self.view_is
 
@@ -26,7 +26,7 @@ at c = subst (λ x. IsCharBoundary x c.args.place) (same c) c.requires.boundary
 old_len : (c : After-put_bytes) → byte_len c.args.self.now ≡ length c.self.inside.bytes.items
 old_len c = len_of c.self.inside.bytes.items c.args.self.now c.self.invariant.0 c.self.view_is
 
--- and those that it has
+-- the bytes after the insert
 now : (c : After-put_bytes) → c.put_bytes.new.bytes.items ≡ insert_slice c.self.inside.bytes.items c.args.place c.args.added.now
 now c = c.put_bytes.ensures ∙ ap (insert_slice c.self.inside.bytes.items c.args.place) c.as_bytes.ensures.value
 

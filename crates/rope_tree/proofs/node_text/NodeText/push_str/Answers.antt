@@ -1,4 +1,4 @@
--- The text of a leaf with another put behind it.
+-- The text of a leaf with another appended.
 use Rattle.std.proofs.Common.{◌≡◌, ◌+◌, ◌++◌, length, ap, ◌∙◌, arith}
 use Rattle.std.proofs.lemmas.List.{length-append}
 use Rattle.std.proofs.lemmas.Str.{chars-append, IsUtf8-append, IsUtf8-from_is_utf8, is_utf8-from_IsUtf8}

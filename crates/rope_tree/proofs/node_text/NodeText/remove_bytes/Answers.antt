@@ -1,4 +1,4 @@
--- The text of a leaf with a part taken out.
+-- The text of a leaf after a removal.
 use Rattle.std.proofs.Common.{◌≡◌, ℕ, ◌≤◌, List, length, take, drop, sym, ap, subst, ◌∙◌, arith}
 use Rattle.std.specs.List.{remove_range}
 use Rattle.std.specs.Str.{chars, IsUtf8, IsCharBoundary}
@@ -38,7 +38,7 @@ is c =
     let cut = c.truncate.ensures.items in
     grind (arith, common_steps)
 
--- what is left is a text
+-- the rest is a text
 left : (c : After-truncate) → IsUtf8 (remove_range c.self.inside.bytes.items c.args.from c.args.to)
 left c =
     let bs = c.self.inside.bytes.items in

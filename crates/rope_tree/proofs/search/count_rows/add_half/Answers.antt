@@ -1,4 +1,4 @@
--- A mask leaves a number as it is, or nothing of it.
+-- A mask keeps a number, or clears it.
 use Rattle.std.proofs.Common.{◌≡◌, ℕ, ◌+◌, ◌-◌, ◌<◌, ◌^◌, bit_and, get_or, inl, inr, rules, arith}
 use Rattle.std.proofs.lemmas.Bool.{cases_lt}
 use Rattle.std.proofs.lemmas.Grind.{common_steps}

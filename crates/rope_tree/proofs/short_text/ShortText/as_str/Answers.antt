@@ -1,4 +1,4 @@
--- What a text says of its bytes and characters.
+-- The bytes and characters of a text.
 use Rattle.std.proofs.Common.{ap, ◌∙◌, sym, arith}
 use Rattle.std.proofs.lemmas.Str.{encodes-chars, scalars-chars, IsUtf8-from_is_utf8}
 use Rattle.std.specs.Str.{encode_utf8_all, all_scalars}

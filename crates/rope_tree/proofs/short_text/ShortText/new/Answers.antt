@@ -1,4 +1,4 @@
--- A lent text as a list of characters.
+-- A borrowed text as a list of characters.
 use Rattle.std.proofs.Common.{arith}
 use Rattle.std.proofs.lemmas.Str.{is_utf8-from_IsUtf8}
 use Rattle.rope_text.proofs.Walks.{byte_len-chars}

@@ -1,4 +1,4 @@
--- The tests are in the order of the errors; after them only `OutOfMemory` is possible.
+-- The tests come in the order of the errors, and past them only memory refuses.
 use Rattle.std.proofs.Common.{rules, ◌≡◌, ◌<◌, ◌∙◌, ℕ, List, length, sym, refl, arith, subst, ap, Some, true, false}
 use Rattle.std.proofs.lemmas.Bool.Decides.{nat_tests}
 use Rattle.std.specs.Prelude.{◌==◌}

@@ -1,6 +1,6 @@
 use Rattle.std.proofs.Common.{refl, arith}
 use Rattle.rope_tree.specs.Narrow.{IsNarrow}
-use Rattle.rope_tree.proofs.CountsKept.{many, all_below, one_more, put_before_same, put_here, put_behind_same, put_totals}
+use Rattle.rope_tree.proofs.CountsKept.{many, all_below, one_more, put_before_same, put_here, put_after_same, put_totals}
 use Rattle.rope_tree.proofs.search.count_rows.CountRows.insert.Goals.{After-self}
 use Rattle.rope_tree.proofs.search.count_rows.CountRows.insert.Goals as goal
 
@@ -53,5 +53,5 @@ returns-clause-here c =
 
 pub returns-clause-behind : goal.returns-clause-behind
 returns-clause-behind c =
-    put_behind_same c.self.inside _ c.args.self.now c.self.invariant c.self.view_is c.args.place c.args.total c.requires.within c.requires.room (narrow (goal.at.returns-clause-behind c).After-self)
+    put_after_same c.self.inside _ c.args.self.now c.self.invariant c.self.view_is c.args.place c.args.total c.requires.within c.requires.room (narrow (goal.at.returns-clause-behind c).After-self)
     refl c.put_in.ensures c.put_in-2.ensures c.put_in-3.ensures c.put_in-4.ensures

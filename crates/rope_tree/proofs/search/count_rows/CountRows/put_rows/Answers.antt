@@ -1,4 +1,4 @@
--- From the place on each total is one of the others.
+-- The totals from the index on are those of the other list.
 use Rattle.std.proofs.Common.{length, refl, sym, ◌∙◌, arith}
 use Rattle.rope_tree.proofs.CountsKept.{many, longer, kept_totals, moved_totals, joined_totals, first_totals, first_many, first_seen}
 use Rattle.rope_tree.proofs.search.count_rows.CountRows.put_rows.Goals as goal

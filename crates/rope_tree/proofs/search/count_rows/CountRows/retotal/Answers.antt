@@ -8,7 +8,7 @@ use Rattle.rope_tree.specs.Shifted.{IsShifted}
 use Rattle.rope_tree.proofs.search.count_rows.CountRows.retotal.Goals.{After-self, After-shift-4}
 use Rattle.rope_tree.proofs.search.count_rows.CountRows.retotal.Goals as goal
 
--- what is known of each total from the place on
+-- the properties of each total from the index on
 module _ (c : After-self) where
   n : c.self.inside.len ≡ length c.args.self.now
   n = many c.self.inside c.args.self.now c.self.view_is

@@ -1,7 +1,7 @@
 use Rattle.std.proofs.Common.{◌+◌, ◌-◌, length, set, take, arith}
 use Rattle.std.proofs.lemmas.List.{length-take-le}
 use Rattle.rope_tree.proofs.ListedLaws.{turned, last_set}
-use Rattle.rope_tree.proofs.node.in_place.put_behind.Goals as goal
+use Rattle.rope_tree.proofs.node.in_place.put_after.Goals as goal
 
 pub returns : goal.returns
 returns c =
