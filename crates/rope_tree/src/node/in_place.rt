@@ -6,8 +6,8 @@
 //!
 //! - `insert_in_place`: a leaf with room takes the text. A leaf without room is split into two, if
 //!   the list above it has room for one more child.
-//! - `insert_splitting`: for a leaf in a full list, and for medium texts. The child below the lowest
-//!   list with room, other than the leaf's own list, is replaced by one or two new nodes.
+//! - `insert_splitting`: for a leaf in a full list, and for medium texts. The child below the
+//!   lowest list with room, other than the leaf's own, is replaced by one or two new nodes.
 //! - `remove_in_place`: a leaf, or two adjacent ones below one node, lose the characters. Both have
 //!   to stay long enough beside their neighbours ([`Least`]).
 //!
