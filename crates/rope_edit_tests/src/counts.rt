@@ -54,7 +54,7 @@ fn an_insert_beside_a_clone_counts_the_copies(rt: HostRuntime) -> Result<(), Fai
 }
 
 /// The leaf is found once. With 2,000 letters in it, it becomes four in a new list of 24: two of
-/// 984 and two of 508. With 4,096, it becomes six, and two lists of 13 take the place of the root's.
+/// 984 and two of 508. With 4,096, it becomes six, and two lists of 13 replace the root's.
 fn counts_medium_texts(rope: &mut Rope, text: &str, expected: [u64; 3]) -> Result<(), Failure> {
     let mut steps = LEFT_OVER;
     holds!(rope.len_chars() == 20_000);
