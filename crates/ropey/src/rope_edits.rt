@@ -85,7 +85,8 @@ impl Rope {
     /// The index is at most `len_chars()`. An empty text takes no memory and changes nothing. A
     /// short one goes into the chunk around the index, and takes no memory if the chunk has room
     /// and no node on the path to it is shared with a clone; else nodes on the path are made. A
-    /// text of more than 981 bytes becomes chunks of its own.
+    /// text of up to 4,096 bytes and the chunk at the index become up to six chunks, and a longer
+    /// text becomes chunks of its own.
     ///
     /// With the text `"ac"`, `insert(1, "b")` makes `"abc"`.
     ///
