@@ -1,11 +1,10 @@
 -- A writing under way.
 use Rattle.std.proofs.Common.{◌≡◌, ◌+◌, ◌<◌, ◌≤◌, ℕ, Bool, false, true, List, [], ◌∷◌, ◌++◌, length, arith, refl, Ok, Err, Result, OnOk, OnErr, cond, sym, ap, subst, ◌∙◌, append_assoc, Option, None, Some}
 use Rattle.std.proofs.KnownBytes.{Appends-trans}
-use Rattle.std.proofs.lemmas.Bool.{cond-false, ne_eqb, ltb-false}
+use Rattle.std.proofs.lemmas.Bool.{ltb-false}
 use Rattle.std.proofs.lemmas.List.{append-nil}
 use Rattle.std.specs.Io.KnownBytes.{Appends}
 use Rattle.std.specs.declared.io.Error.{Error}
-use Rattle.rope_io.specs.Failing.{write_failure}
 use Rattle.rope_io.specs.Writing.{AppendsFront}
 use Rattle.rope_io.specs.declared.device.Failure.{Failure}
 use Rattle.rope_files.specs.Layouts.{laid_out, char_bytes}
@@ -19,16 +18,6 @@ pub record NoneFailed (marked : Bool) (failure : Option Failure) (start now : �
   pub clear : marked ≡ false
   pub none : failure ≡ None
   pub same : now ≡ start
-
--- the bytes but the rest have been appended
-pub record IsWriting (start now : Option (List ℕ)) (bytes rest : List ℕ) : Type 0 where
-  pub done : List ℕ
-  pub whole : bytes ≡ done ++ rest
-  pub appended : Appends start now done
-
--- a write that took a byte has not failed
-pub took_some : (n : ℕ) (bs : List ℕ) → 0 < n → write_failure (Ok n) bs ≡ None
-took_some n bs some = cond-false _ _ _ (ne_eqb n 0 (λ e. omega (arith, e, some)))
 
 pub front_all : (old new : Option (List ℕ)) (bs : List ℕ) → Appends old new bs
     → AppendsFront old new bs

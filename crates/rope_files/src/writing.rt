@@ -16,37 +16,16 @@ use crate::error::WriteAsError;
 use crate::layout::{ByteOrder, Layout};
 use arrayvec::ArrayVec;
 use rope_text::BUFFER_BYTES;
+use rope_io::writing::write_bytes;
 use ropey::Rope;
 use ropey::io::{Sink, Watched};
-use std::io::{self, ErrorKind, Write};
+use std::io::{self, Write};
 
 /// Bytes that are gathered before they are written.
 type Gathered = ArrayVec<u8, BUFFER_BYTES>;
 
 // The most bytes of a character.
 const MAX_CHAR_BYTES: usize = 4;
-
-// Writes all the bytes, in as many writes as it takes.
-fn write_bytes<S: Sink>(sink: &mut S, bytes: &[u8]) -> io::Result<()>
-    requires clear { S.marked sink.old ≡ false }
-    requires none { S.failure sink.old ≡ None }
-    ensures ok { OnOk result (Appends (S.contents sink.old) (S.contents sink.new) bytes.now) }
-    ensures clear { OnOk result (S.marked sink.new ≡ false) }
-    ensures err { OnErr result (S.marked sink.new ≡ true) }
-    ensures front { AppendsFront (S.contents sink.old) (S.contents sink.new) bytes.now }
-    ensures failure { IsWriteCounted result (S.failure sink.new)
-        (S.failures sink.old) (S.failures sink.new) }
-{
-    let mut rest = bytes;
-    while !rest.is_empty() {
-        let count = sink.give(rest)?;
-        if count == 0 {
-            return Err(io::Error::from(ErrorKind::WriteZero));
-        }
-        rest = &rest[count..];
-    }
-    Ok(())
-}
 
 // Adds the bytes of a code unit.
 fn push_unit(order: ByteOrder, unit: u16, gathered: &mut Gathered)

@@ -10,8 +10,13 @@ use crate::device::Sink;
 use rope_slice::RopeSlice;
 use std::io::{self, ErrorKind};
 
-// Writes all the bytes, in one or more writes.
-fn write_bytes<S: Sink>(sink: &mut S, bytes: &[u8]) -> io::Result<()>
+/// Writes all the bytes, in one or more writes, without flushing. Takes no memory of its own.
+///
+/// # Errors
+///
+/// The sink's error, at once, also an interrupted write's; an error of the kind `WriteZero` if a
+/// write takes none of its bytes. Then a prefix of the bytes has been written.
+pub fn write_bytes<S: Sink>(sink: &mut S, bytes: &[u8]) -> io::Result<()>
     requires clear { S.marked sink.old ≡ false }
     requires none { S.failure sink.old ≡ None }
     ensures ok { OnOk result (Appends (S.contents sink.old) (S.contents sink.new) bytes.now) }
