@@ -1,58 +1,94 @@
 //! Each public call once, against numbers by hand.
-use crate::{ChangeError, ChangeSet, Edit, Side};
+use crate::{ChangeError, ChangeSet, Edit, Edits, Side};
 use ropey::Rope;
+use std::alloc::Global;
+use std::process::Abort;
 use std::test::Fail;
+
+fn rope_of(rt: &impl Abort, alloc: Global, text: &str) -> Rope {
+    Rope::from_str(alloc, text).expect(rt, "there is memory")
+}
+
+// Creates a change of a text of `len` characters.
+fn unchanged(rt: &impl Abort, alloc: Global, len: usize) -> ChangeSet {
+    ChangeSet::new(alloc, len).expect(rt, "the text fits")
+}
+
+// Replaces a range after the last one.
+fn replace(rt: &impl Abort, change: &mut ChangeSet, start: usize, end: usize, text: &str) {
+    change
+        .replace(start, end, text)
+        .expect(rt, "the range is in order");
+}
+
+// Applies a change to a rope of its length.
+fn apply(rt: &impl Abort, change: &ChangeSet, rope: &mut Rope) {
+    change.apply(rope).expect(rt, "there is memory");
+}
+
+// Moves an index of the text before a change.
+fn moved(rt: &impl Abort, change: &ChangeSet, index: usize, side: Side) -> usize {
+    assert!(rt; index <= change.len_before());
+    change.map(index, side)
+}
+
+// Fails unless the next replacement has these ranges and this text.
+fn expect_next(
+    rt: &impl Abort,
+    edits: &mut Edits<'_>,
+    range: (usize, usize),
+    new_range: (usize, usize),
+    text: &str,
+) {
+    let edit = edits.next().expect(rt, "a replacement is left");
+    assert_eq!(rt; (edit.start, edit.end), range);
+    assert_eq!(rt; (edit.new_start, edit.new_end), new_range);
+    assert_eq!(rt; edit.text, text);
+}
 
 #[test]
 fn a_change_is_built_mapped_applied_and_undone(rt: HostRuntime) -> Result<(), Fail> {
-    let mut rope = Rope::from_str(rt.alloc(), "one two").expect(&rt, "there is memory");
-    let mut change = ChangeSet::new(rt.alloc(), 7).expect(&rt, "there is memory");
+    let mut rope = rope_of(&rt, rt.alloc(), "one two");
+    let mut change = unchanged(&rt, rt.alloc(), 7);
     assert!(rt; change.is_empty());
-    change.replace(0, 3, "1").expect(&rt, "there is memory");
-    change.replace(4, 4, "and ").expect(&rt, "there is memory");
-    change.replace(4, 7, "2").expect(&rt, "there is memory");
+    replace(&rt, &mut change, 0, 3, "1");
+    replace(&rt, &mut change, 4, 4, "and ");
+    replace(&rt, &mut change, 4, 7, "2");
     assert!(rt; !change.is_empty());
     assert_eq!(rt; change.len_before(), 7);
     assert_eq!(rt; change.len_after(), 7);
-    assert_eq!(rt; change.map(0, Side::Before), 0);
-    assert_eq!(rt; change.map(1, Side::Before), 1);
-    assert_eq!(rt; change.map(3, Side::Before), 1);
-    assert_eq!(rt; change.map(4, Side::Before), 2);
-    assert_eq!(rt; change.map(4, Side::After), 7);
+    assert_eq!(rt; moved(&rt, &change, 0, Side::Before), 0);
+    assert_eq!(rt; moved(&rt, &change, 1, Side::Before), 1);
+    assert_eq!(rt; moved(&rt, &change, 3, Side::Before), 1);
+    assert_eq!(rt; moved(&rt, &change, 4, Side::Before), 2);
+    assert_eq!(rt; moved(&rt, &change, 4, Side::After), 7);
     let back = change.invert(&rope).expect(&rt, "there is memory");
-    change.apply(&mut rope).expect(&rt, "there is memory");
+    apply(&rt, &change, &mut rope);
     assert!(rt; rope.eq_str("1 and 2"));
-    back.apply(&mut rope).expect(&rt, "there is memory");
+    apply(&rt, &back, &mut rope);
     assert!(rt; rope.eq_str("one two"));
     Ok(())
 }
 
 #[test]
 fn edits_have_their_ranges_in_both_texts(rt: HostRuntime) -> Result<(), Fail> {
-    let mut change = ChangeSet::new(rt.alloc(), 7).expect(&rt, "there is memory");
-    change.replace(0, 3, "1").expect(&rt, "there is memory");
-    change.replace(4, 4, "and ").expect(&rt, "there is memory");
+    let mut change = unchanged(&rt, rt.alloc(), 7);
+    replace(&rt, &mut change, 0, 3, "1");
+    replace(&rt, &mut change, 4, 4, "and ");
     let mut edits = change.edits();
-    let first = edits.next().expect(&rt, "an edit is left");
-    assert_eq!(rt;
-        [first.start, first.end, first.new_start, first.new_end],
-        [0, 3, 0, 1]
-    );
-    assert_eq!(rt; first.text, "1");
-    let second = edits.next().expect(&rt, "an edit is left");
-    assert_eq!(rt;
-        [second.start, second.end, second.new_start, second.new_end],
-        [4, 4, 2, 6]
-    );
-    assert_eq!(rt; second.text, "and ");
+    assert_eq!(rt; edits.len(), 2);
+    expect_next(&rt, &mut edits, (0, 3), (0, 1), "1");
+    assert_eq!(rt; edits.len(), 1);
+    expect_next(&rt, &mut edits, (4, 4), (2, 6), "and ");
+    assert_eq!(rt; edits.len(), 0);
     assert!(rt; edits.next().is_none());
     Ok(())
 }
 
 #[test]
 fn errors_name_both_numbers(rt: HostRuntime) -> Result<(), Fail> {
-    let mut change = ChangeSet::new(rt.alloc(), 7).expect(&rt, "there is memory");
-    change.replace(2, 5, "x").expect(&rt, "there is memory");
+    let mut change = unchanged(&rt, rt.alloc(), 7);
+    replace(&rt, &mut change, 2, 5, "x");
     assert_eq!(rt;
         change.replace(6, 5, ""),
         Err(ChangeError::RangeInvalid(6, 5))
@@ -65,7 +101,7 @@ fn errors_name_both_numbers(rt: HostRuntime) -> Result<(), Fail> {
         change.replace(4, 6, ""),
         Err(ChangeError::OutOfOrder(4, 5))
     );
-    let mut rope = Rope::from_str(rt.alloc(), "one").expect(&rt, "there is memory");
+    let mut rope = rope_of(&rt, rt.alloc(), "one");
     assert_eq!(rt;
         change.apply(&mut rope),
         Err(ChangeError::LengthDiffers(7, 3))
@@ -103,55 +139,50 @@ fn a_change_is_built_from_edits_and_moves_sorted_indices(rt: HostRuntime) -> Res
 
 #[test]
 fn composed_changes_do_what_both_do(rt: HostRuntime) -> Result<(), Fail> {
-    let mut rope = Rope::from_str(rt.alloc(), "one two").expect(&rt, "there is memory");
-    let mut first = ChangeSet::new(rt.alloc(), 7).expect(&rt, "there is memory");
-    first.replace(0, 3, "1, ").expect(&rt, "there is memory");
-    first.replace(4, 7, "2").expect(&rt, "there is memory");
-    let mut later = ChangeSet::new(rt.alloc(), 5).expect(&rt, "there is memory");
-    later.replace(1, 2, "").expect(&rt, "there is memory");
-    later.replace(5, 5, "!").expect(&rt, "there is memory");
+    let mut rope = rope_of(&rt, rt.alloc(), "one two");
+    let mut first = unchanged(&rt, rt.alloc(), 7);
+    replace(&rt, &mut first, 0, 3, "1, ");
+    replace(&rt, &mut first, 4, 7, "2");
+    let mut later = unchanged(&rt, rt.alloc(), 5);
+    replace(&rt, &mut later, 1, 2, "");
+    replace(&rt, &mut later, 5, 5, "!");
     let both = first.compose(&later).expect(&rt, "there is memory");
     let mut edits = both.edits();
-    let start = edits.next().expect(&rt, "an edit is left");
-    assert_eq!(rt; [start.start, start.end], [0, 3]);
-    assert_eq!(rt; start.text, "1 ");
-    let end = edits.next().expect(&rt, "an edit is left");
-    assert_eq!(rt; [end.start, end.end], [4, 7]);
-    assert_eq!(rt; end.text, "2!");
+    expect_next(&rt, &mut edits, (0, 3), (0, 2), "1 ");
+    expect_next(&rt, &mut edits, (4, 7), (3, 5), "2!");
     assert!(rt; edits.next().is_none());
-    both.apply(&mut rope).expect(&rt, "there is memory");
+    apply(&rt, &both, &mut rope);
     assert!(rt; rope.eq_str("1  2!"));
     let wrong = later.compose(&first);
     assert_eq!(rt; wrong.err(), Some(ChangeError::LengthDiffers(7, 5)));
     Ok(())
 }
 
+// Applies a change, carried over another one, to the text after that one.
+fn apply_over(rt: &impl Abort, change: &ChangeSet, over: &ChangeSet, side: Side, rope: &mut Rope) {
+    let rebased = change.rebase(over, side).expect(rt, "there is memory");
+    apply(rt, &rebased, rope);
+}
+
 #[test]
 fn rebased_changes_lead_to_one_text(rt: HostRuntime) -> Result<(), Fail> {
-    let mut one = ChangeSet::new(rt.alloc(), 4).expect(&rt, "there is memory");
-    one.replace(1, 1, "x").expect(&rt, "there is memory");
-    one.replace(2, 4, "").expect(&rt, "there is memory");
-    let mut other = ChangeSet::new(rt.alloc(), 4).expect(&rt, "there is memory");
-    other.replace(1, 1, "y").expect(&rt, "there is memory");
-    other.replace(3, 3, "z").expect(&rt, "there is memory");
-    let mut left = Rope::from_str(rt.alloc(), "abcd").expect(&rt, "there is memory");
-    one.apply(&mut left).expect(&rt, "there is memory");
+    let mut one = unchanged(&rt, rt.alloc(), 4);
+    replace(&rt, &mut one, 1, 1, "x");
+    replace(&rt, &mut one, 2, 4, "");
+    let mut other = unchanged(&rt, rt.alloc(), 4);
+    replace(&rt, &mut other, 1, 1, "y");
+    replace(&rt, &mut other, 3, 3, "z");
+    let mut left = rope_of(&rt, rt.alloc(), "abcd");
+    apply(&rt, &one, &mut left);
     assert!(rt; left.eq_str("axb"));
-    other
-        .rebase(&one, Side::After)
-        .expect(&rt, "there is memory")
-        .apply(&mut left)
-        .expect(&rt, "there is memory");
+    apply_over(&rt, &other, &one, Side::After, &mut left);
     assert!(rt; left.eq_str("axybz"));
-    let mut right = Rope::from_str(rt.alloc(), "abcd").expect(&rt, "there is memory");
-    other.apply(&mut right).expect(&rt, "there is memory");
+    let mut right = rope_of(&rt, rt.alloc(), "abcd");
+    apply(&rt, &other, &mut right);
     assert!(rt; right.eq_str("aybczd"));
-    one.rebase(&other, Side::Before)
-        .expect(&rt, "there is memory")
-        .apply(&mut right)
-        .expect(&rt, "there is memory");
+    apply_over(&rt, &one, &other, Side::Before, &mut right);
     assert!(rt; right.eq_str("axybz"));
-    let short = ChangeSet::new(rt.alloc(), 3).expect(&rt, "there is memory");
+    let short = unchanged(&rt, rt.alloc(), 3);
     let wrong = one.rebase(&short, Side::Before);
     assert_eq!(rt; wrong.err(), Some(ChangeError::LengthDiffers(4, 3)));
     Ok(())

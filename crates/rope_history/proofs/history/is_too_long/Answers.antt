@@ -1,5 +1,4 @@
-use Rattle.std.proofs.Common.{◌≡◌, ◌+◌, ◌≤◌, ◌^◌, ap, arith, rules}
-use Rattle.rope_text.specs.Text.{byte_len}
+use Rattle.std.proofs.Common.{ap, arith, rules}
 use Rattle.rope_changes.specs.Applied.{inserted_bytes}
 use Rattle.rope_history.proofs.history.is_too_long.Goals as goal
 

@@ -1,7 +1,7 @@
 use Rattle.std.proofs.Common.{◌≡◌, ℕ, ◌-◌, ◌++◌, ◌∷◌, [], List, Option, Some, None, length, ap, sym, ◌∙◌, subst, arith, length-append, inl, inr}
 use Rattle.std.proofs.lemmas.Bool.{cases_eq}
 use Rattle.rope_changes.specs.Ops.{run}
-use Rattle.rope_changes.specs.Change.{before, after, ops}
+use Rattle.rope_changes.specs.Change.{before, ops}
 use Rattle.rope_history.specs.declared.history.History.TheInside.{Inside}
 use Rattle.rope_history.specs.declared.history.Version.{Version}
 use Rattle.rope_history.specs.Texts.{StandsAt, text_at}
