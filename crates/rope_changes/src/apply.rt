@@ -20,7 +20,7 @@ impl ChangeSet {
     /// takes no memory and leaves the rope as it was.
     ///
     /// A change that is one insert or one removal costs what that costs. Any other is made in a
-    /// clone that takes the rope's place last, so each replacement also copies the nodes on its
+    /// clone that replaces the rope at the end, so each replacement also copies the nodes on its
     /// path.
     ///
     /// # Errors
@@ -28,6 +28,15 @@ impl ChangeSet {
     /// First `LengthDiffers`, with both lengths, if the rope's length isn't `len_before()`; then
     /// `TooLong`, if its text and the texts that the change inserts have more than `isize::MAX`
     /// bytes together; then `OutOfMemory`. A call that fails leaves the rope as it was.
+    ///
+    /// ```
+    /// let mut change = ChangeSet::new(alloc, 7)?;
+    /// change.replace(0, 3, "1")?;
+    /// change.replace(4, 7, "2")?;
+    /// let mut rope = Rope::from_str(alloc, "one two")?;
+    /// change.apply(&mut rope)?;
+    /// assert!(rt; rope.eq_str("1 2"));
+    /// ```
     pub fn apply(&self, rope: &mut Rope) -> Result<(), ChangeError>
         ensures differs { length rope.old.text ≢ before self.now
             → result ≡ Err (LengthDiffers (before self.now) (length rope.old.text)) }
@@ -105,6 +114,16 @@ impl ChangeSet {
     ///
     /// First `LengthDiffers`, with both lengths, if the rope's length isn't `len_before()`; then
     /// `OutOfMemory`.
+    ///
+    /// ```
+    /// let mut rope = Rope::from_str(alloc, "one two")?;
+    /// let mut change = ChangeSet::new(alloc, 7)?;
+    /// change.replace(0, 3, "1")?;
+    /// let undo = change.invert(&rope)?;
+    /// change.apply(&mut rope)?;
+    /// undo.apply(&mut rope)?;
+    /// assert!(rt; rope.eq_str("one two"));
+    /// ```
     pub fn invert(&self, rope: &Rope) -> Result<ChangeSet, ChangeError>
         ensures differs { length rope.now.text ≢ before self.now
             → result ≡ Err (LengthDiffers (before self.now) (length rope.now.text)) }

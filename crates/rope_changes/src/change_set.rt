@@ -78,7 +78,35 @@ impl<'a> Model for Edits<'a> {
 impl<'a> Edits<'a> {
     ghost use Rattle.rope_changes.specs.Listed.{IsNext};
 
+    /// Returns the number of replacements that are left. Takes constant time and no memory.
+    ///
+    /// ```
+    /// let mut change = ChangeSet::new(alloc, 7)?;
+    /// change.replace(0, 3, "1")?;
+    /// let mut edits = change.edits();
+    /// assert_eq!(rt; edits.len(), 1);
+    /// edits.next();
+    /// assert_eq!(rt; edits.len(), 0);
+    /// ```
+    pub fn len(&self) -> usize
+        ensures { result ≡ length self.now.edits }
+    {
+        self.left.len()
+    }
+
     /// Returns the next replacement, or `None` after the last one.
+    ///
+    /// ```
+    /// let mut change = ChangeSet::new(alloc, 7)?;
+    /// change.replace(4, 7, "to")?;
+    /// let mut edits = change.edits();
+    /// if let Some(edit) = edits.next() {
+    ///     assert_eq!(rt; [edit.start, edit.end], [4, 7]);
+    ///     assert_eq!(rt; [edit.new_start, edit.new_end], [4, 6]);
+    ///     assert_eq!(rt; edit.text, "to");
+    /// }
+    /// assert!(rt; edits.next().is_none());
+    /// ```
     pub fn next(&mut self) -> Option<EditRange<'a>>
         ensures { MatchOption result ((self.old.edits ≡ []) × (self.new ≡ self.old))
             (λ e. IsNext self.old e self.new) }
@@ -106,6 +134,11 @@ impl ChangeSet {
     /// # Errors
     ///
     /// `TooLong`, exactly if `len` is above `isize::MAX`.
+    ///
+    /// ```
+    /// let change = ChangeSet::new(alloc, 7)?;
+    /// assert_eq!(rt; [change.len_before(), change.len_after()], [7, 7]);
+    /// ```
     pub fn new(alloc: Global, len: usize) -> Result<ChangeSet, ChangeError>
         ensures ok { len < 2 ^ 63 → IsOk result }
         ensures keeps { IfOk result (λ change. change ≡ record { edits = []; rest = len }) }
@@ -130,6 +163,15 @@ impl ChangeSet {
     ///
     /// `TooLong`, if `len` is above `isize::MAX`; else the error that `replace` returns for the
     /// first edit that it refuses. That is `OutOfMemory` only for an edit that has no other error.
+    ///
+    /// ```
+    /// let first = Edit { start: 0, end: 3, text: "1" };
+    /// let second = Edit { start: 4, end: 4, text: "and " };
+    /// let change = ChangeSet::of_edits(alloc, 7, &[first, second])?;
+    /// let mut rope = Rope::from_str(alloc, "one two")?;
+    /// change.apply(&mut rope)?;
+    /// assert!(rt; rope.eq_str("1 and two"));
+    /// ```
     pub fn of_edits(alloc: Global, len: usize, edits: &[Edit<'_>]) -> Result<ChangeSet, ChangeError>
         ensures too_long { 2 ^ 63 ≤ len → result ≡ Err TooLong }
         ensures error { len < 2 ^ 63 → IfErr result (RefusesOne (unchanged len) edits.now) }
@@ -145,6 +187,12 @@ impl ChangeSet {
     }
 
     /// Returns the number of characters of the texts that it is a change of.
+    ///
+    /// ```
+    /// let mut change = ChangeSet::new(alloc, 7)?;
+    /// change.replace(0, 3, "1")?;
+    /// assert_eq!(rt; change.len_before(), 7);
+    /// ```
     pub fn len_before(&self) -> usize
         ensures { result ≡ before self.now }
     {
@@ -152,6 +200,12 @@ impl ChangeSet {
     }
 
     /// Returns the number of characters of a text after the change.
+    ///
+    /// ```
+    /// let mut change = ChangeSet::new(alloc, 7)?;
+    /// change.replace(0, 3, "1")?;
+    /// assert_eq!(rt; change.len_after(), 5);
+    /// ```
     pub fn len_after(&self) -> usize
         ensures { result ≡ after self.now }
     {
@@ -159,6 +213,13 @@ impl ChangeSet {
     }
 
     /// Returns whether the change inserts and deletes nothing.
+    ///
+    /// ```
+    /// let mut change = ChangeSet::new(alloc, 7)?;
+    /// assert!(rt; change.is_empty());
+    /// change.replace(0, 0, "no ")?;
+    /// assert!(rt; !change.is_empty());
+    /// ```
     pub fn is_empty(&self) -> bool
         ensures empty { IsTrue result ↔ (self.now.edits ≡ []) }
         ensures normal { IsNormal self.now }
@@ -167,6 +228,18 @@ impl ChangeSet {
     }
 
     /// Returns a cursor over the replacements, from the first one on.
+    ///
+    /// ```
+    /// let mut change = ChangeSet::new(alloc, 7)?;
+    /// change.replace(0, 3, "1")?;
+    /// change.replace(4, 4, "and ")?;
+    /// let mut edits = change.edits();
+    /// let mut inserted = 0;
+    /// while let Some(edit) = edits.next() {
+    ///     inserted += edit.text.len();
+    /// }
+    /// assert_eq!(rt; inserted, 5);
+    /// ```
     pub fn edits(&self) -> Edits<'_>
         ensures { result ≡ record { edits = self.now.edits; end = 0; new_end = 0 } }
     {
@@ -187,6 +260,14 @@ impl ChangeSet {
     /// First `RangeInvalid`, then `RangeOutOfBounds`, then `OutOfOrder`, each with both numbers;
     /// then `TooLong`, if the text after the change would have more than `isize::MAX` characters;
     /// then `OutOfMemory`. A call that fails leaves the change as it was.
+    ///
+    /// ```
+    /// let mut change = ChangeSet::new(alloc, 7)?;
+    /// change.replace(0, 3, "1")?;
+    /// let later = change.replace(2, 4, "2");
+    /// assert_eq!(rt; later, Err(ChangeError::OutOfOrder(2, 3)));
+    /// assert_eq!(rt; change.len_after(), 5);
+    /// ```
     pub fn replace(&mut self, start: usize, end: usize, text: &str) -> Result<(), ChangeError>
         ensures invalid { end < start → result ≡ Err (RangeInvalid start end) }
         ensures outside { start ≤ end → before self.old < end

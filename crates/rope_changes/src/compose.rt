@@ -111,6 +111,16 @@ impl ChangeSet {
     ///
     /// First `LengthDiffers`, with `later.len_before()` and `len_after()`, if they differ; then
     /// `OutOfMemory`.
+    ///
+    /// ```
+    /// let mut first = ChangeSet::new(alloc, 7)?;
+    /// first.replace(0, 3, "1")?;
+    /// let mut later = ChangeSet::new(alloc, 5)?;
+    /// later.replace(2, 5, "2")?;
+    /// let mut rope = Rope::from_str(alloc, "one two")?;
+    /// first.compose(&later)?.apply(&mut rope)?;
+    /// assert!(rt; rope.eq_str("1 2"));
+    /// ```
     pub fn compose(&self, later: &ChangeSet) -> Result<ChangeSet, ChangeError>
         ensures differs { after self.now ≢ before later.now
             → result ≡ Err (LengthDiffers (before later.now) (after self.now)) }

@@ -7,6 +7,6 @@ pub struct Edit<'a> {
     pub start: usize,
     /// The index after the last character that is replaced.
     pub end: usize,
-    /// The text in their place.
+    /// The text that replaces them.
     pub text: &'a str,
 }

@@ -3,7 +3,7 @@ ghost use Rattle.rope_changes.specs.Laws.{LengthsAgree, ComposeApplies, InverseA
 
 /// Does nothing; its contract is the laws of changes. A composition does what its two changes do
 /// in a row, and an inverse leads back to the text before. Of two changes of one text each can be
-/// rebased over the other, and both ways lead to the same text.
+/// rebased over the other, and both orders lead to the same text.
 pub fn changes_agree()
     ensures lengths { LengthsAgree }
     ensures compose { ComposeApplies }

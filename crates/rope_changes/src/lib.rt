@@ -2,26 +2,19 @@
 //! indices moved through them.
 //!
 //! A change set is a list of replacements of ranges of one text, in order and apart. An editor
-//! makes one for all its carets, applies it to a rope, and moves its bookmarks through it. For the
-//! text `"one two"`, `ChangeSet::of_edits(alloc, 7, edits)` with the edits `0..3` to `"1"` and
-//! `4..4` to `"and "` makes a change after which the text is `"1 and two"`; `map(4, Side::After)`
-//! is 6. `ChangeSet::new` and `replace` make the same change one edit at a time.
-//!
-//! `compose` makes one change of two changes in a row, as an undo history does for edits that
-//! belong together. `rebase` carries a change over another change of the same text, as two editors
-//! of one text need it: both orders then lead to the same text. `invert` returns the change that
-//! undoes a change.
+//! makes one for all its carets, applies it to a rope, and moves its bookmarks through it. An undo
+//! history composes changes that belong together, and two editors of one text rebase each other's.
 //!
 //! Contracts see a change as its replacements, and those as a list of operations on single
 //! characters. Replacements that touch are one, and each inserts before it deletes, so changes with
 //! the same operations are equal values. The results of `compose` and `rebase` are the normal forms
 //! of the composed and of the rebased operations.
 //!
-//! A change takes memory for its replacements and for the texts that it inserts, not for the text
-//! that it is a change of. `replace` takes time for its own text, `map` for the replacements up to
-//! its index, `map_sorted` for the replacements and the indices where the indices ascend, `apply`
-//! for two edits of the rope per replacement, `invert` for the texts that the change deletes, and
-//! `compose` and `rebase` for the replacements and the inserted texts of both changes.
+//! A change takes memory for its replacements and for the texts that it inserts. `replace` takes
+//! time for its own text, `map` for the replacements up to its index, `map_sorted` for the
+//! replacements and the indices where these ascend, `apply` for two edits of the rope per
+//! replacement, `invert` for the texts that the change deletes, and `compose` and `rebase` for the
+//! replacements and the inserted texts of both changes.
 //!
 //! Modules, lowest first:
 //! - `side`: on which side of inserted text an index stays

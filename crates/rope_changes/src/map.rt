@@ -78,6 +78,14 @@ impl ChangeSet {
     /// before. Where text is inserted at the index, the result is on the given side of that text.
     /// An index inside a replaced range, past its start, goes to the end of the new text. The index
     /// is at most `len_before()`.
+    ///
+    /// ```
+    /// let mut change = ChangeSet::new(alloc, 7)?;
+    /// change.replace(0, 3, "1")?;
+    /// change.replace(4, 4, "and ")?;
+    /// assert_eq!(rt; change.map(4, Side::Before), 2);
+    /// assert_eq!(rt; change.map(4, Side::After), 6);
+    /// ```
     pub fn map(&self, char_idx: usize, side: Side) -> usize
         requires { char_idx ≤ before self.now }
         ensures { result ≡ moved side (ops self.now) char_idx }
@@ -87,6 +95,14 @@ impl ChangeSet {
 
     /// Moves each index as `map` does, in one pass over the replacements where the indices ascend.
     /// An index below the one before it begins the pass again. Each is at most `len_before()`.
+    ///
+    /// ```
+    /// let mut change = ChangeSet::new(alloc, 7)?;
+    /// change.replace(0, 3, "1")?;
+    /// let mut bookmarks = [0, 4, 7];
+    /// change.map_sorted(&mut bookmarks, Side::Before);
+    /// assert_eq!(rt; bookmarks, [0, 2, 5]);
+    /// ```
     pub fn map_sorted(&self, char_indices: &mut [usize], side: Side)
         requires { All (λ i. i ≤ before self.now) char_indices.old }
         ensures { char_indices.new ≡ map (moved side (ops self.now)) char_indices.old }

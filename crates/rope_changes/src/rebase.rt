@@ -99,6 +99,17 @@ impl ChangeSet {
     /// First `LengthDiffers`, with `len_before()` and `over.len_before()`, if they differ; then
     /// `TooLong`, if the text after the result would have more than `isize::MAX` characters; then
     /// `OutOfMemory`.
+    ///
+    /// ```
+    /// let mut ours = ChangeSet::new(alloc, 7)?;
+    /// ours.replace(0, 3, "1")?;
+    /// let mut theirs = ChangeSet::new(alloc, 7)?;
+    /// theirs.replace(4, 7, "2")?;
+    /// let mut rope = Rope::from_str(alloc, "one two")?;
+    /// ours.apply(&mut rope)?;
+    /// theirs.rebase(&ours, Side::After)?.apply(&mut rope)?;
+    /// assert!(rt; rope.eq_str("1 2"));
+    /// ```
     pub fn rebase(&self, over: &ChangeSet, side: Side) -> Result<ChangeSet, ChangeError>
         ensures differs { before self.now ≢ before over.now
             → result ≡ Err (LengthDiffers (before self.now) (before over.now)) }

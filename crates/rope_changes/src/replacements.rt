@@ -72,6 +72,13 @@ impl<'a> Model for Reader<'a> {
 }
 
 impl<'a> Reader<'a> {
+    /// Returns the number of replacements that are left.
+    pub(crate) fn len(&self) -> usize
+        ensures { result ≡ length self.now }
+    {
+        self.lengths.len()
+    }
+
     /// Returns the next replacement, or `None` after the last one.
     pub(crate) fn next(&mut self) -> Option<Replacement<'a>>
         ensures { MatchOption result ((self.old ≡ []) × (self.new ≡ []))

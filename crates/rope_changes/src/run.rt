@@ -3,7 +3,7 @@ ghost use Rattle.std.specs.Prelude.{◌≡◌};
 ghost use Rattle.rope_changes.specs.Ops.{len_after};
 ghost use Rattle.rope_changes.specs.Runs.{run_ops, IsRun};
 
-/// What a change does next, for as many characters as it does the same.
+/// A run of operations of one kind: what a change does to the next characters.
 #[derive(Clone, Copy)]
 pub(crate) enum Run<'a> {
     /// Keeps that many characters.

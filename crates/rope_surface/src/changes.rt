@@ -1,6 +1,6 @@
 //! Changes as values: built, measured, listed, applied, inverted, composed, rebased, and moved
 //! through.
-ghost use Rattle.std.specs.Prelude.{◌≡◌, [], ◌<◌, ◌≤◌, ◌↔◌, IsTrue, IfOk, MatchOption, OnOk, Some, map as list_map};
+ghost use Rattle.std.specs.Prelude.{◌≡◌, [], ◌<◌, ◌≤◌, ◌↔◌, IsTrue, IfOk, MatchOption, OnOk, Some, length, map as list_map};
 ghost use Rattle.std.specs.List.{All};
 ghost use Rattle.std.specs.Str.{chars};
 ghost use Rattle.rope_changes.specs.Built.{built, unchanged};
@@ -95,6 +95,13 @@ pub fn next_edit<'a>(edits: &mut Edits<'a>) -> Option<EditRange<'a>>
         (λ edit. IsNext edits.old edit edits.new) }
 {
     edits.next()
+}
+
+/// Returns the number of replacements that a cursor has left.
+pub fn edits_left(edits: &Edits<'_>) -> usize
+    ensures { result ≡ length edits.now.edits }
+{
+    edits.len()
 }
 
 /// Returns the ranges of a replacement in both texts, and its text.
