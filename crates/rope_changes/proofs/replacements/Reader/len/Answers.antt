@@ -1,9 +1,7 @@
-use Rattle.std.proofs.Common.{◌≡◌, ◌∙◌, sym, ap, length, rules}
+use Rattle.std.proofs.Common.{sym, ap, length, ◌∙◌}
 use Rattle.rope_changes.proofs.Parts.{count_edits}
 use Rattle.rope_changes.proofs.replacements.Reader.len.Goals as goal
 
 pub returns : goal.returns
 returns c =
-    (let n : c.len.result ≡ length c.self.inside.lengths.now = search rules in n)
-    ∙ sym (count_edits c.self.inside.lengths.now c.self.inside.text.now)
-    ∙ ap length c.self.view_is
+    sym (count_edits c.self.inside.lengths.now c.self.inside.text.now) ∙ ap length c.self.view_is
