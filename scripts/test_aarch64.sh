@@ -42,6 +42,7 @@ test "$(wc -l < "$work/checksums.stdout")" -eq 38
 test -z "$(grep -vxFf "$top/crates/rope_bench/stdout" "$work/checksums.stdout")"
 runs differential "$refusals" 5000 1
 runs changes "$refusals" 500 1
+runs files "$refusals" 500 1
 runs leaks "$refusals -Wl,--wrap=free"
 "$top/scripts/make_release.sh" --aarch64 "$(sed -n 's/^#define ROPEY_VERSION "\(.*\)"$/\1/p' "$here/ropey.h")" "$work" > "$work/log" 2>&1 ||
     { cat "$work/log"; exit 1; }

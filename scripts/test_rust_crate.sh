@@ -39,8 +39,8 @@ unset ROPEY_LIB_DIR PKG_CONFIG_PATH CARGO_TARGET_DIR
 
 # The crate is to stay thin: code alone, without comments and blank lines.
 lines=$(find "$crate/src" "$crate/build.rs" -name '*.rs' -print0 | xargs -0 cat | grep -cvE '^[[:space:]]*(//|$)')
-if [ "$lines" -gt 2600 ]; then
-    echo "Rust crate: $lines lines of code, more than 2600"
+if [ "$lines" -gt 2650 ]; then
+    echo "Rust crate: $lines lines of code, more than 2650"
     exit 1
 fi
 

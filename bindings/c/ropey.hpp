@@ -38,6 +38,24 @@ enum class side : uint32_t { before = ROPEY_BEFORE, after = ROPEY_AFTER };
 /* What a column counts. */
 enum class encoding : uint32_t { utf8 = ROPEY_UTF8, utf16 = ROPEY_UTF16, utf32 = ROPEY_UTF32 };
 
+/* How the bytes of a file stand for its text. */
+enum class file_encoding : uint32_t {
+    utf8 = ROPEY_FILE_UTF8,
+    utf8_bom = ROPEY_FILE_UTF8_BOM,
+    utf16_le = ROPEY_FILE_UTF16_LE,
+    utf16_le_bom = ROPEY_FILE_UTF16_LE_BOM,
+    utf16_be = ROPEY_FILE_UTF16_BE,
+    utf16_be_bom = ROPEY_FILE_UTF16_BE_BOM,
+    latin1 = ROPEY_FILE_LATIN1,
+    by_mark = ROPEY_FILE_BY_MARK
+};
+
+/* The rope of a file, and the encoding in which it was read. */
+template <typename Rope> struct file {
+    Rope rope;
+    file_encoding encoding;
+};
+
 /* The characters from start up to end of a text are replaced by another text. */
 struct edit {
     size_t start;
@@ -367,6 +385,35 @@ template <typename Policy> class basic_rope : public owner<ropey_rope, ropey_fre
             ropey_builder_free(&builder);
             return status;
         });
+    }
+
+    /* Reads all bytes of a file. Where they are no text, the offset of the first that is not is written to *offset. */
+    static answer<file<basic_rope>> from_bytes_as(std::string_view bytes, file_encoding given = file_encoding::by_mark,
+                                                  ropey_break_set breaks = ROPEY_UNICODE, size_t *offset = nullptr) {
+        file<basic_rope> read = {basic_rope(none()), given};
+        uint32_t found = 0;
+        size_t at = 0;
+        const ropey_status status = ropey_from_bytes_as(bytes_of(bytes), bytes.size(), static_cast<uint32_t>(given), breaks,
+                                                        &read.rope.handle, &found, offset == nullptr ? &at : offset);
+        read.encoding = static_cast<file_encoding>(found);
+        return Policy::give(status, std::move(read));
+    }
+
+    /* The bytes of a file of the text. Where the encoding has none for a character, its index is written to *char_idx. */
+    answer<std::string> bytes_as(file_encoding in, size_t *char_idx = nullptr) const {
+        std::string bytes;
+        size_t len = 0, index = 0;
+        size_t *first = char_idx == nullptr ? &index : char_idx;
+        const auto write = [&] {
+            return ropey_write_as(&handle, static_cast<uint32_t>(in), reinterpret_cast<uint8_t *>(bytes.data()), bytes.size(),
+                                  &len, first);
+        };
+        ropey_status status = write();
+        if (status == ROPEY_BUFFER_TOO_SMALL) {
+            bytes.resize(len);
+            status = write();
+        }
+        return Policy::give(status, std::move(bytes));
     }
 
     answer<basic_rope> clone() const {

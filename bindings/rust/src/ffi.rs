@@ -24,6 +24,7 @@ use crate::slice::known;
 use crate::{LineBreaks, MAX_BYTES};
 
 pub(crate) mod changes;
+pub(crate) mod files;
 
 /// `ropey_rope`.
 #[repr(C)]
@@ -370,8 +371,7 @@ macro_rules! ranges {
                 #[inline]
                 fn $name(&self, start: usize, end: usize) -> Option<($shown, Counts)> {
                     let mut before = Counts::NONE;
-                    let shown = written(|shown| unsafe { $call(&self.0, start, end, shown, &mut before) })?;
-                    Some((shown, before))
+                    written(|it| unsafe { $call(&self.0, start, end, it, &mut before) }).map(|it| (it, before))
                 }
             )*
         }
@@ -392,8 +392,7 @@ impl Root {
         (unsafe { slice.lent() }, before)
     }
 
-    /// The bytes from `start` up to `end`, which are in range, and how much lies before them; none where one of the two lies inside
-    /// a character.
+    /// The bytes from `start` up to `end`, and how much lies before them; none where one of the two lies inside a character.
     #[inline]
     pub(crate) fn byte_slice(&self, start: usize, end: usize) -> Option<(Lent<'_>, Counts)> {
         let (slice, before) = self.bytes_and_before(start, end)?;
