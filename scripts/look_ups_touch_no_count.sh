@@ -19,7 +19,7 @@ through=(
     crates/ropey/src/lookups.rt crates/ropey/src/slices.rt crates/ropey/src/iter.rt crates/ropey/src/compare.rt
     crates/ropey_c/src/chunks.rt crates/ropey_c/src/compare.rt crates/ropey_c/src/conversions.rt crates/ropey_c/src/copies.rt
     crates/ropey_c/src/counts.rt crates/ropey_c/src/lengths.rt crates/ropey_c/src/lent.rt crates/ropey_c/src/lookups.rt
-    crates/ropey_c/src/pieces.rt crates/ropey_c/src/positions.rt
+    crates/ropey_c/src/pieces.rt crates/ropey_c/src/positions.rt crates/ropey_c/src/file_writing.rt
     crates/ropey_c/src/changes.rt crates/ropey_c/src/change_edits.rt crates/ropey_c/src/change_sets.rt
     crates/ropey_c/src/lent_changes.rt crates/rope_changes/src/splice.rt
 )

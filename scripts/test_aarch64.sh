@@ -5,12 +5,19 @@
 #
 # It needs the archive that scripts/build_c_library.sh --aarch64 makes, and builds it unless --built is given; then one line says
 # where there is none of these sources. It needs aarch64-linux-gnu-gcc and qemu-aarch64 (Debian's packages gcc-aarch64-linux-gnu,
-# libc6-dev-arm64-cross and qemu-user; g++-aarch64-linux-gnu for C++). The status is 0 where everything was as it must be.
+# libc6-dev-arm64-cross and qemu-user; g++-aarch64-linux-gnu for C++). Where one is missing, one line says so. The status is 0 where
+# everything that could be run was as it must be.
 set -euo pipefail
 
 top=$(cd "$(dirname "$0")/.." && pwd)
 here=$top/bindings/c
 library=$top/crates/ropey_c/out/aarch64/libropey.a
+for program in aarch64-linux-gnu-gcc qemu-aarch64; do
+    if ! "$program" --version > /dev/null 2>&1; then
+        echo "aarch64: not tested, since there is no $program"
+        exit 0
+    fi
+done
 if [ "$(cat "${library%.a}.sources" 2> /dev/null)" != "$("$top/scripts/find_c_library.sh" --sources)" ]; then
     if [ "${1:-}" = --built ]; then
         echo 'aarch64: not tested, since no archive is built of these sources (scripts/build_c_library.sh --aarch64)'
@@ -35,6 +42,7 @@ test "$(wc -l < "$work/checksums.stdout")" -eq 38
 test -z "$(grep -vxFf "$top/crates/rope_bench/stdout" "$work/checksums.stdout")"
 runs differential "$refusals" 5000 1
 runs changes "$refusals" 500 1
+runs files "$refusals" 500 1
 runs leaks "$refusals -Wl,--wrap=free"
 "$top/scripts/make_release.sh" --aarch64 "$(sed -n 's/^#define ROPEY_VERSION "\(.*\)"$/\1/p' "$here/ropey.h")" "$work" > "$work/log" 2>&1 ||
     { cat "$work/log"; exit 1; }

@@ -6,7 +6,7 @@
 # With --built it builds nothing: it takes the archive that scripts/find_c_library.sh finds, and says so in one line where there
 # is none of these sources.
 # It needs `rt`, `ar` and a C compiler (`cc`, or the one that CC names); the C++ test needs `c++` (or CXX). CALLS is how many
-# random calls are compared with a plain text, 20,000 if it isn't given; a tenth as many random changes are. Where a compiler
+# random calls are compared with a plain text, 20,000 if it isn't given; a tenth as many random changes and files are. Where a compiler
 # is missing the script says so in one line, and ends well. The status is 0 where everything that could be run was as it must be.
 set -euo pipefail
 
@@ -81,6 +81,8 @@ echo 'C: the checksums of rope_bench'
 "$work/differential" "$calls" 1
 "$cc" $strict -O2 "$here/changes.c" "$library" $refusals -o "$work/changes"
 "$work/changes" "$((calls / 10))" 1
+"$cc" $strict -O2 "$here/files.c" "$library" $refusals -o "$work/files"
+"$work/files" "$((calls / 10))" 1
 "$cc" $strict -O2 "$here/look_ups_write_nothing.c" "$library" $refusals -Wl,--wrap=free -o "$work/look_ups"
 "$work/look_ups"
 
@@ -103,6 +105,8 @@ if "$cc" $checker "$work/nothing.c" -o "$work/nothing" 2> /dev/null && "$work/no
     "$work/checked" "$calls" 2
     "$cc" $strict $checker "$here/changes.c" "$library" $refusals -o "$work/checked_changes"
     "$work/checked_changes" "$((calls / 10))" 2
+    "$cc" $strict $checker "$here/files.c" "$library" $refusals -o "$work/checked_files"
+    "$work/checked_files" "$((calls / 10))" 2
     "$cc" $strict $checker $given_back -o "$work/checked_leaks"
     "$work/checked_leaks" > /dev/null
     echo 'C: the same under the address checker and its leak finder'

@@ -6,8 +6,8 @@
 #
 # FILE is what scripts/make_release.sh makes. With --built one is made of the archive that scripts/find_c_library.sh finds,
 # and tested; one line says so where there is none of these sources. There is no `rt` on the PATH, and nothing is
-# fetched. A C compiler is needed (`cc`, or the one that CC names). Where there is no C++ compiler, pkg-config, CMake or
-# cargo, what needs it isn't tried; the last line says what passed. The status is 0 where each program printed what it must.
+# fetched. A C compiler is needed (`cc`, or the one that CC names). Where there is no C++ compiler, pkg-config, CMake, cargo or
+# rustc, what needs it isn't tried; the last line says what passed. The status is 0 where each program printed what it must.
 # Programs of a release for aarch64 are compiled by aarch64-linux-gnu-gcc and run by qemu-aarch64.
 set -euo pipefail
 
@@ -179,7 +179,7 @@ CMAKE
     passed+=', CMake'
 fi
 
-if [ -d "$release/rust" ] && cargo --version > /dev/null 2>&1; then
+if [ -d "$release/rust" ] && cargo --version > /dev/null 2>&1 && rustc --version > /dev/null 2>&1; then
     mkdir "$work/rust"
     cd "$work/rust"
     { cargo new --quiet --vcs none notes && cd notes && cargo add --quiet --offline ropey --path "$release/rust" &&

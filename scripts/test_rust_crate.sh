@@ -8,16 +8,18 @@
 # line where there is none of these sources. Nothing is fetched, and nothing is left in the checkout. The tests run for each set
 # of line breaks that the features choose, and without the lock. Then the crate stands in ropey's place in a workspace, as a
 # member of one, and as a package; and a build for another platform, or over an archive of another version, has to fail. Where
-# there is no cargo, one line says so. The status is 0 where all is as it must be.
+# there is no cargo, rustc or cc (which rustc links with), one line says so. The status is 0 where all is as it must be.
 set -euo pipefail
 
 top=$(cd "$(dirname "$0")/.." && pwd)
 crate=$top/bindings/rust
 
-if ! cargo --version > /dev/null 2>&1; then
-    echo 'Rust crate: not tried, as there is no cargo that runs'
-    exit 0
-fi
+for program in cargo rustc cc; do
+    if ! "$program" --version > /dev/null 2>&1; then
+        echo "Rust crate: not tested, since there is no $program"
+        exit 0
+    fi
+done
 
 if [ "${1:-}" = --built ]; then
     if ! library=$("$top/scripts/find_c_library.sh"); then
@@ -37,8 +39,8 @@ unset ROPEY_LIB_DIR PKG_CONFIG_PATH CARGO_TARGET_DIR
 
 # The crate is to stay thin: code alone, without comments and blank lines.
 lines=$(find "$crate/src" "$crate/build.rs" -name '*.rs' -print0 | xargs -0 cat | grep -cvE '^[[:space:]]*(//|$)')
-if [ "$lines" -gt 2600 ]; then
-    echo "Rust crate: $lines lines of code, more than 2600"
+if [ "$lines" -gt 2650 ]; then
+    echo "Rust crate: $lines lines of code, more than 2650"
     exit 1
 fi
 

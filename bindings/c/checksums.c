@@ -159,6 +159,17 @@ static void convert(const ropey_rope *rope, const char *name, conversion *call, 
     report(name, LOOK_UPS, sum);
 }
 
+/* Adds up what a look-up of a rope writes for indices below a length. */
+#define ADD_UP(type, call, len)                           \
+    do {                                                  \
+        restart();                                        \
+        for (int k = 0; k < LOOK_UPS; k++) {              \
+            type found = 0;                               \
+            expect(call(rope, up_to((len) - 1), &found)); \
+            sum += found;                                 \
+        }                                                 \
+    } while (0)
+
 static void look_ups(const ropey_rope *rope) {
     size_t bytes = ropey_len_bytes(rope), chars = ropey_len_chars(rope), lines = ropey_len_lines(rope);
     uint64_t sum = 0;
@@ -170,20 +181,10 @@ static void look_ups(const ropey_rope *rope) {
     convert(rope, "line_to_char", ropey_line_to_char, lines);
     convert(rope, "line_to_byte", ropey_line_to_byte, lines);
     convert(rope, "utf16_cu_to_char", ropey_utf16_to_char, ropey_len_utf16(rope));
-    restart();
-    for (int k = 0; k < LOOK_UPS; k++) {
-        uint8_t byte = 0;
-        expect(ropey_byte(rope, up_to(bytes - 1), &byte));
-        sum += byte;
-    }
+    ADD_UP(uint8_t, ropey_byte, bytes);
     report("byte", LOOK_UPS, sum);
     sum = 0;
-    restart();
-    for (int k = 0; k < LOOK_UPS; k++) {
-        uint32_t c = 0;
-        expect(ropey_char(rope, up_to(chars - 1), &c));
-        sum += c;
-    }
+    ADD_UP(uint32_t, ropey_char, chars);
     report("char", LOOK_UPS, sum);
     sum = 0;
     restart();

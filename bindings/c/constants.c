@@ -60,7 +60,7 @@ int main(void) {
     const uint32_t version = ROPEY_VERSION_MAJOR * 1000000 + ROPEY_VERSION_MINOR * 1000 + ROPEY_VERSION_PATCH;
     char text[32];
     snprintf(text, sizeof text, "%d.%d.%d", ROPEY_VERSION_MAJOR, ROPEY_VERSION_MINOR, ROPEY_VERSION_PATCH);
-    for (uint32_t status = 0; status <= ROPEY_UNKNOWN_ENCODING + 1; status++) {
+    for (uint32_t status = 0; status <= ROPEY_UNENCODABLE + 1; status++) {
         for (uint32_t other = 0; other < status; other++) {
             if (strcmp(ropey_status_text(status), ropey_status_text(other)) == 0) {
                 return 1;

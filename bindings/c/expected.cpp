@@ -33,6 +33,11 @@ int main() {
     const ropey::result<ropey::expected::changes> undo = changes->invert(text);
     CHECK(changes->apply(text) && text == "1\nor two\n" && undo->apply(text) && text == "one\nand two\n");
     CHECK(*changes->map(4, ropey::side::before) == 2 && *ropey::expected::texts::byte_to_char("\xC3\xA9x", 2) == 1);
+
+    size_t at = 0;
+    const ropey::result<ropey::file<rope>> read = rope::from_bytes_as("\xFE\xFF\0x", ropey::file_encoding::latin1);
+    CHECK(read && read->rope == "\xC3\xBE\xC3\xBF" && *read->rope.bytes_as(read->encoding) == "\xFE\xFF");
+    CHECK(rope::from_bytes_as("a\xFF", ropey::file_encoding::utf8, ROPEY_LF, &at).error() == ROPEY_INVALID_UTF8 && at == 1);
     std::puts("C++ without exceptions: as it must be");
     return 0;
 }

@@ -60,7 +60,7 @@ static void forget(const char *call, void **held) {
     }
 }
 
-static const char *const calls[] = {"ropey_free", "ropey_from_text", "ropey_from_text_unchecked", "ropey_clone", "ropey_clone_chars",
+static const char *const calls[] = {"ropey_free", "ropey_from_text", "ropey_from_text_unchecked", "ropey_from_bytes_as", "ropey_clone", "ropey_clone_chars",
     "ropey_split_off", "ropey_builder_new", "ropey_builder_finish", "ropey_builder_free", "ropey_changes_new", "ropey_changes_of_edits", "ropey_changes_invert",
     "ropey_changes_compose", "ropey_changes_rebase", "ropey_changes_free"};
 
@@ -68,6 +68,8 @@ static const char *const calls[] = {"ropey_free", "ropey_from_text", "ropey_from
 #define ropey_from_text(text, len, set, rope) (forget("ropey_from_text", &(rope)->ptr), ropey_from_text(text, len, set, rope))
 #define ropey_from_text_unchecked(text, len, set, rope) \
     (forget("ropey_from_text_unchecked", &(rope)->ptr), ropey_from_text_unchecked(text, len, set, rope))
+#define ropey_from_bytes_as(bytes, len, encoding, set, rope, found, offset) \
+    (forget("ropey_from_bytes_as", &(rope)->ptr), ropey_from_bytes_as(bytes, len, encoding, set, rope, found, offset))
 #define ropey_clone(rope, copy) (forget("ropey_clone", &(copy)->ptr), ropey_clone(rope, copy))
 #define ropey_clone_chars(rope, start, end, copy) (forget("ropey_clone_chars", &(copy)->ptr), ropey_clone_chars(rope, start, end, copy))
 #define ropey_split_off(rope, char_idx, tail) (forget("ropey_split_off", &(tail)->ptr), ropey_split_off(rope, char_idx, tail))
@@ -110,6 +112,17 @@ static void makes_nothing(void) {
     make(&rope, 5000);
     ropey_from_text(broken, sizeof broken, ROPEY_UNICODE, &rope);
     ropey_from_text(text, 10, 77, &rope);
+}
+
+static void reads_over(void) {
+    uint32_t found = 0;
+    size_t offset = 0;
+    make(&rope, 5000);
+    ropey_from_bytes_as(text, sizeof text, ROPEY_FILE_UTF16_BE, ROPEY_UNICODE, &rope, &found, &offset);
+    ropey_from_bytes_as(text, sizeof text - 1, ROPEY_FILE_UTF16_LE, ROPEY_UNICODE, &rope, &found, &offset);
+    ropey_from_bytes_as(text, sizeof text, ROPEY_FILE_BY_MARK, ROPEY_LF, &rope, &found, &offset);
+    ropey_from_bytes_as(text, sizeof text, ROPEY_FILE_UTF8_BOM, ROPEY_LF, &rope, &found, &offset);
+    ropey_from_bytes_as(text, sizeof text, ROPEY_FILE_LATIN1, ROPEY_LF, &rope, &found, &offset);
 }
 
 static void clones_over(void) {
@@ -197,7 +210,7 @@ static void changes_over(void) {
 }
 
 static void (*const cases[])(void) = {
-    frees, makes_over, makes_nothing, clones_over, splits_over, appends, edits, builds_over, builds_nothing, changes_over};
+    frees, makes_over, makes_nothing, reads_over, clones_over, splits_over, appends, edits, builds_over, builds_nothing, changes_over};
 
 /* Runs a case with one allocation refused, frees what it left, and returns whether every block was given back. */
 static bool gives_back(void (*run)(void), long at) {

@@ -70,7 +70,7 @@ static void make(ropey_rope *ropes) {
 static void look(const ropey_rope *rope, const ropey_rope *other, const ropey_changes *changes) {
     size_t bytes = ropey_len_bytes(rope), chars = ropey_len_chars(rope), lines = ropey_len_lines(rope), units = ropey_len_utf16(rope);
     size_t i = below(chars), line = below(lines), answer = 0, count = 0, before = 0;
-    static uint8_t buffer[1 << 16];
+    static uint8_t buffer[1 << 16], file[4 << 20];
     uint32_t number = 0;
     uint8_t byte = 0;
     int32_t order = 0;
@@ -104,6 +104,9 @@ static void look(const ropey_rope *rope, const ropey_rope *other, const ropey_ch
     expect(ropey_counts_in_bytes(rope, range.start, range.end, &counts));
     expect(ropey_copy_bytes(rope, range.start, range.end, buffer, sizeof buffer, &count));
     expect(ropey_copy_chars(rope, i, chars < i + 100 ? chars : i + 100, buffer, sizeof buffer, &count));
+    if (below(1000) == 0) {
+        expect(ropey_write_as(rope, (uint32_t)below(ROPEY_FILE_LATIN1), file, sizeof file, &count, &answer));
+    }
     expect(ropey_chunk_at_byte(rope, below(bytes), &chunk));
     expect(ropey_chunk_at_char(rope, i, &chunk));
     expect(ropey_chunk_at_line_break(rope, line, &chunk));

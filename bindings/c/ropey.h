@@ -60,7 +60,9 @@
  *     split_off, append, clone_chars           d                                        12 d + 2; 16 d + 11 nodes
  *     changes_apply, apply_edits               two edits for each replacement           those of the edits
  *     changes_*                                the replacements and their texts         the result's; map: none
- *     from_text, builder_*, shrink_to_fit      the text                                 the text's nodes
+ *     from_text, from_bytes_as, builder_*,     the text                                 the text's nodes
+ *       shrink_to_fit
+ *     write_as                                 the text; constant without room for it   none
  *     free                                     the nodes that no clone shares           none
  *     text_*                                   the text                                 none
  *
@@ -138,7 +140,11 @@ typedef ROPEY_ENUM(ropey_status) {
     ROPEY_CHAR_RANGE_OUT_OF_ORDER = 21, /* the range starts before the end of the last replacement */
     ROPEY_LENGTHS_DIFFER = 22,          /* the text has another length than the changes are for */
     ROPEY_UNKNOWN_SIDE = 23,
-    ROPEY_UNKNOWN_ENCODING = 24
+    ROPEY_UNKNOWN_ENCODING = 24,
+    ROPEY_NO_MARK = 25,            /* the bytes don't begin with the byte order mark of their encoding */
+    ROPEY_UNPAIRED_SURROGATE = 26, /* a code unit of UTF-16 is half of a pair and stands alone */
+    ROPEY_HALF_CODE_UNIT = 27,     /* the bytes end inside a code unit of UTF-16 */
+    ROPEY_UNENCODABLE = 28         /* the encoding has no bytes for a character of the text */
 } ropey_status;
 
 /* A status in words, for a message: a sentence without its stop, ended by a 0. The text is the library's, and stays. */
@@ -163,6 +169,19 @@ typedef ROPEY_ENUM(ropey_encoding) {
     ROPEY_UTF16 = 1, /* code units of UTF-16, the protocol's default */
     ROPEY_UTF32 = 2  /* characters */
 } ropey_encoding;
+
+/* How the bytes of a file stand for its text. A mark, where there is one, is the byte order mark that the bytes begin with. It is
+ * no part of the text. */
+typedef ROPEY_ENUM(ropey_file_encoding) {
+    ROPEY_FILE_UTF8 = 0,
+    ROPEY_FILE_UTF8_BOM = 1,     /* the mark EF BB BF, and then UTF-8 */
+    ROPEY_FILE_UTF16_LE = 2,     /* UTF-16, the low byte of each code unit first */
+    ROPEY_FILE_UTF16_LE_BOM = 3, /* the mark FF FE, and then UTF-16, the low byte of each code unit first */
+    ROPEY_FILE_UTF16_BE = 4,     /* UTF-16, the high byte of each code unit first */
+    ROPEY_FILE_UTF16_BE_BOM = 5, /* the mark FE FF, and then UTF-16, the high byte of each code unit first */
+    ROPEY_FILE_LATIN1 = 6,       /* a byte for each character, from U+0000 to U+00FF (ISO/IEC 8859-1) */
+    ROPEY_FILE_BY_MARK = 7       /* for reading: the encoding whose mark the bytes begin with, and without a mark UTF-8 */
+} ropey_file_encoding;
 
 /* A rope, or none. The pointer is the library's: it is neither read nor written. */
 typedef struct {
@@ -462,6 +481,24 @@ ROPEY_NODISCARD ropey_status ropey_builder_finish(ropey_builder *builder, ropey_
 
 /* Frees the builder, if there is one. Afterwards the handle holds none. */
 void ropey_builder_free(ropey_builder *builder);
+
+/* Files in an encoding. */
+
+/* Makes a rope of all bytes of a file in an encoding, a ropey_file_encoding, with a set of line breaks. Writes to found in which
+ * encoding they were read: the given one, or for ROPEY_FILE_BY_MARK the one whose mark they begin with. Written in that
+ * encoding, the text is these bytes again.
+ * Refused: UNKNOWN_BREAK_SET, UNKNOWN_ENCODING, NO_MARK, and then the first that is met in the bytes: INVALID_UTF8 at the first
+ * byte that begins no character, UNPAIRED_SURROGATE at the code unit that stands alone, HALF_CODE_UNIT at the last byte, which
+ * write to offset how many bytes lie before that; TOO_LONG and OUT_OF_MEMORY for the text before, whatever follows. */
+ROPEY_NODISCARD ropey_status ropey_from_bytes_as(const uint8_t *bytes, size_t len, uint32_t encoding, uint32_t break_set,
+    ropey_rope *rope, uint32_t *found, size_t *offset);
+
+/* Writes the text as a file in an encoding to the front of the buffer, after the encoding's mark, and its number of bytes to
+ * len. Refused: NO_ROPE_HELD; UNKNOWN_ENCODING, also for ROPEY_FILE_BY_MARK; BUFFER_TOO_SMALL, which writes to len how many
+ * bytes the buffer has to have, at most SIZE_MAX; UNENCODABLE in Latin-1, which writes to len too, and to char_idx the first
+ * character above U+00FF. */
+ROPEY_NODISCARD ropey_status ropey_write_as(const ropey_rope *rope, uint32_t encoding, uint8_t *buffer, size_t room,
+    size_t *len, size_t *char_idx);
 
 /* Changes: replacements of ranges of one text, in order and apart, as a value. They are made for a text of a given length,
  * and applied to any rope of that length, whole or not at all. Indices count characters. Replacements that touch become one.

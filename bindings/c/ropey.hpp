@@ -38,6 +38,24 @@ enum class side : uint32_t { before = ROPEY_BEFORE, after = ROPEY_AFTER };
 /* What a column counts. */
 enum class encoding : uint32_t { utf8 = ROPEY_UTF8, utf16 = ROPEY_UTF16, utf32 = ROPEY_UTF32 };
 
+/* How the bytes of a file stand for its text. */
+enum class file_encoding : uint32_t {
+    utf8 = ROPEY_FILE_UTF8,
+    utf8_bom = ROPEY_FILE_UTF8_BOM,
+    utf16_le = ROPEY_FILE_UTF16_LE,
+    utf16_le_bom = ROPEY_FILE_UTF16_LE_BOM,
+    utf16_be = ROPEY_FILE_UTF16_BE,
+    utf16_be_bom = ROPEY_FILE_UTF16_BE_BOM,
+    latin1 = ROPEY_FILE_LATIN1,
+    by_mark = ROPEY_FILE_BY_MARK
+};
+
+/* The rope of a file, and the encoding in which it was read. */
+template <typename Rope> struct file {
+    Rope rope;
+    file_encoding encoding;
+};
+
 /* The characters from start up to end of a text are replaced by another text. */
 struct edit {
     size_t start;
@@ -147,41 +165,46 @@ struct by_exception {
 };
 #endif
 
+/* An iterator over a range that fetches its values as it goes: the range has current(), step() and is_done(). */
+template <typename Range, typename Value> class fetched_iterator {
+  public:
+    using iterator_category = std::input_iterator_tag;
+    using value_type = Value;
+    using difference_type = std::ptrdiff_t;
+    using pointer = const Value *;
+    using reference = Value;
+
+    fetched_iterator() = default;
+    explicit fetched_iterator(Range *over) : range(over) {}
+    Value operator*() const { return range->current(); }
+    fetched_iterator &operator++() {
+        range->step();
+        return *this;
+    }
+    void operator++(int) { range->step(); }
+    friend bool operator==(const fetched_iterator &a, const fetched_iterator &b) { return a.is_end() == b.is_end(); }
+    friend bool operator!=(const fetched_iterator &a, const fetched_iterator &b) { return !(a == b); }
+
+  private:
+    bool is_end() const { return range == nullptr || range->is_done(); }
+    Range *range = nullptr;
+};
+
 /* The chunks of a rope's text from a byte to another. Its begin() is called once: the chunks are fetched as it goes. */
 class chunks {
   public:
     chunks(const ropey_rope *of, size_t from, size_t to) : rope(of), at(from), end_at(to) { fetch(); }
 
-    class iterator {
-      public:
-        using iterator_category = std::input_iterator_tag;
-        using value_type = std::string_view;
-        using difference_type = std::ptrdiff_t;
-        using pointer = const std::string_view *;
-        using reference = std::string_view;
-
-        iterator() = default;
-        explicit iterator(chunks *over) : range(over) {}
-        std::string_view operator*() const { return range->text; }
-        iterator &operator++() {
-            range->step();
-            return *this;
-        }
-        void operator++(int) { range->step(); }
-        friend bool operator==(const iterator &a, const iterator &b) { return a.is_end() == b.is_end(); }
-        friend bool operator!=(const iterator &a, const iterator &b) { return !(a == b); }
-
-      private:
-        bool is_end() const { return range == nullptr || range->text.empty(); }
-        chunks *range = nullptr;
-    };
-
+    using iterator = fetched_iterator<chunks, std::string_view>;
     iterator begin() { return iterator(this); }
     iterator end() const { return iterator(); }
 
   private:
+    friend iterator;
     static constexpr size_t room = 16;
 
+    std::string_view current() const { return text; }
+    bool is_done() const { return text.empty(); }
     void fetch() {
         size_t before = at;
         next = 0;
@@ -270,36 +293,16 @@ class lines {
   public:
     lines(const ropey_rope *of, size_t from, size_t from_byte) : rope(of), line_idx(from), at(from_byte) { fetch(); }
 
-    class iterator {
-      public:
-        using iterator_category = std::input_iterator_tag;
-        using value_type = slice;
-        using difference_type = std::ptrdiff_t;
-        using pointer = const slice *;
-        using reference = slice;
-
-        iterator() = default;
-        explicit iterator(lines *over) : range(over) {}
-        slice operator*() const { return slice(range->rope, range->at, range->list[range->next]); }
-        iterator &operator++() {
-            range->step();
-            return *this;
-        }
-        void operator++(int) { range->step(); }
-        friend bool operator==(const iterator &a, const iterator &b) { return a.is_end() == b.is_end(); }
-        friend bool operator!=(const iterator &a, const iterator &b) { return !(a == b); }
-
-      private:
-        bool is_end() const { return range == nullptr || range->next == range->count; }
-        lines *range = nullptr;
-    };
-
+    using iterator = fetched_iterator<lines, slice>;
     iterator begin() { return iterator(this); }
     iterator end() const { return iterator(); }
 
   private:
+    friend iterator;
     static constexpr size_t room = 16;
 
+    slice current() const { return slice(rope, at, list[next]); }
+    bool is_done() const { return next == count; }
     void fetch() {
         next = 0;
         if (ropey_lines_from(rope, line_idx, list, room, &count) != ROPEY_OK) {
@@ -319,10 +322,35 @@ class lines {
     ropey_slice list[room];
 };
 
+/* The owner of a handle, which is freed with it. One that was moved from holds nothing. */
+template <typename Handle, void (*free_handle)(Handle *)> class owner {
+  public:
+    owner(owner &&other) noexcept : handle(std::exchange(other.handle, none())) {}
+    owner &operator=(owner &&other) noexcept {
+        if (this != &other) {
+            free_handle(&handle);
+            handle = std::exchange(other.handle, none());
+        }
+        return *this;
+    }
+    owner(const owner &) = delete;
+    owner &operator=(const owner &) = delete;
+    ~owner() { free_handle(&handle); }
+
+    /* The handle, for calls of ropey.h. */
+    const Handle *get() const { return &handle; }
+    Handle *get() { return &handle; }
+
+  protected:
+    static Handle none() { return Handle{nullptr}; }
+    explicit owner(Handle held = none()) : handle(held) {}
+    Handle handle;
+};
+
 template <typename Policy> class basic_builder;
 
 /* A rope. */
-template <typename Policy> class basic_rope {
+template <typename Policy> class basic_rope : public owner<ropey_rope, ropey_free> {
   public:
     template <typename T> using answer = typename Policy::template answer<T>;
 
@@ -334,17 +362,6 @@ template <typename Policy> class basic_rope {
     }
     template <typename P = Policy, typename = std::enable_if_t<P::throws>>
     explicit basic_rope(std::string_view text, ropey_break_set breaks = ROPEY_UNICODE) : basic_rope(from_text(text, breaks)) {}
-    basic_rope(basic_rope &&other) noexcept : handle(std::exchange(other.handle, none())) {}
-    basic_rope &operator=(basic_rope &&other) noexcept {
-        if (this != &other) {
-            ropey_free(&handle);
-            handle = std::exchange(other.handle, none());
-        }
-        return *this;
-    }
-    basic_rope(const basic_rope &) = delete;
-    basic_rope &operator=(const basic_rope &) = delete;
-    ~basic_rope() { ropey_free(&handle); }
 
     static answer<basic_rope> from_text(std::string_view text, ropey_break_set breaks = ROPEY_UNICODE) {
         return made([&](ropey_rope *made) { return ropey_from_text(bytes_of(text), text.size(), breaks, made); });
@@ -368,6 +385,35 @@ template <typename Policy> class basic_rope {
             ropey_builder_free(&builder);
             return status;
         });
+    }
+
+    /* Reads all bytes of a file. Where they are no text, the offset of the first that is not is written to *offset. */
+    static answer<file<basic_rope>> from_bytes_as(std::string_view bytes, file_encoding given = file_encoding::by_mark,
+                                                  ropey_break_set breaks = ROPEY_UNICODE, size_t *offset = nullptr) {
+        file<basic_rope> read = {basic_rope(none()), given};
+        uint32_t found = 0;
+        size_t at = 0;
+        const ropey_status status = ropey_from_bytes_as(bytes_of(bytes), bytes.size(), static_cast<uint32_t>(given), breaks,
+                                                        &read.rope.handle, &found, offset == nullptr ? &at : offset);
+        read.encoding = static_cast<file_encoding>(found);
+        return Policy::give(status, std::move(read));
+    }
+
+    /* The bytes of a file of the text. Where the encoding has none for a character, its index is written to *char_idx. */
+    answer<std::string> bytes_as(file_encoding in, size_t *char_idx = nullptr) const {
+        std::string bytes;
+        size_t len = 0, index = 0;
+        size_t *first = char_idx == nullptr ? &index : char_idx;
+        const auto write = [&] {
+            return ropey_write_as(&handle, static_cast<uint32_t>(in), reinterpret_cast<uint8_t *>(bytes.data()), bytes.size(),
+                                  &len, first);
+        };
+        ropey_status status = write();
+        if (status == ROPEY_BUFFER_TOO_SMALL) {
+            bytes.resize(len);
+            status = write();
+        }
+        return Policy::give(status, std::move(bytes));
     }
 
     answer<basic_rope> clone() const {
@@ -599,15 +645,10 @@ template <typename Policy> class basic_rope {
         return out;
     }
 
-    /* The handle, for calls of ropey.h. */
-    const ropey_rope *get() const { return &handle; }
-    ropey_rope *get() { return &handle; }
-
   private:
     friend class basic_builder<Policy>;
 
-    static ropey_rope none() { return ropey_rope ROPEY_NO_ROPE; }
-    explicit basic_rope(ropey_rope held) : handle(held) {}
+    explicit basic_rope(ropey_rope held) : owner(held) {}
 
     template <typename Make> static answer<basic_rope> made(Make make) {
         basic_rope rope{none()};
@@ -641,12 +682,10 @@ template <typename Policy> class basic_rope {
         }
         return byte_idx <= len_bytes() ? ROPEY_OK : ROPEY_BYTE_INDEX_OUT_OF_BOUNDS;
     }
-
-    ropey_rope handle = ROPEY_NO_ROPE;
 };
 
 /* A rope in the making, of bytes that are cut anywhere. */
-template <typename Policy> class basic_builder {
+template <typename Policy> class basic_builder : public owner<ropey_builder, ropey_builder_free> {
   public:
     template <typename T> using answer = typename Policy::template answer<T>;
 
@@ -656,19 +695,12 @@ template <typename Policy> class basic_builder {
             *this = start();
         }
     }
-    basic_builder(basic_builder &&other) noexcept
-        : handle(std::exchange(other.handle, none())), valid(std::exchange(other.valid, 0)) {}
+    basic_builder(basic_builder &&other) noexcept : owner(std::move(other)), valid(std::exchange(other.valid, 0)) {}
     basic_builder &operator=(basic_builder &&other) noexcept {
-        if (this != &other) {
-            ropey_builder_free(&handle);
-            handle = std::exchange(other.handle, none());
-            valid = std::exchange(other.valid, 0);
-        }
+        owner::operator=(std::move(other));
+        valid = std::exchange(other.valid, 0);
         return *this;
     }
-    basic_builder(const basic_builder &) = delete;
-    basic_builder &operator=(const basic_builder &) = delete;
-    ~basic_builder() { ropey_builder_free(&handle); }
 
     static answer<basic_builder> start(ropey_break_set breaks = ROPEY_UNICODE) {
         basic_builder made{none()};
@@ -692,14 +724,12 @@ template <typename Policy> class basic_builder {
     size_t valid_bytes() const { return valid; }
 
   private:
-    static ropey_builder none() { return ropey_builder ROPEY_NO_BUILDER; }
-    explicit basic_builder(ropey_builder held) : handle(held) {}
-    ropey_builder handle = ROPEY_NO_BUILDER;
+    explicit basic_builder(ropey_builder held) : owner(held) {}
     size_t valid = 0;
 };
 
 /* Changes of a text of a given length: replacements of ranges, in order and apart. */
-template <typename Policy> class basic_changes {
+template <typename Policy> class basic_changes : public owner<ropey_changes, ropey_changes_free> {
   public:
     template <typename T> using answer = typename Policy::template answer<T>;
     using rope = basic_rope<Policy>;
@@ -710,17 +740,6 @@ template <typename Policy> class basic_changes {
     /* Edits in order. */
     template <typename P = Policy, typename = std::enable_if_t<P::throws>>
     basic_changes(size_t len, const std::vector<edit> &edits) : basic_changes(of_edits(len, edits)) {}
-    basic_changes(basic_changes &&other) noexcept : handle(std::exchange(other.handle, none())) {}
-    basic_changes &operator=(basic_changes &&other) noexcept {
-        if (this != &other) {
-            ropey_changes_free(&handle);
-            handle = std::exchange(other.handle, none());
-        }
-        return *this;
-    }
-    basic_changes(const basic_changes &) = delete;
-    basic_changes &operator=(const basic_changes &) = delete;
-    ~basic_changes() { ropey_changes_free(&handle); }
 
     /* Keeps all of a text of len characters. */
     static answer<basic_changes> keep(size_t len) {
@@ -793,19 +812,13 @@ template <typename Policy> class basic_changes {
         return Policy::give(status, std::move(shown));
     }
 
-    /* The handle, for calls of ropey.h. */
-    const ropey_changes *get() const { return &handle; }
-    ropey_changes *get() { return &handle; }
-
   private:
-    static ropey_changes none() { return ropey_changes ROPEY_NO_CHANGES; }
-    explicit basic_changes(ropey_changes held) : handle(held) {}
+    explicit basic_changes(ropey_changes held) : owner(held) {}
     template <typename Make> static answer<basic_changes> made(Make make) {
         basic_changes changes{none()};
         const ropey_status status = make(&changes.handle);
         return Policy::give(status, std::move(changes));
     }
-    ropey_changes handle = ROPEY_NO_CHANGES;
 };
 
 /* Counts of plain texts. */

@@ -28,6 +28,10 @@ const char *ropey_status_text(uint32_t status) {
     case ROPEY_LENGTHS_DIFFER: return "the text has another length than the changes are for";
     case ROPEY_UNKNOWN_SIDE: return "the number stands for no side of inserted text";
     case ROPEY_UNKNOWN_ENCODING: return "the number stands for no encoding";
+    case ROPEY_NO_MARK: return "the bytes do not begin with the byte order mark of their encoding";
+    case ROPEY_UNPAIRED_SURROGATE: return "a code unit of UTF-16 is half of a pair and stands alone";
+    case ROPEY_HALF_CODE_UNIT: return "the bytes end inside a code unit of UTF-16";
+    case ROPEY_UNENCODABLE: return "the encoding has no bytes for a character of the text";
     default: return "no status of this library";
     }
 }

@@ -121,6 +121,25 @@ static void moves() {
     CHECK(rope == "again");
 }
 
+/* Files in encodings, by their marks and as declared. */
+static void files() {
+    using ropey::file_encoding;
+    const std::string little("\xFF\xFE" "a\0\x3D\xD8\x00\xDE", 8);
+    const ropey::file<ropey::rope> read = ropey::rope::from_bytes_as(little);
+    CHECK(read.encoding == file_encoding::utf16_le_bom && read.rope == "a\xF0\x9F\x98\x80");
+    CHECK(read.rope.bytes_as(read.encoding) == little && read.rope.bytes_as(file_encoding::utf16_le) == little.substr(2));
+    CHECK(ropey::rope().bytes_as(file_encoding::utf8) == "" && ropey::rope().bytes_as(file_encoding::utf8_bom) == "\xEF\xBB\xBF");
+    CHECK(ropey::rope::from_bytes_as("\xE9\r\n", file_encoding::latin1, ROPEY_LF).rope == "\xC3\xA9\r\n");
+
+    size_t at = 99;
+    CHECK(refusal_of([&] { ropey::rope::from_bytes_as(little.substr(0, 6), file_encoding::by_mark, ROPEY_LF, &at); }) == ROPEY_UNPAIRED_SURROGATE && at == 4);
+    CHECK(refusal_of([&] { ropey::rope::from_bytes_as(little.substr(0, 3), file_encoding::by_mark, ROPEY_LF, &at); }) == ROPEY_HALF_CODE_UNIT && at == 2);
+    CHECK(refusal_of([&] { ropey::rope::from_bytes_as("ab\xFF"); }) == ROPEY_INVALID_UTF8);
+    CHECK(refusal_of([&] { ropey::rope::from_bytes_as("ab", file_encoding::utf8_bom); }) == ROPEY_NO_MARK);
+    CHECK(refusal_of([&] { (void)read.rope.bytes_as(file_encoding::latin1, &at); }) == ROPEY_UNENCODABLE && at == 1);
+    CHECK(refusal_of([&] { (void)read.rope.bytes_as(file_encoding::by_mark); }) == ROPEY_UNKNOWN_ENCODING);
+}
+
 int main() {
     ropey::rope rope("hello \xF0\x9F\x90\x88\r\nworld\n");
     ropey::rope before = rope.clone();
@@ -185,6 +204,7 @@ int main() {
     CHECK(first == second && first.text() == "1 and 2");
     edits = std::move(undo);
     CHECK(edits.len_before() == 9);
+    files();
     makes();
     moves();
     std::puts("C++: as it must be");

@@ -1,4 +1,4 @@
-//! The calls of ropes and slices that panic where the index is out of bounds, each over its twin that answers that.
+//! Calls of ropes and slices that panic if the index is out of bounds, each over a variant that returns an error or `None`.
 use crate::Error;
 
 #[cold]
@@ -10,15 +10,15 @@ pub(crate) fn refuse(error: Error) -> ! {
 
 /// An example: two values that are equal, of which the first is one of a short text.
 macro_rules! example {
-    ($made:literal, $shown:literal) => {
+    ($made:literal, $shown:expr) => {
         concat!("\n```\nlet text = ropey::", $made, "(\"né\\r\\ntwo\\n\");\nassert_eq!(text.", $shown, ");\n```")
     };
 }
 
-/// Over a `try_` twin, which answers the error, or a `get_` twin, which answers none.
+/// Over a `try_` variant, which returns an error, or a `get_` variant, which returns `None`.
 macro_rules! over {
-    ($made:literal; $($(#[$doc:meta])* $name:ident($index:ident) by $twin:ident $(else $error:ident of $len:ident)? -> $answer:ty,
-        $shown:literal;)*) => {
+    ($made:literal; $($(#[$doc:meta])* $name:ident($index:ident) by $variant:ident $(else $error:ident of $len:ident)? -> $result:ty,
+        $shown:expr;)*) => {
         $(
             $(#[$doc])*
             ///
@@ -28,10 +28,51 @@ macro_rules! over {
             #[doc = crate::calls::example!($made, $shown)]
             #[inline]
             #[track_caller]
-            pub fn $name(&self, $index: usize) -> $answer {
-                self.$twin($index)
+            pub fn $name(&self, $index: usize) -> $result {
+                self.$variant($index)
                     $(.ok_or_else(|| Error::$error($index, self.$len())))?
                     .unwrap_or_else(|error| crate::calls::refuse(error))
+            }
+        )*
+    };
+}
+
+/// The conversions and their `try_` variants. A row has the two names, the index with the length that bounds it, the units, the
+/// error, the call of a root or a plain text, and an example. The macro `$convert` writes the body of a `try_` variant.
+macro_rules! conversions {
+    ($convert:ident, $made:literal) => {
+        crate::calls::conversions! {
+            $convert, $made;
+            /// Returns the character that holds a byte; for the length in bytes, the length in characters.
+            byte_to_char try_byte_to_char(byte_idx of len_bytes: bytes -> chars) else ByteIndexOutOfBounds by byte_to_char, 2 1;
+            /// Returns the line on which a byte lies; for the length in bytes, the last line.
+            byte_to_line try_byte_to_line(byte_idx of len_bytes: bytes -> line_breaks) else ByteIndexOutOfBounds by byte_to_line, 5 1;
+            /// Returns the byte at which a character starts; for the length in characters, the length in bytes.
+            char_to_byte try_char_to_byte(char_idx of len_chars: chars -> bytes) else CharIndexOutOfBounds by char_to_byte, 2 3;
+            /// Returns the line on which a character lies; for the length in characters, the last line.
+            char_to_line try_char_to_line(char_idx of len_chars: chars -> line_breaks) else CharIndexOutOfBounds by char_to_line, 4 1;
+            /// Returns the UTF-16 code unit at which a character starts; for the length in characters, the length in code units.
+            char_to_utf16_cu try_char_to_utf16_cu(char_idx of len_chars: chars -> utf16) else CharIndexOutOfBounds by char_to_utf16, 8 8;
+            /// Returns the character that holds a UTF-16 code unit; for the length in code units, the length in characters.
+            utf16_cu_to_char try_utf16_cu_to_char(utf16_cu_idx of len_utf16_cu: utf16 -> chars) else Utf16IndexOutOfBounds by utf16_to_char, 2 2;
+            /// Returns the byte at which a line starts; for the number of lines, the length in bytes.
+            line_to_byte try_line_to_byte(line_idx of len_lines: line_breaks -> bytes) else LineIndexOutOfBounds by line_to_byte, 1 5;
+            /// Returns the character at which a line starts; for the number of lines, the length in characters.
+            line_to_char try_line_to_char(line_idx of len_lines: line_breaks -> chars) else LineIndexOutOfBounds by line_to_char, 1 4;
+        }
+    };
+    ($convert:ident, $made:literal; $($(#[$doc:meta])* $name:ident $try_name:ident($index:ident of $len:ident: $from:ident -> $to:ident)
+        else $error:ident by $call:ident, $shown:literal $converted:literal;)*) => {
+        crate::calls::over! {
+            $made;
+            $($(#[$doc])* $name($index) by $try_name -> usize, concat!(stringify!($name), "(", $shown, "), ", $converted);)*
+        }
+        $(
+            #[doc = concat!("Returns what [`", stringify!($name), "`](Self::", stringify!($name), ") does, or an error if the index is past the end.")]
+            #[doc = crate::calls::example!($made, concat!(stringify!($try_name), "(", $shown, ").ok(), Some(", $converted, ")"))]
+            #[inline]
+            pub fn $try_name(&self, $index: usize) -> Result<usize> {
+                $convert!(self, $index, self.$len(), $error, $from, $to, $call)
             }
         )*
     };
@@ -42,30 +83,6 @@ macro_rules! panicking_calls {
     ($text:lifetime, $made:literal) => {
         crate::calls::over! {
             $made;
-            /// Returns the character that holds a byte; for the length in bytes, the length in characters.
-            byte_to_char(byte_idx) by try_byte_to_char -> usize,
-                "byte_to_char(2), 1";
-            /// Returns the line on which a byte lies; for the length in bytes, the last line.
-            byte_to_line(byte_idx) by try_byte_to_line -> usize,
-                "byte_to_line(5), 1";
-            /// Returns the byte at which a character starts; for the length in characters, the length in bytes.
-            char_to_byte(char_idx) by try_char_to_byte -> usize,
-                "char_to_byte(2), 3";
-            /// Returns the line on which a character lies; for the length in characters, the last line.
-            char_to_line(char_idx) by try_char_to_line -> usize,
-                "char_to_line(4), 1";
-            /// Returns the UTF-16 code unit at which a character starts; for the length in characters, the length in code units.
-            char_to_utf16_cu(char_idx) by try_char_to_utf16_cu -> usize,
-                "char_to_utf16_cu(8), 8";
-            /// Returns the character that holds a UTF-16 code unit; for the length in code units, the length in characters.
-            utf16_cu_to_char(utf16_cu_idx) by try_utf16_cu_to_char -> usize,
-                "utf16_cu_to_char(2), 2";
-            /// Returns the byte at which a line starts; for the number of lines, the length in bytes.
-            line_to_byte(line_idx) by try_line_to_byte -> usize,
-                "line_to_byte(1), 5";
-            /// Returns the character at which a line starts; for the number of lines, the length in characters.
-            line_to_char(line_idx) by try_line_to_char -> usize,
-                "line_to_char(1), 4";
             /// Returns a byte.
             byte(byte_idx) by get_byte else ByteIndexOutOfBounds of len_bytes -> u8,
                 "byte(0), b'n'";
@@ -171,4 +188,4 @@ macro_rules! panicking_calls {
     };
 }
 
-pub(crate) use {example, over, panicking_calls};
+pub(crate) use {conversions, example, over, panicking_calls};

@@ -24,6 +24,7 @@ use crate::slice::known;
 use crate::{LineBreaks, MAX_BYTES};
 
 pub(crate) mod changes;
+pub(crate) mod files;
 
 /// `ropey_rope`.
 #[repr(C)]
@@ -126,27 +127,6 @@ extern "C" {
         char_idx: *mut usize,
     ) -> u32;
     fn ropey_text_counts_unchecked(text: *const u8, len: usize, break_set: u32, counts: *mut Counts) -> u32;
-    fn ropey_counts_in_chars_with_before(
-        rope: Held,
-        start: usize,
-        end: usize,
-        counts: *mut Counts,
-        before: *mut Counts,
-    ) -> u32;
-    fn ropey_char_slice_with_before(
-        rope: Held,
-        start: usize,
-        end: usize,
-        slice: *mut RawSlice,
-        before: *mut Counts,
-    ) -> u32;
-    fn ropey_byte_slice_with_before(
-        rope: Held,
-        start: usize,
-        end: usize,
-        slice: *mut RawSlice,
-        before: *mut Counts,
-    ) -> u32;
 }
 
 /// One lock for all ropes, around every call that may touch a count of owners: clones, edits, frees.
@@ -379,31 +359,50 @@ look_ups! {
     line_slice(line_idx): ropey_line_slice;
 }
 
+/// Calls that show a range, and how much of the rope lies before it. They answer none where the range is refused.
+macro_rules! ranges {
+    ($($name:ident: $call:ident -> $shown:ty;)*) => {
+        extern "C" {
+            $(fn $call(rope: Held, start: usize, end: usize, shown: *mut $shown, before: *mut Counts) -> u32;)*
+        }
+
+        impl Root {
+            $(
+                #[inline]
+                fn $name(&self, start: usize, end: usize) -> Option<($shown, Counts)> {
+                    let mut before = Counts::NONE;
+                    written(|it| unsafe { $call(&self.0, start, end, it, &mut before) }).map(|it| (it, before))
+                }
+            )*
+        }
+    };
+}
+
+ranges! {
+    chars_and_before: ropey_char_slice_with_before -> RawSlice;
+    bytes_and_before: ropey_byte_slice_with_before -> RawSlice;
+    counts_and_before: ropey_counts_in_chars_with_before -> Counts;
+}
+
 impl Root {
     /// The characters from `start` up to `end`, which are in range, and how much lies before them.
     #[inline]
     pub(crate) fn char_slice(&self, start: usize, end: usize) -> (Lent<'_>, Counts) {
-        let mut before = Counts::NONE;
-        let slice = written(|slice| unsafe { ropey_char_slice_with_before(&self.0, start, end, slice, &mut before) });
-        (unsafe { known(slice).lent() }, before)
+        let (slice, before) = known(self.chars_and_before(start, end));
+        (unsafe { slice.lent() }, before)
     }
 
-    /// The bytes from `start` up to `end`, which are in range, and how much lies before them; none where one of the two lies inside
-    /// a character.
+    /// The bytes from `start` up to `end`, and how much lies before them; none where one of the two lies inside a character.
     #[inline]
     pub(crate) fn byte_slice(&self, start: usize, end: usize) -> Option<(Lent<'_>, Counts)> {
-        let mut before = Counts::NONE;
-        let slice = written(|slice| unsafe { ropey_byte_slice_with_before(&self.0, start, end, slice, &mut before) })?;
+        let (slice, before) = self.bytes_and_before(start, end)?;
         Some((unsafe { slice.lent() }, before))
     }
 
     /// How much the characters from `start` up to `end`, which are in range, hold, and how much lies before them.
     #[inline]
     pub(crate) fn counts_in_chars(&self, start: usize, end: usize) -> (Counts, Counts) {
-        let mut before = Counts::NONE;
-        let counts =
-            written(|counts| unsafe { ropey_counts_in_chars_with_before(&self.0, start, end, counts, &mut before) });
-        (known(counts), before)
+        known(self.counts_and_before(start, end))
     }
 
     /// The line and column of a character; none where it is past the end.

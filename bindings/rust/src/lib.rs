@@ -45,6 +45,7 @@
 //!
 //! - The module [`changes`] keeps the edits of a text as a value: they are applied whole or not at all, undone, composed, and
 //!   carried over those of another editor.
+//! - The module [`files`] reads and writes files in UTF-8, UTF-16 and Latin-1, with and without a byte order mark.
 //! - The module [`positions`] has lines and columns in the encodings of the Language Server Protocol.
 //! - [`RopeSlice::without_break`] and [`RopeSlice::line_break`] split a line from the line break that ends it.
 //!
@@ -100,6 +101,7 @@ mod slice;
 mod texts;
 
 pub mod changes;
+pub mod files;
 pub mod iter;
 pub mod positions;
 pub mod str_utils;

@@ -3,7 +3,7 @@ use std::io;
 use std::ops::RangeBounds;
 
 use crate::builder;
-use crate::calls::{example, panicking_calls, refuse};
+use crate::calls::{conversions, example, panicking_calls, refuse};
 use crate::ffi::changes::Changes;
 use crate::ffi::{ChunkAt, Counts, Root};
 use crate::instance::Instance;
@@ -36,16 +36,9 @@ pub struct Rope {
     instance: Instance,
 }
 
-macro_rules! conversions {
-    ($($name:ident($index:ident) else $error:ident of $len:ident by $call:ident for $plain:literal, $shown:literal;)*) => {
-        $(
-            #[doc = concat!("Returns what [`", $plain, "`](Self::", $plain, ") does, or an error if the index is past the end.")]
-            #[doc = example!("Rope::from_str", $shown)]
-            #[inline]
-            pub fn $name(&self, $index: usize) -> Result<usize> {
-                self.root.$call($index).ok_or_else(|| Error::$error($index, self.$len()))
-            }
-        )*
+macro_rules! convert {
+    ($self:ident, $index:ident, $len:expr, $error:ident, $from:ident, $to:ident, $call:ident) => {
+        $self.root.$call($index).ok_or_else(|| Error::$error($index, $len))
     };
 }
 
@@ -386,25 +379,7 @@ impl Rope {
 /// Look-ups. They take no memory.
 impl Rope {
     panicking_calls!('_, "Rope::from_str");
-
-    conversions! {
-        try_byte_to_char(byte_idx) else ByteIndexOutOfBounds of len_bytes by byte_to_char for "byte_to_char",
-            "try_byte_to_char(2).unwrap(), 1";
-        try_byte_to_line(byte_idx) else ByteIndexOutOfBounds of len_bytes by byte_to_line for "byte_to_line",
-            "try_byte_to_line(5).unwrap(), 1";
-        try_char_to_byte(char_idx) else CharIndexOutOfBounds of len_chars by char_to_byte for "char_to_byte",
-            "try_char_to_byte(2).unwrap(), 3";
-        try_char_to_line(char_idx) else CharIndexOutOfBounds of len_chars by char_to_line for "char_to_line",
-            "try_char_to_line(9).is_err(), true";
-        try_char_to_utf16_cu(char_idx) else CharIndexOutOfBounds of len_chars by char_to_utf16 for "char_to_utf16_cu",
-            "try_char_to_utf16_cu(8).unwrap(), 8";
-        try_utf16_cu_to_char(utf16_cu_idx) else Utf16IndexOutOfBounds of len_utf16_cu by utf16_to_char for "utf16_cu_to_char",
-            "try_utf16_cu_to_char(9).is_err(), true";
-        try_line_to_byte(line_idx) else LineIndexOutOfBounds of len_lines by line_to_byte for "line_to_byte",
-            "try_line_to_byte(4).is_err(), true";
-        try_line_to_char(line_idx) else LineIndexOutOfBounds of len_lines by line_to_char for "line_to_char",
-            "try_line_to_char(3).unwrap(), 8";
-    }
+    conversions!(convert, "Rope::from_str");
 
     asked! {
         /// Returns a byte, or `None` if the index is past the last one.

@@ -1,7 +1,7 @@
 //! Slices: ranges of a rope's text, or of a plain one.
 use std::ops::RangeBounds;
 
-use crate::calls::{example, panicking_calls};
+use crate::calls::{conversions, example, panicking_calls};
 use crate::ffi::{Before, ChunkAt, Counts, Lent, Pieces, Plain, Root};
 use crate::iter::{Bytes, Chars, Chunks, InChunk, Lines};
 use crate::range::Bounds;
@@ -150,28 +150,18 @@ impl<'a> RopeSlice<'a> {
     }
 }
 
-macro_rules! conversions {
-    (
-        $($name:ident($index:ident of $len:ident: $from:ident -> $to:ident)
-            else $error:ident by $call:ident for $plain:literal, $shown:literal;)*
-    ) => {
-        $(
-            #[doc = concat!("Returns what [`", $plain, "`](Self::", $plain, ") does, or an error if the index is past the end.")]
-            #[doc = example!("RopeSlice::from", $shown)]
-            #[inline]
-            pub fn $name(&self, $index: usize) -> Result<usize> {
-                let (len, all) = (self.$len(), self.counts.$to);
-                Ok(match self.part {
-                    _ if $index > len => return Err(Error::$error($index, len)),
-                    _ if $index == len => all,
-                    _ if $index == 0 => 0,
-                    // The line after a CR whose LF is cut off starts past the range.
-                    Part::Range { root, start } => all.min(known(root.$call(start.$from + $index)) - start.$to),
-                    Part::Text(plain) => plain.$call($index),
-                })
-            }
-        )*
-    };
+macro_rules! convert {
+    ($self:ident, $index:ident, $len:expr, $error:ident, $from:ident, $to:ident, $call:ident) => {{
+        let (len, all) = ($len, $self.counts.$to);
+        Ok(match $self.part {
+            _ if $index > len => return Err(Error::$error($index, len)),
+            _ if $index == len => all,
+            _ if $index == 0 => 0,
+            // The line after a CR whose LF is cut off starts past the range.
+            Part::Range { root, start } => all.min(known(root.$call(start.$from + $index)) - start.$to),
+            Part::Text(plain) => plain.$call($index),
+        })
+    }};
 }
 
 /// Lengths, in constant time.
@@ -234,33 +224,7 @@ impl<'a> RopeSlice<'a> {
 /// Look-ups. They take no memory.
 impl<'a> RopeSlice<'a> {
     panicking_calls!('a, "RopeSlice::from");
-
-    conversions! {
-        try_byte_to_char(byte_idx of len_bytes: bytes -> chars)
-            else ByteIndexOutOfBounds by byte_to_char for "byte_to_char",
-            "try_byte_to_char(2).unwrap(), 1";
-        try_byte_to_line(byte_idx of len_bytes: bytes -> line_breaks)
-            else ByteIndexOutOfBounds by byte_to_line for "byte_to_line",
-            "try_byte_to_line(5).unwrap(), 1";
-        try_char_to_byte(char_idx of len_chars: chars -> bytes)
-            else CharIndexOutOfBounds by char_to_byte for "char_to_byte",
-            "try_char_to_byte(2).unwrap(), 3";
-        try_char_to_line(char_idx of len_chars: chars -> line_breaks)
-            else CharIndexOutOfBounds by char_to_line for "char_to_line",
-            "try_char_to_line(9).is_err(), true";
-        try_char_to_utf16_cu(char_idx of len_chars: chars -> utf16)
-            else CharIndexOutOfBounds by char_to_utf16 for "char_to_utf16_cu",
-            "try_char_to_utf16_cu(8).unwrap(), 8";
-        try_utf16_cu_to_char(utf16_cu_idx of len_utf16_cu: utf16 -> chars)
-            else Utf16IndexOutOfBounds by utf16_to_char for "utf16_cu_to_char",
-            "try_utf16_cu_to_char(9).is_err(), true";
-        try_line_to_byte(line_idx of len_lines: line_breaks -> bytes)
-            else LineIndexOutOfBounds by line_to_byte for "line_to_byte",
-            "try_line_to_byte(4).is_err(), true";
-        try_line_to_char(line_idx of len_lines: line_breaks -> chars)
-            else LineIndexOutOfBounds by line_to_char for "line_to_char",
-            "try_line_to_char(3).unwrap(), 8";
-    }
+    conversions!(convert, "RopeSlice::from");
 
     /// Returns a byte, or `None` if the index is past the last one.
     #[doc = example!("RopeSlice::from", "get_byte(9), None")]

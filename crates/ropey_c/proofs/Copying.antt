@@ -15,8 +15,8 @@ pub record IsCopied (old now : List ℕ) (text : List ℕ) (ahead : List (List �
   pub place : at ≡ byte_len before
   pub written : now ≡ encode_utf8_all before ++ drop (byte_len before) old
 
--- more bytes written behind those that were
-more_written : (done more old : List ℕ)
+-- more bytes written after those that were
+pub more_written : (done more old : List ℕ)
     → take (length done) (done ++ drop (length done) old) ++ more ++ drop (length done + length more) (done ++ drop (length done) old)
     ≡ done ++ more ++ drop (length (done ++ more)) old
 more_written done more old =

@@ -1,18 +1,17 @@
 -- The next edit of a list that C gives, and the next replacement that is read back.
-use Rattle.std.proofs.Common.{◌≡◌, ℕ, suc, ◌+◌, ◌-◌, ◌*◌, ◌<◌, ◌≤◌, List, [], ◌∷◌, ◌++◌, length, get_or, take, drop, map, slice_set, refl, ap, sym, subst, ◌∙◌, arith, append_assoc, inl, inr}
+use Rattle.std.proofs.Common.{◌≡◌, ℕ, suc, ◌+◌, ◌-◌, ◌<◌, ◌≤◌, List, [], ◌∷◌, ◌++◌, length, get_or, take, drop, map, slice_set, refl, ap, sym, subst, ◌∙◌, arith, append_assoc, inl, inr}
+use Rattle.std.proofs.Math.Seq.{take-nil}
 use Rattle.std.specs.Str.{chars, encode_utf8_all}
-use Rattle.std.proofs.lemmas.List.{drop_more, drop_all, length-set, drop-set-lt, drop-drop, take_more_set, map-append, take_all}
+use Rattle.std.proofs.lemmas.List.{drop_more, drop_all, length-set, drop-set-lt, drop-drop, take_more_set, map-append, take_all, append-nil}
 use Rattle.rope_changes.specs.Change as change
-use Rattle.rope_changes.specs.Ops.{len_before, len_after}
-use Rattle.rope_changes.specs.Change.{Change, before, after, ops_of, AreApart, AreNormal, IsNormal, replaced}
-use Rattle.rope_changes.proofs.Steps.{step_before, step_after}
+use Rattle.rope_changes.specs.Change.{Change, replaced}
 use Rattle.rope_changes.specs.Built.{built}
 use Rattle.rope_changes.specs.Listed.{Remaining, IsNext}
 use Rattle.rope_changes.specs.declared.EditRange.{EditRange}
 use Rattle.std.specs.Prelude.{None}
 use Rattle.ropey_c.specs.Status.{IsStatus}
 use Rattle.ropey_c.specs.ChangeStatus.{IsReplaceStatus}
-use Rattle.ropey_c.specs.ChangeEdits.{edit_of, IsEditsStatus, Listed, listed, shown_of}
+use Rattle.ropey_c.specs.ChangeEdits.{edit_of, IsEditsStatus, Listed, Lists, listed, shown_of}
 use Rattle.ropey_c.specs.declared.status.TheConstants.{OK}
 use Rattle.ropey_c.specs.declared.change_edits.GivenEdit.{GivenEdit}
 use Rattle.ropey_c.specs.declared.change_edits.Replacement.{Replacement}
@@ -58,34 +57,6 @@ module _ (c : Change) (edits : List GivenEdit) (k : ℕ) (d : GivenEdit) (below 
     status_here status refused is =
         let whole : IsEditsStatus c (next ∷ drop (k + 1) edits) status = inl (refused, is) in
         subst (λ es. IsEditsStatus c es status) (sym (drop_more edits k d below)) whole
-
--- each replacement changes a character, and each but the first keeps one
-apart_few : (edits : List change.Edit) (rest : ℕ) → AreApart edits
-    → 3 * length edits ≤ len_before (ops_of edits rest) + len_after (ops_of edits rest)
-apart_few [] rest apart = omega arith
-apart_few (e ∷ edits) rest apart =
-    let tail = ops_of edits rest in
-    omega (
-      arith,
-      step_before e.kept e.text e.deleted tail,
-      step_after e.kept e.text e.deleted tail,
-      apart_few edits rest apart.2,
-      apart.0,
-      apart.1,
-    )
-
-pub normal_few : (edits : List change.Edit) (rest : ℕ) → AreNormal edits
-    → 3 * length edits ≤ len_before (ops_of edits rest) + len_after (ops_of edits rest) + 2
-normal_few [] rest normal = omega arith
-normal_few (e ∷ edits) rest normal =
-    let tail = ops_of edits rest in
-    omega (
-      arith,
-      step_before e.kept e.text e.deleted tail,
-      step_after e.kept e.text e.deleted tail,
-      apart_few edits rest normal.1,
-      normal.0,
-    )
 
 -- a replacement that a cursor gave
 abbrev pub shown_edit : EditRange → Listed
@@ -160,23 +131,36 @@ module _ (edits left left' : List change.Edit) (end new_end end' new_end' : ℕ)
         room = length-set now count r ∙ i.room;
       }
 
-  pub next_passed : length now ≤ count → IsListing edits left' end' new_end' old now (count + 1)
-  next_passed full =
-      let all : take (count + 1) now ≡ take count now = take_all (count + 1) now (omega (
-        arith,
-        full,
-      )) ∙ sym (take_all count now full) in
-      let none : length old - count ≡ 0 = omega (arith, full, i.room) in
-      let none_more : length old - (count + 1) ≡ 0 = omega (arith, full, i.room) in
-      record {
-        counted = omega (arith, i.counted, one);
-        written = ap (λ s. map shown_of s ++ take (length old - (count + 1))
-            (listed end' new_end' left')) all
-            ∙ ap (λ n. map shown_of (take count now) ++ take n (listed end' new_end' left'))
-            none_more
-            ∙ sym (ap (λ n. map shown_of (take count now) ++ take n (listed end new_end left)) none)
-            ∙ i.written;
-        kept = drop_all (count + 1) now (omega (arith, full)) ∙
-            sym (drop_all (count + 1) old (omega (arith, full, i.room)));
-        room = i.room;
-      }
+-- the replacements are written once there is no room, or none is left
+module _ (edits left : List change.Edit) (end new_end : ℕ) (old now : List Replacement)
+    (at count : ℕ) (i : IsListing edits left end new_end old now at) (all : count ≡ length edits)
+  where
+    pub listing_full : length now ≤ at → Lists edits old now count
+    listing_full full =
+        let none : length old - at ≡ 0 = omega (arith, full, i.room) in
+        let past : length now ≤ count = omega (arith, full, i.counted, all) in
+        record {
+          count_is = all;
+          written = ap (map shown_of) (take_all count now past ∙ sym (take_all at now full))
+              ∙ sym (append-nil (map shown_of (take at now)))
+              ∙ sym (ap (λ n. map shown_of (take at now) ++ take n (listed end new_end left)) none)
+              ∙ i.written;
+          kept = drop_all count now past
+              ∙ sym (drop_all count old (omega (arith, past, i.room)));
+          room = i.room;
+        }
+
+    pub listing_done : left ≡ [] → Lists edits old now count
+    listing_done none =
+        let same : count ≡ at = omega (arith, i.counted, all, ap length none) in
+        record {
+          count_is = all;
+          written = ap (λ n. map shown_of (take n now)) same
+              ∙ sym (append-nil (map shown_of (take at now)))
+              ∙ ap (λ s. map shown_of (take at now) ++ s) (sym (take-nil (length old - at)))
+              ∙ sym (ap (λ es. map shown_of (take at now)
+              ++ take (length old - at) (listed end new_end es)) none)
+              ∙ i.written;
+          kept = ap (λ n. drop n now) same ∙ i.kept ∙ sym (ap (λ n. drop n old) same);
+          room = i.room;
+        }

@@ -9,6 +9,9 @@ mod ByteParts
 pub mod Bounds
 pub mod Bytes
 pub mod Copying
+pub mod FileFaults
+pub mod FileReads
+pub mod FileWriting
 pub mod Filling
 pub mod FoundChunks
 pub mod Handles

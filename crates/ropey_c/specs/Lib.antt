@@ -13,3 +13,4 @@ pub mod ChangeHandles
 pub mod ChangeStatus
 pub mod ChangeSets
 pub mod ChangeEdits
+pub mod Files

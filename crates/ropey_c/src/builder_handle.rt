@@ -1,4 +1,4 @@
-//! What a program in C holds of a builder.
+//! The handle by which a program in C holds a builder.
 ghost use Rattle.std.specs.Prelude.{◌≡◌, Option, None, Some, MatchOption};
 ghost use Rattle.std.specs.Coded.{coded_option};
 ghost use Rattle.ropey_c.specs.Intake.{Taking};

@@ -1,4 +1,4 @@
-//! Builders: ropes of bytes that come in parts, as a file does.
+//! Builders: ropes of bytes that arrive in pieces, as a file does.
 ghost use Rattle.std.specs.Prelude.{◌≡◌, None};
 ghost use Rattle.ropey_c.specs.Builders.{Begins, TakesAt, FinishesAt};
 ghost use Rattle.ropey_c.specs.Status.{given_breaks};
@@ -14,7 +14,7 @@ use std::alloc::Global;
 ///
 /// # Errors
 ///
-/// `UNKNOWN_BREAK_SET`, then `OUT_OF_MEMORY`. A refused call leaves the handle as it was.
+/// `UNKNOWN_BREAK_SET`, then `OUT_OF_MEMORY`. A call that fails leaves the handle as it was.
 #[unsafe(no_mangle)]
 pub extern "C" fn ropey_builder_new(
     alloc: Global,
@@ -38,17 +38,16 @@ pub extern "C" fn ropey_builder_new(
     }
 }
 
-/// Gives the builder the bytes that follow. They may end inside a character, which the next bytes
-/// go on with.
+/// Appends bytes. They may end inside a character, which the next bytes continue.
 ///
-/// Takes time and memory in proportion to the bytes. No bytes take no memory.
+/// Takes time and memory in proportion to the bytes, and no memory if there are none.
 ///
 /// # Errors
 ///
-/// `NO_BUILDER_HELD`; then what an earlier append was refused for; then `INVALID_UTF8`, where four
-/// or more of the bytes are left behind what is text, which writes to `valid` how many bytes of all
-/// that was given are text; then `TOO_LONG`, then `OUT_OF_MEMORY`. After a refusal every later call
-/// is refused for the same reason, and leaves `valid` as it was.
+/// `NO_BUILDER_HELD`; then the error of an earlier append; then `INVALID_UTF8` if four or more
+/// bytes follow the text, which writes to `valid` how many bytes of all that were given are text;
+/// then `TOO_LONG`, then `OUT_OF_MEMORY`. After an error every later call fails with the same
+/// error, and leaves `valid` as it was.
 #[unsafe(no_mangle)]
 pub extern "C" fn ropey_builder_append(
     alloc: Global,
@@ -66,15 +65,15 @@ pub extern "C" fn ropey_builder_append(
     status
 }
 
-/// Makes the rope of all that was given, in as few chunks as `ropey_from_text` does, and frees the
-/// one that `rope` held. Afterwards the handle holds no builder, refused or not.
+/// Makes the rope of all bytes that were given, in as few chunks as `ropey_from_text` does, and
+/// frees the one that `rope` held. Afterwards the handle holds no builder, also if the call fails.
 ///
 /// # Errors
 ///
-/// `NO_BUILDER_HELD`; then what an append was refused for; then `INVALID_UTF8`, where the bytes end
-/// behind what is text, which writes to `valid` how many bytes are; then `OUT_OF_MEMORY`. A refused
-/// call leaves `rope` as it was. Only the `INVALID_UTF8` of this call writes to `valid`: one of an
-/// earlier append leaves it as it was.
+/// `NO_BUILDER_HELD`; then the error of an earlier append; then `INVALID_UTF8` if the bytes end
+/// inside a character, which writes to `valid` how many bytes are text; then `OUT_OF_MEMORY`. A
+/// call that fails leaves `rope` as it was. Only the `INVALID_UTF8` of this call writes to `valid`:
+/// one of an earlier append leaves it as it was.
 #[unsafe(no_mangle)]
 pub extern "C" fn ropey_builder_finish(
     alloc: Global,

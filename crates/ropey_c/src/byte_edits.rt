@@ -1,5 +1,4 @@
-//! Ropes that are changed at places counted in bytes. Each call finds its characters first, and
-//! takes no memory for it.
+//! Edits of ropes at byte indices. Each call looks up the characters first, without memory.
 ghost use Rattle.std.specs.Prelude.{◌≡◌, ◌<◌, ◌≤◌, [], length, Some, None, IfErr, IfOk};
 ghost use Rattle.std.specs.Str.{chars};
 ghost use Rattle.rope_text.specs.Conversions.{byte_to_char};
@@ -33,7 +32,7 @@ fn char_at_byte(rope: &Rope, byte_idx: usize) -> Result<usize>
     Ok(char_idx)
 }
 
-// The characters that a range of bytes has, from a start up to an end.
+// The range of characters that a range of bytes covers.
 pub(crate) fn chars_of_bytes(rope: &Rope, start: usize, end: usize) -> Result<(usize, usize)>
     ensures ok { IfOk result
         (λ bounds. (byte_range_error rope.now.text (Some start) (Some end) ≡ None)
@@ -71,13 +70,13 @@ fn insert_at_byte(rope: &mut Rope, byte_idx: usize, text: &[u8]) -> u32
 /// Inserts the text before the byte `byte_idx`, counted from 0; for the number of bytes, at the
 /// end.
 ///
-/// An empty text takes no memory. No text of the rope is walked.
+/// An empty text takes no memory. No text of the rope is scanned.
 ///
 /// # Errors
 ///
 /// `NO_ROPE_HELD`, then `INVALID_UTF8`, then `BYTE_INDEX_OUT_OF_BOUNDS`, then
-/// `BYTE_INDEX_NOT_CHAR_BOUNDARY`, then `TOO_LONG`, then `OUT_OF_MEMORY`. A refused call leaves the
-/// rope as it was.
+/// `BYTE_INDEX_NOT_CHAR_BOUNDARY`, then `TOO_LONG`, then `OUT_OF_MEMORY`. A call that fails leaves
+/// the rope as it was.
 #[unsafe(no_mangle)]
 pub extern "C" fn ropey_insert_at_byte(
     alloc: Global,
@@ -120,13 +119,14 @@ fn remove_bytes(rope: &mut Rope, start: usize, end: usize) -> u32
     }
 }
 
-/// Takes the bytes from `start` up to `end` out, counted from 0. An empty range takes no memory and
-/// changes nothing. No text is walked.
+/// Removes the bytes from `start` up to `end`, counted from 0. An empty range takes no memory and
+/// changes nothing. No text is scanned.
 ///
 /// # Errors
 ///
 /// `NO_ROPE_HELD`, then `BYTE_RANGE_INVALID`, then `BYTE_RANGE_OUT_OF_BOUNDS`, then
-/// `BYTE_RANGE_NOT_CHAR_BOUNDARY`, then `OUT_OF_MEMORY`. A refused call leaves the rope as it was.
+/// `BYTE_RANGE_NOT_CHAR_BOUNDARY`, then `OUT_OF_MEMORY`. A call that fails leaves the rope as it
+/// was.
 #[unsafe(no_mangle)]
 pub extern "C" fn ropey_remove_bytes(
     alloc: Global,

@@ -174,18 +174,15 @@ fn shown<'a>(edit: &EditRange<'a>) -> Replacement<'a>
 fn list<'a>(changes: &'a ChangeSet, edits: &mut [Replacement<'a>]) -> usize
     ensures { Lists changes.now.edits edits.old edits.new result }
 {
-    // Asked for the proof alone: each replacement changes a character, and each but the first keeps
-    // one, so their number is a `usize`.
-    let _ = changes.is_empty();
-    let _ = changes.len_before();
-    let _ = changes.len_after();
     let mut left = changes.edits();
-    let mut count = 0;
-    while let Some(edit) = left.next() {
-        if count < edits.len() {
-            edits[count] = shown(&edit);
-        }
-        count += 1;
+    let count = left.len();
+    let mut at = 0;
+    while at < edits.len() {
+        let Some(edit) = left.next() else {
+            return count;
+        };
+        edits[at] = shown(&edit);
+        at += 1;
     }
     count
 }

@@ -35,12 +35,12 @@ fn insert(rope: &mut Rope, char_idx: usize, text: &[u8]) -> u32
 /// Inserts the text before the character `char_idx`, counted from 0; for the number of characters,
 /// at the end.
 ///
-/// An empty text takes no memory. No text of the rope is walked.
+/// An empty text takes no memory. No text of the rope is scanned.
 ///
 /// # Errors
 ///
 /// `NO_ROPE_HELD`, then `INVALID_UTF8`, then `CHAR_INDEX_OUT_OF_BOUNDS`, then `TOO_LONG`, then
-/// `OUT_OF_MEMORY`. A refused call leaves the rope as it was.
+/// `OUT_OF_MEMORY`. A call that fails leaves the rope as it was.
 #[unsafe(no_mangle)]
 pub extern "C" fn ropey_insert(
     alloc: Global,
@@ -79,12 +79,12 @@ fn insert_char(rope: &mut Rope, char_idx: usize, c: u32) -> u32
 }
 
 /// Inserts the character `c`, a Unicode scalar value, before the character `char_idx`, counted from
-/// 0; for the number of characters, at the end. No text is walked.
+/// 0; for the number of characters, at the end. No text is scanned.
 ///
 /// # Errors
 ///
 /// `NO_ROPE_HELD`, then `NOT_A_CHARACTER`, then `CHAR_INDEX_OUT_OF_BOUNDS`, then `TOO_LONG`, then
-/// `OUT_OF_MEMORY`. A refused call leaves the rope as it was.
+/// `OUT_OF_MEMORY`. A call that fails leaves the rope as it was.
 #[unsafe(no_mangle)]
 pub extern "C" fn ropey_insert_char(
     alloc: Global,
@@ -105,13 +105,13 @@ pub extern "C" fn ropey_insert_char(
     status
 }
 
-/// Takes the characters from `start` up to `end` out, counted from 0. An empty range takes no
-/// memory and changes nothing. No text is walked.
+/// Removes the characters from `start` up to `end`, counted from 0. An empty range takes no memory
+/// and changes nothing. No text is scanned.
 ///
 /// # Errors
 ///
 /// `NO_ROPE_HELD`, then `CHAR_RANGE_OUT_OF_BOUNDS`, then `CHAR_RANGE_INVALID`, then
-/// `OUT_OF_MEMORY`. A refused call leaves the rope as it was.
+/// `OUT_OF_MEMORY`. A call that fails leaves the rope as it was.
 #[unsafe(no_mangle)]
 pub extern "C" fn ropey_remove(alloc: Global, rope: &mut Handle, start: usize, end: usize) -> u32
     ensures changes { Changes rope.old.rope rope.new.rope result
@@ -130,7 +130,7 @@ pub extern "C" fn ropey_remove(alloc: Global, rope: &mut Handle, start: usize, e
     status
 }
 
-// Splits a clone, so that the rope stays where there is no memory for the handle of its tail.
+// Splits a clone, so that the rope is unchanged if there is no memory for the handle of its tail.
 fn split_off(alloc: Global, rope: &mut Rope, char_idx: usize, tail: &mut Handle) -> u32
     ensures status { IsStatus (char_index_error char_idx (length rope.old.text)) result }
     ensures front { result ≡ OK → rope.new.text ≡ take char_idx rope.old.text }
@@ -159,12 +159,13 @@ fn split_off(alloc: Global, rope: &mut Rope, char_idx: usize, tail: &mut Handle)
     OK
 }
 
-/// Keeps the first `char_idx` characters, puts the others into `tail`, with the same set of line
-/// breaks, and frees the rope that `tail` held. The two share what they can. No text is walked.
+/// Splits the rope: keeps the first `char_idx` characters, puts the others into `tail`, with the
+/// same set of line breaks, and frees the rope that `tail` held. Nodes off the cut are reused. No
+/// text is scanned.
 ///
 /// # Errors
 ///
-/// `NO_ROPE_HELD`, then `CHAR_INDEX_OUT_OF_BOUNDS`, then `OUT_OF_MEMORY`. A refused call leaves
+/// `NO_ROPE_HELD`, then `CHAR_INDEX_OUT_OF_BOUNDS`, then `OUT_OF_MEMORY`. A call that fails leaves
 /// both handles as they were.
 #[unsafe(no_mangle)]
 pub extern "C" fn ropey_split_off(
@@ -191,7 +192,7 @@ pub extern "C" fn ropey_split_off(
     status
 }
 
-// Whether another rope may be put behind one, but for memory.
+// Whether another rope can be appended to one, memory aside.
 fn may_append(rope: &Rope, other: &Rope) -> Result<()>
     ensures ok { OnOk result
         (append_error rope.now.breaks other.now.breaks rope.now.text other.now.text ≡ None) }
@@ -207,15 +208,15 @@ fn may_append(rope: &Rope, other: &Rope) -> Result<()>
     Ok(())
 }
 
-/// Puts the text of `other` behind the rope's. The rope shares what it can of the other's tree, and
-/// `other` holds no rope afterwards, also where memory was refused; every other refusal leaves it
-/// as it was. No text is walked.
+/// Appends the text of `other`, and reuses the nodes of its tree off the seam. Afterwards `other`
+/// holds no rope, also after `OUT_OF_MEMORY`; every other error leaves it as it was. No text is
+/// scanned.
 ///
 /// # Errors
 ///
-/// `NO_ROPE_HELD`, then `BREAK_SETS_DIFFER`, then `TOO_LONG`, then `OUT_OF_MEMORY`. A refused call
-/// leaves the rope as it was. A caller who needs the other rope where memory is refused appends a
-/// clone of it. Where one of two ropes with one set of line breaks is empty, no memory is taken.
+/// `NO_ROPE_HELD`, then `BREAK_SETS_DIFFER`, then `TOO_LONG`, then `OUT_OF_MEMORY`. A call that
+/// fails leaves the rope as it was. To keep the other rope after `OUT_OF_MEMORY`, append a clone of
+/// it. If one of two ropes with one set of line breaks is empty, no memory is taken.
 #[unsafe(no_mangle)]
 pub extern "C" fn ropey_append(alloc: Global, rope: &mut Handle, other: &mut Handle) -> u32
     ensures none { rope.old.rope ≡ None

@@ -1,7 +1,7 @@
-//! The chunk of a rope at a place, as a pointer to its bytes.
+//! The chunk of a rope at an index, as a pointer to its bytes.
 //!
 //! The bytes belong to the rope, and are lent for as long as its handle is: until it is edited or
-//! freed. Each call costs one look-up and takes no memory.
+//! freed. Each call costs one lookup and takes no memory.
 ghost use Rattle.std.specs.Prelude.{◌≡◌, length, MatchOption};
 ghost use Rattle.std.specs.Str.{chars};
 ghost use Rattle.rope_text.specs.Text.{byte_len};
@@ -16,7 +16,7 @@ use crate::status::{
 };
 
 /// A chunk: its bytes, which are lent, and the bytes, the characters and the line breaks of the
-/// text before it. C sees the bytes as a pointer, which is never null, and their number. Where the
+/// text before it. C sees the bytes as a pointer, which is never null, and their number. If the
 /// rope is empty all numbers are 0.
 #[repr(C)]
 #[derive(Drop)]
@@ -44,7 +44,7 @@ fn chunk_of(
     }
 }
 
-// Writes what was found where the caller wants it.
+// Writes the chunk that was found to `chunk`.
 fn write_chunk<'a>(
     found: Option<(&'a str, usize, usize, usize)>,
     missing: u32,
@@ -62,7 +62,7 @@ fn write_chunk<'a>(
     }
 }
 
-/// The chunk that holds the byte `byte_idx`, and at the end of the text the last chunk.
+/// Writes the chunk that holds the byte `byte_idx`, and at the end of the text the last chunk.
 ///
 /// # Errors
 ///
@@ -89,7 +89,7 @@ pub extern "C" fn ropey_chunk_at_byte<'a>(
     )
 }
 
-/// The chunk that holds the character `char_idx`, and at the end of the text the last chunk.
+/// Writes the chunk that holds the character `char_idx`, and at the end of the text the last chunk.
 ///
 /// # Errors
 ///
@@ -116,8 +116,8 @@ pub extern "C" fn ropey_chunk_at_char<'a>(
     )
 }
 
-/// The chunk that holds the line break before the line `line_idx`; for the first line the first
-/// chunk, and for the number of lines the last.
+/// Writes the chunk that holds the line break before the line `line_idx`; for the first line the
+/// first chunk, and for the number of lines the last.
 ///
 /// # Errors
 ///

@@ -1,5 +1,5 @@
-//! The texts of ropes compared, however they are cut and whatever their sets of line breaks. No
-//! call takes memory.
+//! Comparisons of the texts of ropes, whatever their chunks and their sets of line breaks. No call
+//! takes memory.
 ghost use Rattle.std.specs.Prelude.{◌≡◌, IsTrue, ◌↔◌, Some, None};
 ghost use Rattle.std.specs.Str.{chars, IsUtf8};
 ghost use Rattle.rope_text.specs.Compare.{text_cmp};
@@ -23,8 +23,8 @@ fn sign_of(order: Ordering) -> i32
     }
 }
 
-/// The lexicographic order of the bytes of two texts: -1 where the rope's comes first, 0 where they
-/// are the same, and else 1. Reads both texts up to where they differ.
+/// Writes the lexicographic order of the bytes of two texts: -1 if the rope's comes first, 0 if
+/// they are equal, and 1 if the other's comes first. Reads both texts up to the first difference.
 ///
 /// # Errors
 ///
@@ -54,7 +54,7 @@ fn equals(rope: &Rope, text: &[u8], equal: &mut bool) -> u32
     OK
 }
 
-/// Whether the rope's text is this one. Reads both texts up to where they differ.
+/// Writes whether the rope's text is this one. Reads both texts up to the first difference.
 ///
 /// # Errors
 ///

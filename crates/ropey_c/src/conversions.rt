@@ -1,8 +1,7 @@
 //! Conversions between the indices of a rope: bytes, characters, UTF-16 code units and lines, all
 //! counted from 0.
 //!
-//! Each writes its answer where the caller wants it, and where it is refused it writes nothing.
-//! Each costs one look-up and takes no memory.
+//! Each costs one lookup and takes no memory. A call that fails writes nothing.
 ghost use Rattle.std.specs.Prelude.{◌≡◌, length};
 ghost use Rattle.rope_text.specs.Text.{byte_len, utf16_len};
 ghost use Rattle.rope_text.specs.Lines.{line_count};
@@ -15,8 +14,8 @@ ghost use Rattle.ropey_c.specs.Answers.{AnswersAt};
 use crate::lent::Lent;
 use crate::status::{NO_ROPE_HELD, answer};
 
-/// The character that holds the byte `byte_idx`, also where the byte is inside the character; at
-/// the end of the text, the number of characters.
+/// Writes the character that holds the byte `byte_idx`, also if the byte is inside the character;
+/// at the end of the text, the number of characters.
 ///
 /// # Errors
 ///
@@ -34,8 +33,8 @@ pub extern "C" fn ropey_byte_to_char(rope: &Lent, byte_idx: usize, char_idx: &mu
     answer(held.try_byte_to_char(byte_idx), char_idx)
 }
 
-/// The line on which the byte `byte_idx` lies. A byte inside a break of several bytes lies on the
-/// line that the break ends.
+/// Writes the line of the byte `byte_idx`. A byte inside a break of several bytes is on the line
+/// that the break ends.
 ///
 /// # Errors
 ///
@@ -54,7 +53,8 @@ pub extern "C" fn ropey_byte_to_line(rope: &Lent, byte_idx: usize, line_idx: &mu
     answer(held.try_byte_to_line(byte_idx), line_idx)
 }
 
-/// The byte at which the character `char_idx` starts; at the end of the text, the number of bytes.
+/// Writes the byte at which the character `char_idx` starts; at the end of the text, the number of
+/// bytes.
 ///
 /// # Errors
 ///
@@ -72,8 +72,7 @@ pub extern "C" fn ropey_char_to_byte(rope: &Lent, char_idx: usize, byte_idx: &mu
     answer(held.try_char_to_byte(char_idx), byte_idx)
 }
 
-/// The line on which the character `char_idx` lies. The place between CR and LF lies on the line
-/// that the pair ends.
+/// Writes the line of the character `char_idx`. The LF of a CR LF is on the line that the two end.
 ///
 /// # Errors
 ///
@@ -92,8 +91,8 @@ pub extern "C" fn ropey_char_to_line(rope: &Lent, char_idx: usize, line_idx: &mu
     answer(held.try_char_to_line(char_idx), line_idx)
 }
 
-/// The UTF-16 code unit at which the character `char_idx` starts; at the end of the text, the
-/// number of code units.
+/// Writes the UTF-16 code unit at which the character `char_idx` starts; at the end of the text,
+/// the number of code units.
 ///
 /// # Errors
 ///
@@ -111,7 +110,7 @@ pub extern "C" fn ropey_char_to_utf16(rope: &Lent, char_idx: usize, utf16_idx: &
     answer(held.try_char_to_utf16_cu(char_idx), utf16_idx)
 }
 
-/// The character that holds the UTF-16 code unit `utf16_idx`, also where that is the second half of
+/// Writes the character that holds the UTF-16 code unit `utf16_idx`, also if that is the second of
 /// a surrogate pair; at the end of the text, the number of characters.
 ///
 /// # Errors
@@ -131,7 +130,8 @@ pub extern "C" fn ropey_utf16_to_char(rope: &Lent, utf16_idx: usize, char_idx: &
     answer(held.try_utf16_cu_to_char(utf16_idx), char_idx)
 }
 
-/// The byte at which the line `line_idx` starts; for the number of lines, the end of the text.
+/// Writes the byte at which the line `line_idx` starts; for the number of lines, the end of the
+/// text.
 ///
 /// # Errors
 ///
@@ -150,7 +150,8 @@ pub extern "C" fn ropey_line_to_byte(rope: &Lent, line_idx: usize, byte_idx: &mu
     answer(held.try_line_to_byte(line_idx), byte_idx)
 }
 
-/// The character at which the line `line_idx` starts; for the number of lines, the end of the text.
+/// Writes the character at which the line `line_idx` starts; for the number of lines, the end of
+/// the text.
 ///
 /// # Errors
 ///

@@ -14,8 +14,8 @@ use crate::status::{BUFFER_TOO_SMALL, NO_ROPE_HELD, OK, status_of};
 use rope_text::range::char_bounds;
 use ropey::{Rope, RopeSlice};
 
-// Writes the bytes over those from a place on.
-fn write_at(buffer: &mut [u8], at: usize, bytes: &[u8])
+// Writes the bytes over those from an index on.
+pub(crate) fn write_at(buffer: &mut [u8], at: usize, bytes: &[u8])
     requires { at + length bytes.now ≤ length buffer.old }
     ensures { buffer.new
         ≡ take at buffer.old ++ bytes.now ++ drop (at + length bytes.now) buffer.old }
@@ -24,7 +24,7 @@ fn write_at(buffer: &mut [u8], at: usize, bytes: &[u8])
 }
 
 // Writes the chunks to the front of a buffer that has room for them.
-fn copy_chunks(slice: &RopeSlice<'_>, buffer: &mut [u8])
+pub(crate) fn copy_chunks(slice: &RopeSlice<'_>, buffer: &mut [u8])
     requires { byte_len (text_of slice.now) ≤ length buffer.old }
     ensures { buffer.new
         ≡ encode_utf8_all (text_of slice.now) ++ drop (byte_len (text_of slice.now)) buffer.old }
@@ -63,8 +63,8 @@ fn copy_chars(rope: &Rope, start: usize, end: usize, buffer: &mut [u8], len: &mu
 }
 
 /// Copies the text of the characters from `start` up to `end`, counted from 0, to the front of the
-/// buffer, and writes its number of bytes to `len`. The bytes of the buffer behind it stay. Costs
-/// two look-ups and a copy.
+/// buffer, and writes its number of bytes to `len`. The bytes of the buffer after it stay. Costs
+/// two lookups and a copy.
 ///
 /// # Errors
 ///
@@ -105,8 +105,8 @@ fn copy_bytes(rope: &Rope, start: usize, end: usize, buffer: &mut [u8], len: &mu
 }
 
 /// Copies the text of the bytes from `start` up to `end`, counted from 0, to the front of the
-/// buffer, and writes their number to `len`. The bytes of the buffer behind it stay. Costs two
-/// look-ups and a copy.
+/// buffer, and writes their number to `len`. The bytes of the buffer after it stay. Costs two
+/// lookups and a copy.
 ///
 /// # Errors
 ///

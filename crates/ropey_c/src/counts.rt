@@ -1,4 +1,4 @@
-//! How much text there is in a part of a rope. Each call costs two look-ups, and takes no memory.
+//! The counts of a part of a rope. Each call costs two lookups and takes no memory.
 ghost use Rattle.std.specs.Prelude.{◌≡◌, length, Some};
 ghost use Rattle.std.specs.List.{slice_range};
 ghost use Rattle.rope_text.specs.Conversions.{byte_to_char};
@@ -12,7 +12,7 @@ use crate::status::{NO_ROPE_HELD, OK, status_of};
 use rope_text::range::char_bounds;
 use ropey::{Rope, RopeSlice};
 
-/// How much text there is, in each of the units.
+/// The counts of a text, in each of the units.
 #[repr(C)]
 #[derive(Clone, Copy)]
 pub struct Counts {
@@ -47,8 +47,8 @@ fn count_chars(rope: &Rope, start: usize, end: usize, counts: &mut Counts) -> u3
     }
 }
 
-/// How much text the characters from `start` up to `end` are, counted from 0, as a text of their
-/// own: a CR whose LF lies outside is a line break by itself.
+/// Writes the counts of the characters from `start` up to `end`, counted from 0, as a text of their
+/// own: a CR whose LF is outside is a line break by itself.
 ///
 /// # Errors
 ///
@@ -87,7 +87,7 @@ fn count_bytes(rope: &Rope, start: usize, end: usize, counts: &mut Counts) -> u3
     }
 }
 
-/// How much text the bytes from `start` up to `end` are, counted from 0, as a text of their own.
+/// Writes the counts of the bytes from `start` up to `end`, counted from 0, as a text of their own.
 ///
 /// # Errors
 ///

@@ -1,4 +1,4 @@
-//! Bytes that come in parts, cut anywhere, of which a rope is made.
+//! Bytes that arrive in pieces, cut anywhere, and become a rope.
 ghost use Rattle.std.specs.Prelude.{◌≡◌, ◌≢◌, ◌+◌, ◌-◌, ◌<◌, ◌≤◌, ◌++◌, length, take, Some, None, IfOk, OnOk};
 ghost use Rattle.std.specs.Bool.{MatchBool};
 ghost use Rattle.std.specs.Str.{chars};
@@ -16,9 +16,9 @@ use ropey::{Result, Rope, RopeBuilder};
 use std::alloc::Global;
 use std::marker::Model;
 
-/// A builder that takes bytes: what is text goes to a builder of ropes, and up to 3 bytes of a
-/// character that isn't whole yet wait for the next ones. Contracts see the text, what waits, and
-/// the refusal, if there was one.
+/// A builder that takes bytes: whole characters go to a builder of ropes, and up to 3 bytes of a
+/// character that isn't whole yet wait for the next ones. Contracts see the text, the bytes that
+/// wait, and the error, if there was one.
 #[derive(Drop)]
 pub struct Intake {
     texts: RopeBuilder,
@@ -69,7 +69,7 @@ impl Intake {
         })
     }
 
-    // Remembers a refusal.
+    // Remembers an error.
     fn refuse(&mut self, status: u32) -> u32
         requires { 0 < status }
         ensures result { result ≡ status }
@@ -156,7 +156,7 @@ impl Intake {
         self.settle(first, &bytes[first.len() - self.rest_len..], valid)
     }
 
-    // Takes the bytes that follow, and writes where the first is that can't be text.
+    // Takes the bytes that follow, and writes the index of the first that can't be text.
     pub(crate) fn append(&mut self, bytes: &[u8], valid: &mut usize) -> u32
         ensures { Takes self.old bytes.now result valid.old valid.new self.new }
     {
@@ -172,7 +172,7 @@ impl Intake {
         self.settle("", bytes, valid)
     }
 
-    // The rope of all that was taken.
+    // Returns the rope of all bytes that were taken.
     pub(crate) fn finish(self, valid: &mut usize) -> std::result::Result<Rope, u32>
         ensures { Finishes self result valid.old valid.new }
     {

@@ -1,5 +1,5 @@
-//! The lengths of a rope. Each takes constant time and no memory, and is 0 where the handle holds
-//! no rope.
+//! The lengths of a rope. Each takes constant time and no memory, and is 0 if the handle holds no
+//! rope.
 ghost use Rattle.std.specs.Prelude.{◌≡◌, length, Result, Ok};
 ghost use Rattle.rope_text.specs.Text.{byte_len, utf16_len};
 ghost use Rattle.rope_text.specs.Lines.{line_count};
@@ -7,7 +7,7 @@ ghost use Rattle.ropey_c.specs.Handles.{len_at, HoldsRope};
 
 use crate::lent::Lent;
 
-/// The length in bytes.
+/// Returns the length in bytes.
 #[unsafe(no_mangle)]
 pub extern "C" fn ropey_len_bytes(rope: &Lent) -> usize
     ensures len { result ≡ len_at rope.now.rope (λ r. byte_len r.text) }
@@ -19,7 +19,7 @@ pub extern "C" fn ropey_len_bytes(rope: &Lent) -> usize
     }
 }
 
-/// The length in characters.
+/// Returns the length in characters.
 #[unsafe(no_mangle)]
 pub extern "C" fn ropey_len_chars(rope: &Lent) -> usize
     ensures len { result ≡ len_at rope.now.rope (λ r. length r.text) }
@@ -31,7 +31,7 @@ pub extern "C" fn ropey_len_chars(rope: &Lent) -> usize
     }
 }
 
-/// The number of lines: one more than there are line breaks.
+/// Returns the number of lines: one more than there are line breaks.
 #[unsafe(no_mangle)]
 pub extern "C" fn ropey_len_lines(rope: &Lent) -> usize
     ensures len { result ≡ len_at rope.now.rope (λ r. line_count r.breaks r.text) }
@@ -43,7 +43,7 @@ pub extern "C" fn ropey_len_lines(rope: &Lent) -> usize
     }
 }
 
-/// The length in UTF-16 code units.
+/// Returns the length in UTF-16 code units.
 #[unsafe(no_mangle)]
 pub extern "C" fn ropey_len_utf16(rope: &Lent) -> usize
     ensures len { result ≡ len_at rope.now.rope (λ r. utf16_len r.text) }

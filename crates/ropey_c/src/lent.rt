@@ -1,4 +1,4 @@
-//! A rope that a program in C lends to calls that look.
+//! A rope that a program in C lends to lookups.
 ghost use Rattle.std.specs.Prelude.{◌≡◌, Option, None, Some, MatchOption};
 ghost use Rattle.std.specs.Coded.{coded_option};
 ghost use Rattle.ropey.specs.View.{RopeView, IsRope};
@@ -7,8 +7,8 @@ ghost use Rattle.ropey_c.specs.Handles.{rope_code};
 use ropey::Rope;
 use std::marker::Model;
 
-/// The handle of a rope, as a call sees it that looks and changes nothing: C passes a pointer to
-/// `const`. Any number of such calls may have it at once.
+/// The handle of a rope as lookups see it: C passes a pointer to `const`. Any number of lookups may
+/// use it at once.
 #[repr(C)]
 pub struct Lent {
     ptr: *mut u8,
@@ -22,7 +22,7 @@ impl Model for Lent {
 }
 
 impl Lent {
-    // What lies at the pointer, for as long as the handle is lent.
+    // Returns the rope at the pointer, for as long as the handle is lent.
     fn behind<'a>(&'a self) -> Option<&'a Rope>
         ensures { MatchOption result (self.now.rope ≡ None)
             (λ rope. self.now.rope ≡ Some rope.now) }
@@ -34,7 +34,7 @@ impl Lent {
         Some(unsafe { &*at.cast() })
     }
 
-    // The rope, if there is one.
+    // Returns the rope, if there is one.
     pub(crate) fn held<'a>(&'a self) -> Option<&'a Rope>
         ensures found { MatchOption result (self.now.rope ≡ None)
             (λ rope. self.now.rope ≡ Some rope.now) }

@@ -1,5 +1,5 @@
-//! The bytes, the characters and the lines of a rope by their index. Each call costs a look-up or
-//! two, and takes no memory; one that is refused writes nothing.
+//! The bytes, the characters and the lines of a rope by their index. Each call costs a lookup or
+//! two and takes no memory. A call that fails writes nothing.
 ghost use Rattle.std.specs.Prelude.{◌≡◌, ◌+◌, ◌<◌, length, slice_get, Some};
 ghost use Rattle.std.specs.Str.{encode_utf8_all};
 ghost use Rattle.rope_text.specs.Conversions.{line_to_char};
@@ -15,8 +15,7 @@ use crate::status::{
 };
 use ropey::Rope;
 
-/// A part of a text, from `start` up to `end`, which is the first that is not in it. Both are
-/// counted from 0.
+/// A range of a text, from `start` up to `end`, the first index after it. Both count from 0.
 #[repr(C)]
 #[derive(Clone, Copy)]
 pub struct Span {
@@ -24,7 +23,7 @@ pub struct Span {
     pub end: usize,
 }
 
-/// The number that stands for the rope's set of line breaks. Takes constant time.
+/// Writes the number that stands for the rope's set of line breaks. Takes constant time.
 ///
 /// # Errors
 ///
@@ -42,7 +41,7 @@ pub extern "C" fn ropey_get_break_set(rope: &Lent, break_set: &mut u32) -> u32
     OK
 }
 
-/// The byte `byte_idx`, counted from 0.
+/// Writes the byte `byte_idx`, counted from 0.
 ///
 /// # Errors
 ///
@@ -65,7 +64,7 @@ pub extern "C" fn ropey_byte(rope: &Lent, byte_idx: usize, byte: &mut u8) -> u32
     }
 }
 
-/// The character `char_idx`, counted from 0, as a Unicode scalar value.
+/// Writes the character `char_idx`, counted from 0, as a Unicode scalar value.
 ///
 /// # Errors
 ///
@@ -101,7 +100,8 @@ fn find_line(rope: &Rope, line_idx: usize, chars: &mut Span) -> u32
     OK
 }
 
-/// The characters of the line `line_idx`, counted from 0, its line break among them.
+/// Writes the range of the characters of the line `line_idx`, counted from 0, including its line
+/// break.
 ///
 /// # Errors
 ///

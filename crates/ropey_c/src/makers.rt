@@ -1,4 +1,4 @@
-//! Ropes that are made, cloned and freed.
+//! Calls that make, clone and free ropes.
 ghost use Rattle.std.specs.Prelude.{◌≡◌, ◌<◌, ◌⊎◌, [], length, None, Some, IfSome, IsSomeAnd, MatchOption, MatchResult};
 ghost use Rattle.std.specs.Str.{IsUtf8, chars};
 ghost use Rattle.rope_text.specs.declared.error.Error.TheVariants.{OutOfMemory};
@@ -65,8 +65,8 @@ fn make_checked(alloc: Global, text: &[u8], breaks: LineBreaks, rope: &mut Handl
 ///
 /// # Errors
 ///
-/// `UNKNOWN_BREAK_SET`, then `INVALID_UTF8`, then `OUT_OF_MEMORY`. A refused call leaves the handle
-/// as it was.
+/// `UNKNOWN_BREAK_SET`, then `INVALID_UTF8`, then `OUT_OF_MEMORY`. A call that fails leaves the
+/// handle as it was.
 #[unsafe(no_mangle)]
 pub extern "C" fn ropey_from_text(
     alloc: Global,
@@ -86,15 +86,15 @@ pub extern "C" fn ropey_from_text(
     }
 }
 
-/// Makes a rope of a copy of a text that is known to be UTF-8, without reading it to find out, and
-/// frees the one that the handle held. That is its condition: what it makes of other bytes is no
-/// rope, and anything may come of it later.
+/// Makes a rope of a copy of a text without checking that it is UTF-8, and frees the one that the
+/// handle held. The text must be UTF-8: of other bytes the call makes no rope, and later calls may
+/// do anything.
 ///
 /// Takes time and memory in proportion to the text, which is at most `isize::MAX` bytes.
 ///
 /// # Errors
 ///
-/// `UNKNOWN_BREAK_SET`, then `OUT_OF_MEMORY`. A refused call leaves the handle as it was.
+/// `UNKNOWN_BREAK_SET`, then `OUT_OF_MEMORY`. A call that fails leaves the handle as it was.
 #[unsafe(no_mangle)]
 pub extern "C" fn ropey_from_text_unchecked(
     alloc: Global,
@@ -145,7 +145,7 @@ fn clone_into(alloc: Global, rope: &Rope, copy: &mut Handle) -> u32
 ///
 /// # Errors
 ///
-/// `NO_ROPE_HELD`, then `OUT_OF_MEMORY`. A refused call leaves `copy` as it was.
+/// `NO_ROPE_HELD`, then `OUT_OF_MEMORY`. A call that fails leaves `copy` as it was.
 #[unsafe(no_mangle)]
 pub extern "C" fn ropey_clone(alloc: Global, rope: &Lent, copy: &mut Handle) -> u32
     ensures status { MatchOption rope.now.rope (result ≡ NO_ROPE_HELD) (λ _. IsStatus None result) }
@@ -182,14 +182,13 @@ fn keep_part(alloc: Global, part: RopeSlice<'_>, rope: &mut Handle) -> u32
 }
 
 /// Makes a rope of the characters from `start` up to `end`, counted from 0, and frees the one that
-/// `copy` held. The two ropes share the nodes that lie within the range until one of them is
-/// edited, which leaves the other as it was. Takes time and memory for the nodes along the two
-/// cuts.
+/// `copy` held. The two ropes share the nodes within the range until one of them is edited, which
+/// leaves the other as it was. Takes time and memory for the nodes on the two cuts.
 ///
 /// # Errors
 ///
 /// `NO_ROPE_HELD`, then `CHAR_RANGE_OUT_OF_BOUNDS`, then `CHAR_RANGE_INVALID`, then
-/// `OUT_OF_MEMORY`. A refused call leaves `copy` as it was.
+/// `OUT_OF_MEMORY`. A call that fails leaves `copy` as it was.
 #[unsafe(no_mangle)]
 pub extern "C" fn ropey_clone_chars(
     alloc: Global,
@@ -212,7 +211,7 @@ pub extern "C" fn ropey_clone_chars(
 ///
 /// # Errors
 ///
-/// `NO_ROPE_HELD`, then `OUT_OF_MEMORY`. A refused call leaves the rope as it was.
+/// `NO_ROPE_HELD`, then `OUT_OF_MEMORY`. A call that fails leaves the rope as it was.
 #[unsafe(no_mangle)]
 pub extern "C" fn ropey_shrink_to_fit(alloc: Global, rope: &mut Handle) -> u32
     ensures changes { Changes rope.old.rope rope.new.rope result (λ _. IsStatus None result)

@@ -1,7 +1,7 @@
-//! The chunks of a rope in bulk: one look-up, and then a step a chunk.
+//! The chunks of a rope in bulk: one lookup, and then a step a chunk.
 //!
-//! A program reads a text with it from a place on, some chunks at a time. The bytes belong to the
-//! rope, and are lent for as long as its handle is: until it is edited or freed. No call takes
+//! A program reads a text by them from an index on, several chunks at a time. The bytes belong to
+//! the rope, and are lent for as long as its handle is: until it is edited or freed. No call takes
 //! memory.
 ghost use Rattle.std.specs.Prelude.{◌≡◌, length, Some};
 ghost use Rattle.std.specs.Iterator.{IsFinite};
@@ -37,7 +37,7 @@ fn piece_of(text: &str) -> Piece<'_>
     }
 }
 
-// Asks for texts as far as there is room, writes them, and returns how many they are.
+// Writes texts as far as there is room, and returns their number.
 fn fill<'a, I: Iterator<Item = &'a str>>(mut texts: I, pieces: &mut [Piece<'a>]) -> usize
     requires { I.can_next texts × IsFinite (I.remaining texts) }
     ensures { FillsBy I.next_gives texts pieces.old pieces.new result }
@@ -73,10 +73,10 @@ fn find_pieces<'a>(
     OK
 }
 
-/// The chunks from the one that holds the byte `byte_idx` on, written to `pieces` as far as there
-/// is room. Their number is written to `count`, and how many bytes lie before the first of them to
-/// `bytes_before`. At the end of the text there are none. To go on, a program asks for the byte
-/// past the last piece.
+/// Writes to `pieces` the chunks from the one that holds the byte `byte_idx` on, as far as there is
+/// room, their number to `count`, and the number of bytes before the first of them to
+/// `bytes_before`. At the end of the text there are none. To continue, ask for the byte after the
+/// last piece.
 ///
 /// # Errors
 ///
@@ -119,10 +119,10 @@ fn find_pieces_before<'a>(
     OK
 }
 
-/// The chunks before the one that holds the byte `byte_idx`, the nearest first, written to `pieces`
-/// as far as there is room. Their number is written to `count`, and how many bytes lie before the
-/// chunk that holds the byte to `bytes_before`. At the end of the text the last chunk comes first.
-/// To go on, a program asks for the first byte of the last piece.
+/// Writes to `pieces` the chunks before the one that holds the byte `byte_idx`, the nearest first,
+/// as far as there is room, their number to `count`, and the number of bytes before the chunk that
+/// holds the byte to `bytes_before`. At the end of the text the last chunk comes first. To
+/// continue, ask for the first byte of the last piece.
 ///
 /// # Errors
 ///
@@ -145,8 +145,8 @@ pub extern "C" fn ropey_chunks_before_byte<'a>(
     find_pieces_before(held, byte_idx, pieces, count, bytes_before)
 }
 
-// Writes the chunks ahead as far as there is room, how many they are, and what lies before the
-// first of them.
+// Writes the chunks ahead as far as there is room, their number, and the counts before the first of
+// them.
 fn write_chunks<'a>(
     found: ChunksAt<'a>,
     pieces: &mut [Piece<'a>],
@@ -167,7 +167,7 @@ fn write_chunks<'a>(
     *count = fill(chunks, pieces);
 }
 
-// The same of what was found; where nothing was, answers why.
+// Writes the chunks of a cursor that was found, or returns why none was.
 fn write_found<'a>(
     found: Option<ChunksAt<'a>>,
     missing: u32,
@@ -197,9 +197,9 @@ fn write_found<'a>(
     }
 }
 
-/// The chunks from the one that holds the byte `byte_idx` on, as `ropey_chunks_from_byte` gives
-/// them, with how many bytes, characters and line breaks of the text lie before the first of them.
-/// At the end of the text there are no chunks, and all of the text lies before.
+/// Writes the chunks from the one that holds the byte `byte_idx` on, as `ropey_chunks_from_byte`
+/// does, and the numbers of bytes, characters and line breaks before the first of them. At the end
+/// of the text there are no chunks, and all of the text is before them.
 ///
 /// # Errors
 ///
@@ -236,7 +236,8 @@ pub extern "C" fn ropey_chunks_from_byte_with_before<'a>(
     )
 }
 
-/// The same from the chunk on that holds the character `char_idx`.
+/// Writes the chunks from the one that holds the character `char_idx` on, and the counts before
+/// them, as `ropey_chunks_from_byte_with_before` does.
 ///
 /// # Errors
 ///
@@ -273,8 +274,9 @@ pub extern "C" fn ropey_chunks_from_char_with_before<'a>(
     )
 }
 
-/// The same from the chunk on that holds the line break before the line `line_idx`, and for the
-/// first line from the first chunk on. For the number of lines there are no chunks.
+/// Writes the chunks from the one that holds the line break before the line `line_idx` on, and the
+/// counts before them, as `ropey_chunks_from_byte_with_before` does. For the first line they begin
+/// with the first chunk, and for the number of lines there are none.
 ///
 /// # Errors
 ///
@@ -332,9 +334,9 @@ fn find_line_pieces<'a>(
     OK
 }
 
-/// The bytes of the line `line_idx`, counted from 0, its line break among them, and its pieces from
-/// its start on, written to `pieces` as far as there is room. Their number is written to `count`.
-/// Costs a few look-ups, and then a step a piece.
+/// Writes to `bytes` the range of the line `line_idx`, counted from 0, including its line break, to
+/// `pieces` its pieces from its start on, as far as there is room, and their number to `count`.
+/// Costs a few lookups, and then a step a piece.
 ///
 /// # Errors
 ///

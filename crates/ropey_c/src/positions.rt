@@ -1,6 +1,6 @@
-//! Places as lines and columns, both counted from 0. A column counts UTF-16 code units, or those of
-//! an encoding of the Language Server Protocol. Each call costs a few lookups and takes no memory;
-//! a call that fails writes nothing.
+//! Positions as lines and columns, both counted from 0. A column counts UTF-16 code units, or those
+//! of an encoding of the Language Server Protocol. Each call costs a few lookups and takes no
+//! memory; a call that fails writes nothing.
 ghost use Rattle.std.specs.Prelude.{◌≡◌, length, Ok, Some};
 ghost use Rattle.rope_text.specs.Edit.{char_index_error};
 ghost use Rattle.rope_text.specs.Position as of_text;
@@ -24,7 +24,7 @@ pub struct Place {
     pub column: usize,
 }
 
-// Writes a position where the caller wants it.
+// Writes a position that was found.
 fn answer_place(found: Result<Position>, place: &mut Place) -> u32
     ensures { IsPlace found result place.old place.new }
 {
@@ -40,7 +40,7 @@ fn answer_place(found: Result<Position>, place: &mut Place) -> u32
     }
 }
 
-/// The position of the character `char_idx`, counted from 0, or of the end of the text.
+/// Writes the position of the character `char_idx`, counted from 0, or of the end of the text.
 ///
 /// # Errors
 ///
@@ -59,8 +59,8 @@ pub extern "C" fn ropey_char_to_position(rope: &Lent, char_idx: usize, place: &m
     answer_place(held.try_char_to_position(char_idx), place)
 }
 
-/// The last character of the line that begins at the column or before it; at the line's end, where
-/// the next line starts, or the end of the text.
+/// Writes the last character of the line that begins at the column or before it; at the line's end,
+/// the start of the next line, or the end of the text.
 ///
 /// # Errors
 ///

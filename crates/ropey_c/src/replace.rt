@@ -1,4 +1,4 @@
-//! Parts of a rope's text that are replaced by another: the whole of it is done, or nothing.
+//! Replacements of a range of a rope's text: each is done whole, or not at all.
 ghost use Rattle.std.specs.Prelude.{◌≡◌, ◌<◌, ◌≤◌, ◌^◌, [], length, Some, None, IfSome};
 ghost use Rattle.std.specs.Bool.{MatchBool};
 ghost use Rattle.std.specs.Str.{chars};
@@ -20,7 +20,7 @@ use rope_text::{MAX_TEXT_BYTES, utf8};
 use ropey::Rope;
 use std::alloc::Global;
 
-// The bytes that stay without the characters of a range.
+// The number of bytes without the characters of a range.
 fn len_without(rope: &Rope, start: usize, end: usize) -> usize
     requires ordered { start ≤ end }
     requires within { end ≤ length rope.now.text }
@@ -31,7 +31,7 @@ fn len_without(rope: &Rope, start: usize, end: usize) -> usize
     rope.len_bytes() - cut
 }
 
-// Whether the text that takes the place of a range leaves the whole short enough.
+// Whether the text is short enough after a range of it is replaced.
 fn has_room(rope: &Rope, start: usize, end: usize, text: &str) -> bool
     requires ordered { start ≤ end }
     requires within { end ≤ length rope.now.text }
@@ -41,8 +41,8 @@ fn has_room(rope: &Rope, start: usize, end: usize, text: &str) -> bool
     text.len() <= MAX_TEXT_BYTES - len_without(rope, start, end)
 }
 
-// The rope with another text in the place of a range. It is made beside the old one, which shares
-// what stays.
+// The rope with a range replaced by another text. It is made beside the old one, with which it
+// shares the nodes that stay.
 fn replaced(rope: &Rope, start: usize, end: usize, text: &str) -> Option<Rope>
     requires ordered { start ≤ end }
     requires within { end ≤ length rope.now.text }
@@ -59,8 +59,7 @@ fn replaced(rope: &Rope, start: usize, end: usize, text: &str) -> Option<Rope>
     Some(made)
 }
 
-// Puts the made rope in the place of the old one. Makes none where the range and the text are
-// empty.
+// Replaces the old rope by the new one. Makes none if the range and the text are empty.
 fn exchange(rope: &mut Rope, start: usize, end: usize, text: &str) -> u32
     requires ordered { start ≤ end }
     requires within { end ≤ length rope.old.text }
@@ -109,7 +108,7 @@ fn replace_chars(rope: &mut Rope, start: usize, end: usize, text: &[u8]) -> u32
     }
 }
 
-/// Puts the text in the place of the characters from `start` up to `end`, counted from 0.
+/// Replaces the characters from `start` up to `end`, counted from 0, by the text.
 ///
 /// An empty text in the place of an empty range takes no memory and changes nothing. No text of the
 /// rope is walked.
@@ -117,8 +116,8 @@ fn replace_chars(rope: &mut Rope, start: usize, end: usize, text: &[u8]) -> u32
 /// # Errors
 ///
 /// `NO_ROPE_HELD`, then `INVALID_UTF8`, then `CHAR_RANGE_OUT_OF_BOUNDS`, then `CHAR_RANGE_INVALID`,
-/// then `TOO_LONG`, then `OUT_OF_MEMORY`. A refused call leaves the rope as it was: nothing is
-/// removed where the text can't be inserted.
+/// then `TOO_LONG`, then `OUT_OF_MEMORY`. A call that fails leaves the rope as it was: nothing
+/// is removed if the text can't be inserted.
 #[unsafe(no_mangle)]
 pub extern "C" fn ropey_replace(
     alloc: Global,
@@ -167,7 +166,7 @@ fn replace_bytes(rope: &mut Rope, start: usize, end: usize, text: &[u8]) -> u32
     }
 }
 
-/// Puts the text in the place of the bytes from `start` up to `end`, counted from 0.
+/// Replaces the bytes from `start` up to `end`, counted from 0, by the text.
 ///
 /// An empty text in the place of an empty range takes no memory and changes nothing. No text of the
 /// rope is walked.
@@ -175,8 +174,8 @@ fn replace_bytes(rope: &mut Rope, start: usize, end: usize, text: &[u8]) -> u32
 /// # Errors
 ///
 /// `NO_ROPE_HELD`, then `INVALID_UTF8`, then `BYTE_RANGE_INVALID`, then `BYTE_RANGE_OUT_OF_BOUNDS`,
-/// then `BYTE_RANGE_NOT_CHAR_BOUNDARY`, then `TOO_LONG`, then `OUT_OF_MEMORY`. A refused call
-/// leaves the rope as it was: nothing is removed where the text can't be inserted.
+/// then `BYTE_RANGE_NOT_CHAR_BOUNDARY`, then `TOO_LONG`, then `OUT_OF_MEMORY`. A call that fails
+/// leaves the rope as it was: nothing is removed if the text can't be inserted.
 #[unsafe(no_mangle)]
 pub extern "C" fn ropey_replace_bytes(
     alloc: Global,

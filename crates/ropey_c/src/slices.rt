@@ -1,7 +1,7 @@
-//! Parts of a rope's text: how much they hold, and their text where it lies in one chunk.
+//! Parts of a rope's text: their counts, and their text if one chunk has all of it.
 //!
-//! A program that draws lines or counts in a range gets with one look-up what else takes three. The
-//! bytes belong to the rope, and are lent for as long as its handle is. No call takes memory.
+//! A program that draws lines or counts in a range needs one lookup in place of three. The bytes
+//! belong to the rope, and are lent for as long as its handle is. No call takes memory.
 #![tactic(auto)]
 
 ghost use Rattle.std.specs.Prelude.{◌≡◌, ◌<◌, ◌≤◌, ◌↔◌, true, [], length, drop, Some, IsSome, IfSome};
@@ -28,8 +28,8 @@ use rope_text::TextInfo;
 use rope_text::range::char_bounds;
 use ropey::{Rope, RopeSlice};
 
-/// A part of a rope's text: its bytes, where one chunk has them all, and else none; and how much it
-/// holds.
+/// A part of a rope's text: its bytes if one chunk has all of them, and otherwise none; and its
+/// counts.
 #[repr(C)]
 #[derive(Drop)]
 pub struct Slice<'a> {
@@ -43,7 +43,7 @@ fn bytes_of(text: &str) -> &[u8]
     text.as_bytes()
 }
 
-// The bytes of a slice that lies in one chunk, and else none.
+// The bytes of a slice if one chunk has all of them, and otherwise none.
 #[inline(always)]
 fn lent_of<'a>(slice: &RopeSlice<'a>) -> &'a [u8]
     ensures one { length (chunks_of slice.now) ≤ 1
@@ -88,7 +88,7 @@ fn find_chars<'a>(rope: &'a Rope, start: usize, end: usize, slice: &mut Slice<'a
     }
 }
 
-/// The characters from `start` up to `end`, counted from 0.
+/// Writes the slice of the characters from `start` up to `end`, counted from 0.
 ///
 /// # Errors
 ///
@@ -110,7 +110,7 @@ pub extern "C" fn ropey_char_slice<'a>(
     find_chars(held, start, end, slice)
 }
 
-/// The line `line_idx`, counted from 0, its line break among it.
+/// Writes the line `line_idx`, counted from 0, including its line break.
 ///
 /// # Errors
 ///
@@ -131,7 +131,7 @@ pub extern "C" fn ropey_line_slice<'a>(
     find_line(held, line_idx, slice)
 }
 
-// Asks for slices as far as there is room, writes them, and returns how many they are.
+// Writes slices as far as there is room, and returns their number.
 fn fill_slices<'a, I: Iterator<Item = RopeSlice<'a>>>(
     mut parts: I,
     slices: &mut [Slice<'a>],
@@ -166,8 +166,8 @@ fn find_lines<'a>(
     OK
 }
 
-/// The lines from the line `line_idx` on, each with its line break, written to `lines` as far as
-/// there is room. Their number is written to `count`. Costs one look-up, and then a step a line.
+/// Writes to `lines` the lines from the line `line_idx` on, each with its line break, as far as
+/// there is room, and their number to `count`. Costs one lookup, and then a step a line.
 ///
 /// # Errors
 ///
@@ -205,9 +205,9 @@ fn find_lines_before<'a>(
     OK
 }
 
-/// The lines before the line `line_idx`, the nearest first, each with its line break, written to
-/// `lines` as far as there is room. Their number is written to `count`. Costs one look-up, and then
-/// a step a line.
+/// Writes to `lines` the lines before the line `line_idx`, the nearest first, each with its line
+/// break, as far as there is room, and their number to `count`. Costs one lookup, and then a step a
+/// line.
 ///
 /// # Errors
 ///
@@ -229,7 +229,7 @@ pub extern "C" fn ropey_lines_before<'a>(
     find_lines_before(held, line_idx, lines, count)
 }
 
-// How much lies before a character, from which on the text is `rest`.
+// The counts before a character, after which the text is `rest`.
 #[inline(always)]
 fn before_rest(rope: &Rope, char_idx: usize, rest: &RopeSlice<'_>) -> Counts
     requires within { char_idx ≤ length rope.now.text }
@@ -245,7 +245,7 @@ fn before_rest(rope: &Rope, char_idx: usize, rest: &RopeSlice<'_>) -> Counts
     }
 }
 
-// The text from a character on, and how much lies before it.
+// The text from a character on, and the counts before it.
 #[inline(always)]
 fn rest_from(rope: &Rope, char_idx: usize) -> (RopeSlice<'_>, Counts)
     requires within { char_idx ≤ length rope.now.text }
@@ -258,7 +258,7 @@ fn rest_from(rope: &Rope, char_idx: usize) -> (RopeSlice<'_>, Counts)
     (rest, before)
 }
 
-// The characters from `start` up to `end`, and how much lies before them.
+// The characters from `start` up to `end`, and the counts before them.
 #[inline(always)]
 fn part_at(rope: &Rope, start: usize, end: usize) -> (RopeSlice<'_>, Counts)
     requires ordered { start ≤ end }
@@ -291,9 +291,8 @@ fn find_chars_at<'a>(
     }
 }
 
-/// The characters from `start` up to `end`, counted from 0, as `ropey_char_slice` gives them, and
-/// how much of the text lies before them. A line break that ends behind `start` is none of those
-/// before it.
+/// Writes the slice of the characters from `start` up to `end`, as `ropey_char_slice` does, and the
+/// counts of the text before them. A line break that ends after `start` is not counted there.
 ///
 /// # Errors
 ///
@@ -317,8 +316,8 @@ pub extern "C" fn ropey_char_slice_with_before<'a>(
     find_chars_at(held, start, end, slice, before)
 }
 
-// The bytes from `start` up to `end`, and how much lies before them; none where one of the two lies
-// inside a character.
+// The bytes from `start` up to `end`, and the counts before them; none if one of the two is inside
+// a character.
 #[inline(always)]
 fn part_at_byte(rope: &Rope, start: usize, end: usize) -> Option<(RopeSlice<'_>, Counts)>
     requires ordered { start ≤ end }
@@ -366,9 +365,8 @@ fn find_bytes_at<'a>(
     check_bytes(rope, start, end)
 }
 
-/// The bytes from `start` up to `end`, counted from 0, as `ropey_char_slice` gives characters, and
-/// how much of the text lies before them. A line break that ends behind `start` is none of those
-/// before it.
+/// Writes the slice of the bytes from `start` up to `end`, counted from 0, and the counts of the
+/// text before them. A line break that ends after `start` is not counted there.
 ///
 /// # Errors
 ///
@@ -413,8 +411,8 @@ fn count_chars_at(
     }
 }
 
-/// How much text the characters from `start` up to `end` are, as `ropey_counts_in_chars` counts it,
-/// and how much of the text lies before them, as `ropey_char_slice_with_before` does.
+/// Writes the counts of the characters from `start` up to `end`, as `ropey_counts_in_chars` does,
+/// and those of the text before them, as `ropey_char_slice_with_before` does.
 ///
 /// # Errors
 ///
@@ -457,11 +455,11 @@ fn find_lines_at<'a>(
     OK
 }
 
-/// The lines of the text from the character `char_idx` on, each with its line break, written to
-/// `lines` as far as there is room. Their number is written to `count`, and how much of the text
-/// lies before the character to `before`. The first of them begins at that character, also where a
-/// line doesn't. A line break that ends behind it is none of those before it. Costs two look-ups,
-/// and then a step a line.
+/// Writes to `lines` the lines of the text from the character `char_idx` on, each with its line
+/// break, as far as there is room, their number to `count`, and the counts of the text before the
+/// character to `before`. The first line begins at that character, wherever its line does. A line
+/// break that ends after the character is not counted before it. Costs two lookups, and then a step
+/// a line.
 ///
 /// # Errors
 ///
@@ -484,7 +482,7 @@ pub extern "C" fn ropey_lines_from_char_with_before<'a>(
     find_lines_at(held, char_idx, lines, count, before)
 }
 
-// What C sees of the counts of the text before a line.
+// The counts of the text before a line, as C sees them.
 #[inline(always)]
 fn before_line(rope: &Rope, front: TextInfo, line_idx: usize) -> Counts
     requires { front ≡ line_info rope.now.breaks rope.now.text line_idx }
@@ -521,8 +519,8 @@ fn find_lines_from_at<'a>(
     OK
 }
 
-/// The lines from the line `line_idx` on, as `ropey_lines_from` gives them, and how much of the
-/// text lies before the first of them. Costs one look-up, and then a step a line.
+/// Writes the lines from the line `line_idx` on, as `ropey_lines_from` does, and the counts of the
+/// text before the first of them. Costs one lookup, and then a step a line.
 ///
 /// # Errors
 ///

@@ -1,4 +1,4 @@
-//! What a call answers: 0, or the number that stands for the first reason for which it was refused.
+//! The statuses that calls return: 0, or the number of the first reason for which a call fails.
 ghost use Rattle.std.specs.Prelude.{◌≡◌, ◌<◌, IsOk, MatchResult};
 ghost use Rattle.ropey_c.specs.Status.{status_of, given_breaks, number_of};
 ghost use Rattle.ropey_c.specs.Answers.{Answers};
@@ -7,7 +7,7 @@ use ropey::{Error, LineBreaks, Result};
 
 /// The call did what it says.
 pub const OK: u32 = 0;
-/// Memory was refused.
+/// Out of memory.
 pub const OUT_OF_MEMORY: u32 = 1;
 /// A handle holds no rope.
 pub const NO_ROPE_HELD: u32 = 2;
@@ -55,6 +55,14 @@ pub const LENGTHS_DIFFER: u32 = 22;
 pub const UNKNOWN_SIDE: u32 = 23;
 /// The number stands for no encoding.
 pub const UNKNOWN_ENCODING: u32 = 24;
+/// The bytes don't begin with the mark of their encoding.
+pub const NO_MARK: u32 = 25;
+/// A code unit of UTF-16 is half of a pair and stands alone.
+pub const UNPAIRED_SURROGATE: u32 = 26;
+/// The bytes end inside a code unit of UTF-16.
+pub const HALF_CODE_UNIT: u32 = 27;
+/// The encoding has no bytes for a character of the text.
+pub const UNENCODABLE: u32 = 28;
 
 /// The set of line breaks of LF alone.
 pub const LF: u32 = 0;
@@ -74,6 +82,23 @@ pub const UTF8: u32 = 0;
 pub const UTF16: u32 = 1;
 /// Columns that count characters.
 pub const UTF32: u32 = 2;
+
+/// A file in UTF-8.
+pub const FILE_UTF8: u32 = 0;
+/// A file in UTF-8 after a byte order mark.
+pub const FILE_UTF8_BOM: u32 = 1;
+/// A file in UTF-16, the low byte of each code unit first.
+pub const FILE_UTF16_LE: u32 = 2;
+/// A file in UTF-16 after a byte order mark, the low byte of each code unit first.
+pub const FILE_UTF16_LE_BOM: u32 = 3;
+/// A file in UTF-16, the high byte of each code unit first.
+pub const FILE_UTF16_BE: u32 = 4;
+/// A file in UTF-16 after a byte order mark, the high byte of each code unit first.
+pub const FILE_UTF16_BE_BOM: u32 = 5;
+/// A file in Latin-1.
+pub const FILE_LATIN1: u32 = 6;
+/// A file in the encoding that its byte order mark shows, or in UTF-8 if it has none.
+pub const FILE_BY_MARK: u32 = 7;
 
 // The status of an error.
 pub(crate) fn status_of(error: Error) -> u32
@@ -99,7 +124,7 @@ pub(crate) fn status_of(error: Error) -> u32
     }
 }
 
-// The status of what a call of the rope returned.
+// The status of a result of a call of the rope.
 pub(crate) fn status(returned: Result<()>) -> u32
     ensures answer { MatchResult returned (λ _. result ≡ OK) (λ e. result ≡ status_of e) }
     ensures ok { IsOk returned → result ≡ OK }
@@ -110,7 +135,7 @@ pub(crate) fn status(returned: Result<()>) -> u32
     }
 }
 
-// Writes an answer where the caller wants it.
+// Writes a value that was found.
 pub(crate) fn answer(found: Result<usize>, out: &mut usize) -> u32
     ensures { Answers found result out.old out.new }
 {

@@ -1,6 +1,6 @@
 //! Counts of plain texts, and conversions between their indices. An index past the end counts as
-//! the end. Each call but [`ropey_text_counts_unchecked`] reads the text once to see that it is
-//! UTF-8. None takes memory; one that is refused writes nothing.
+//! the end. Each call but [`ropey_text_counts_unchecked`] reads the text once to check that it is
+//! UTF-8. None takes memory. A call that fails writes nothing.
 ghost use Rattle.std.specs.Prelude.{◌≡◌, length};
 ghost use Rattle.std.specs.Str.{IsUtf8, chars};
 ghost use Rattle.std.specs.Str.Lossy.{utf8_valid_len};
@@ -14,7 +14,7 @@ use rope_text::{LineBreaks, str_utils, utf8};
 use ropey::RopeSlice;
 use std::str;
 
-/// How many bytes at the front of the text are whole characters of UTF-8.
+/// Returns how many bytes at the front of the text are whole characters of UTF-8.
 #[unsafe(no_mangle)]
 pub extern "C" fn ropey_text_valid_len(text: &[u8]) -> usize
     ensures { result ≡ utf8_valid_len text.now }
@@ -29,7 +29,7 @@ fn counts_in(text: &str, breaks: LineBreaks) -> Counts
     counts_of(&RopeSlice::from_str_with(text, breaks))
 }
 
-/// How much text there is, with a set of line breaks.
+/// Writes the counts of the text, with a set of line breaks.
 ///
 /// # Errors
 ///
@@ -48,9 +48,8 @@ pub extern "C" fn ropey_text_counts(text: &[u8], break_set: u32, counts: &mut Co
     OK
 }
 
-/// How much text there is, of a text that is known to be UTF-8, which is not read to find out. It
-/// has that condition, as `ropey_from_text_unchecked` does: of other bytes it may read past the
-/// end.
+/// Writes the counts of a text without checking that it is UTF-8. The text must be UTF-8: of other
+/// bytes the call may read past the end.
 ///
 /// # Errors
 ///
@@ -71,7 +70,7 @@ pub extern "C" fn ropey_text_counts_unchecked(
     OK
 }
 
-/// The character that holds the byte `byte_idx`.
+/// Writes the character that holds the byte `byte_idx`.
 ///
 /// # Errors
 ///
@@ -87,7 +86,7 @@ pub extern "C" fn ropey_text_byte_to_char(text: &[u8], byte_idx: usize, char_idx
     OK
 }
 
-/// The line on which the byte `byte_idx` lies.
+/// Writes the line of the byte `byte_idx`.
 ///
 /// # Errors
 ///
@@ -112,7 +111,7 @@ pub extern "C" fn ropey_text_byte_to_line(
     OK
 }
 
-/// The byte at which the character `char_idx` starts.
+/// Writes the byte at which the character `char_idx` starts.
 ///
 /// # Errors
 ///
@@ -128,7 +127,7 @@ pub extern "C" fn ropey_text_char_to_byte(text: &[u8], char_idx: usize, byte_idx
     OK
 }
 
-/// The line on which the character `char_idx` lies.
+/// Writes the line of the character `char_idx`.
 ///
 /// # Errors
 ///
@@ -153,7 +152,7 @@ pub extern "C" fn ropey_text_char_to_line(
     OK
 }
 
-/// The UTF-16 code unit at which the character `char_idx` starts.
+/// Writes the UTF-16 code unit at which the character `char_idx` starts.
 ///
 /// # Errors
 ///
@@ -174,7 +173,7 @@ pub extern "C" fn ropey_text_char_to_utf16(
     OK
 }
 
-/// The character that holds the UTF-16 code unit `utf16_idx`.
+/// Writes the character that holds the UTF-16 code unit `utf16_idx`.
 ///
 /// # Errors
 ///
@@ -195,7 +194,7 @@ pub extern "C" fn ropey_text_utf16_to_char(
     OK
 }
 
-/// The byte at which the line `line_idx` starts.
+/// Writes the byte at which the line `line_idx` starts.
 ///
 /// # Errors
 ///
@@ -220,7 +219,7 @@ pub extern "C" fn ropey_text_line_to_byte(
     OK
 }
 
-/// The character at which the line `line_idx` starts.
+/// Writes the character at which the line `line_idx` starts.
 ///
 /// # Errors
 ///

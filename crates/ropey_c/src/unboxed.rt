@@ -6,8 +6,8 @@ ghost use Rattle.std.specs.contracts.impls.GlobalAllocator.TheImpl.{ghosts};
 use std::alloc::Global;
 use std::marker::Model;
 
-// What a box owns, with its pointer in sight: made in code for any type, since it is a type's own
-// drop that lets its box be taken apart.
+// The pointer and the allocator of a box. Its code is generic, since the drop of a type decides
+// whether its box may be taken apart.
 pub(crate) struct Unboxed<T> {
     pub(crate) at: *mut T,
     pub(crate) alloc: Global,
