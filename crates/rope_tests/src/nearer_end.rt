@@ -136,11 +136,11 @@ fn expect_right_in_a_leaf(text: &str) -> Result<(), Failure> {
     Ok(())
 }
 
-/// Returns a text with `before` bytes before it and `behind` bytes after it.
-fn between(alloc: Global, text: &str, before: usize, behind: usize) -> Result<String, AllocError> {
+/// Returns a text with `before` bytes before it and `after` bytes after it.
+fn between(alloc: Global, text: &str, before: usize, after: usize) -> Result<String, AllocError> {
     let mut whole = "a".repeat(alloc, before)?;
     whole.push_str(text)?;
-    for _ in 0..behind {
+    for _ in 0..after {
         whole.push('b')?;
     }
     Ok(whole)
@@ -150,9 +150,9 @@ fn expect_right_between(
     alloc: Global,
     text: &str,
     before: usize,
-    behind: usize,
+    after: usize,
 ) -> Result<(), Failure> {
-    let whole = between(alloc, text, before, behind)?;
+    let whole = between(alloc, text, before, after)?;
     expect_places(whole.as_str())
 }
 
@@ -164,7 +164,7 @@ fn expect_right_anywhere(alloc: Global, text: &str) -> Result<(), Failure> {
             expect_right_between(alloc, text, letters, 70),
         )?;
         within(
-            format_args!("{letters} letters behind it"),
+            format_args!("{letters} letters after it"),
             expect_right_between(alloc, text, 70, letters),
         )?;
     }
