@@ -326,8 +326,7 @@ static void run_round(void) {
 }
 
 int main(int argc, char **argv) {
-    long rounds = argc > 1 ? atol(argv[1]) : 2000;
-    state += argc > 2 ? (uint64_t)atoll(argv[2]) * 0x9E3779B97F4A7C15u : 0;
+    long rounds = rounds_of(argc, argv, 2000);
     now = "empty handles";
     check_empty();
     for (long n = 0; n < rounds; n++) {

@@ -774,9 +774,8 @@ static void step(int k, pair *p, pair *q) {
 }
 
 int main(int argc, char **argv) {
-    long calls = argc > 1 ? atol(argv[1]) : 20000;
+    long calls = rounds_of(argc, argv, 20000);
     int all = 0;
-    state += argc > 2 ? (uint64_t)atoll(argv[2]) * 0x9E3779B97F4A7C15u : 0;
     for (size_t i = 0; i < HANDLES; i++) {
         pairs[i] = (pair){.rope = ROPEY_NO_ROPE, .text = model_of(letters, 0, ROPEY_LF)};
     }

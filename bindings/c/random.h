@@ -18,6 +18,12 @@ static inline uint64_t draw(void) {
 
 static inline size_t below(size_t n) { return (size_t)(draw() % n); }
 
+/* Takes a program's arguments: the number of rounds, `usual` if it isn't given, and then a seed of the random numbers. */
+static inline long rounds_of(int argc, char **argv, long usual) {
+    state += argc > 2 ? (uint64_t)atoll(argv[2]) * 0x9E3779B97F4A7C15u : 0;
+    return argc > 1 ? atol(argv[1]) : usual;
+}
+
 static inline void fail(int line, const char *what) {
     fprintf(stderr, "%s, line %d: %s\n", now, line, what);
     abort();
