@@ -97,7 +97,9 @@ fn read_given(
 
 // The fault of an error of a rope.
 fn size_fault(error: Error) -> Fault
-    ensures { (result ≡ Fault.TooLong) × (error ≡ Error.TooLong) ⊎ (result ≡ Fault.OutOfMemory) }
+    ensures either { (result ≡ Fault.TooLong) × (error ≡ Error.TooLong)
+        ⊎ (result ≡ Fault.OutOfMemory) }
+    ensures too_long { error ≡ Error.TooLong → result ≡ Fault.TooLong }
 {
     match error {
         Error::TooLong => Fault::TooLong,

@@ -24,7 +24,7 @@ pub returns-in-Err-Rope : goal.returns-in-Err-Rope
 returns-in-Err-Rope c =
     let answer = c.in-Err-Rope.ensures.answer in
     let fits : length c.args.bytes.now < 2 ^ 64 = omega arith in
-    elim c.size_fault.ensures [
+    elim c.size_fault.ensures.either [
       | inl long ↦ rw long.0 (too_long c.args.encoding c.args.bytes.now answer.0 false fits
           (subst (λ z. ReadsAny text_read (Some c.args.encoding) (Some c.args.bytes.now)
           (Some answer.0) false (Err (any.Rope z))) long.1
