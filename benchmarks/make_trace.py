@@ -1,11 +1,11 @@
 #!/usr/bin/env python3
-"""Prints a person's edits of a file as its history in git tells them, for the workload `trace`.
+"""Prints a person's edits of a file from its history in git, for the workload `trace`.
 
 usage: make_trace.py REPOSITORY FILE > EDITS
 
-A line is an edit: the character at which it is done, how many characters are taken out there, and
-in quotes the one that is put in, if any. Each version is compared with the one before: what is gone
-is taken out at once, what is new is put in character by character, from the front to the back.
+A line is an edit: the character index, the number of removed characters, and in quotes the inserted
+character, if any. The edits are the differences of consecutive versions, from front to back: a
+removed text is one edit, an inserted text one edit for each character.
 """
 import difflib
 import json
@@ -26,11 +26,11 @@ def versions(repository, path):
         try:
             yield git(repository, "show", f"{commit}:{path}").decode("utf-8")
         except subprocess.CalledProcessError:
-            pass  # The commit took the file away.
+            pass  # The commit removed the file.
 
 
 def changes(old, new):
-    """The stretches of two lists that differ: from and to where in each."""
+    """The ranges in which two lists differ: start and end in each."""
     matcher = difflib.SequenceMatcher(None, old, new, autojunk=False)
     for kind, start, end, from_new, to_new in matcher.get_opcodes():
         if kind != "equal":
@@ -38,7 +38,7 @@ def changes(old, new):
 
 
 def replacements(old, new):
-    """Stretches of the old text by their characters, and what stands there in the new one."""
+    """The ranges of characters of the old text that differ, and their new texts."""
     old_lines, new_lines = old.splitlines(True), new.splitlines(True)
     starts = [0]
     for line in old_lines:
@@ -66,8 +66,8 @@ def main():
     repository, path = sys.argv[1:]
     text = ""
     for version in versions(repository, path):
-        for place, removed, typed in edits(text, version):
-            print(place, removed, json.dumps(typed, ensure_ascii=False))
+        for index, removed, typed in edits(text, version):
+            print(index, removed, json.dumps(typed, ensure_ascii=False))
         text = version
 
 

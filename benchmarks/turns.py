@@ -1,10 +1,9 @@
 #!/usr/bin/env python3
 """Times two programs in turns, one workload at a time, and prints ratios.
 
-Each program is `rope_bench` of some build, or `ropey_bench` of the folder `ropey`. So both meet the
-same minutes of the machine, on one core; who begins alternates from turn to turn. Of the turns the
-least and the middle time are taken.
-A ratio below 1 says that the first program is faster.
+Each program is some build of `rope_bench`, or `ropey_bench` of the folder `ropey`. In turns both meet
+the same load of the machine, on one core; the program that goes first alternates. The table has the
+least and the median time of the turns. A ratio below 1 means that the first program is faster.
 """
 import argparse
 import os
@@ -14,8 +13,8 @@ import sys
 
 LENGTHS = ("1MB", "10MB", "100MB", "1GB")
 OF_LENGTHS = ("from_str", "byte", "char_to_line", "insert_char_random")
-# Freed memory stays with the process. Otherwise it depends on the last blocks that a run frees whether the C library gives its
-# pages back, and the next run pays for clearing them anew.
+# Keeps freed memory in the process. Otherwise the last blocks that a run frees decide whether the C library returns pages, and
+# the next run pays for clearing new ones.
 MEMORY_IS_KEPT = {"MALLOC_TRIM_THRESHOLD_": str(1 << 34), "MALLOC_MMAP_THRESHOLD_": str(1 << 34), "MALLOC_TOP_PAD_": str(1 << 26)}
 COLUMNS = ("workload", "operations", "first least", "first middle", "second least", "second middle",
            "least", "middle", "checksums")
@@ -26,7 +25,7 @@ def arguments():
     parser.add_argument("first", help="a program")
     parser.add_argument("second", help="the program that it is compared with")
     parser.add_argument("words", nargs="*",
-                        help="parts of the names of workloads, or whole ones behind a =; none: all")
+                        help="parts of the names of workloads, or whole names after a =; none: all")
     parser.add_argument("--turns", type=int, default=3)
     parser.add_argument("--mode", choices=("time", "grow"), default="time")
     parser.add_argument("--trace", default=os.devnull, help="a file of a person's edits")
@@ -35,7 +34,7 @@ def arguments():
 
 
 def rows(program, trace, *words):
-    """The lines that the program prints, each in its parts."""
+    """The lines of the program's output, each split into words."""
     with open(trace, "rb") as edits:
         done = subprocess.run([program, *words], stdin=edits, capture_output=True, check=True,
                               env={**os.environ, **MEMORY_IS_KEPT})
@@ -43,22 +42,22 @@ def rows(program, trace, *words):
 
 
 def names(task):
-    """The workloads that are asked for. A text itself is none."""
+    """The selected workloads, without the texts themselves."""
     if task.mode == "grow":
         known = [f"{name}/{length}" for length in LENGTHS for name in OF_LENGTHS]
     else:
         known = [row[0] for row in rows(task.first, task.trace)]
     return [name for name in known if not name.startswith("text/")
-            and (not task.words or any(is_named(word, name) for word in task.words))]
+            and (not task.words or any(selects(word, name) for word in task.words))]
 
 
-def is_named(word, name):
-    """As the programs pick workloads: by a part of the name, or behind a `=` by the whole."""
+def selects(word, name):
+    """Whether a word selects a workload: by a part of its name, or after a `=` by the whole name."""
     return name == word[1:] if word.startswith("=") else word in name
 
 
 def measure(task, name):
-    """The times of both programs in nanoseconds per operation, and what each did."""
+    """The times of both programs in nanoseconds per operation, and their operations and checksums."""
     times, done = ([], []), [None, None]
     programs = (task.first, task.second)
     for turn in range(task.turns):
@@ -70,7 +69,7 @@ def measure(task, name):
 
 
 def compare(task, name):
-    """A row of the table, or nothing where a program does not know the workload."""
+    """A row of the table, or None if a program doesn't have the workload."""
     (first, second), done = measure(task, name)
     if None in done:
         return None
@@ -82,8 +81,8 @@ def compare(task, name):
 
 
 def stay_on_one_core():
-    """Keeps both programs on one core, where the system can do that: the cores of a virtual machine
-    differ in speed, by what its neighbours do."""
+    """Keeps both programs on one core, if the system can: the cores of a virtual machine differ in
+    speed, depending on its neighbours."""
     if hasattr(os, "sched_setaffinity"):
         os.sched_setaffinity(0, {max(os.sched_getaffinity(0))})
 
@@ -100,7 +99,7 @@ def main():
     for name in names(task):
         row = compare(task, name)
         if row is None:
-            print(f"{name:34} in one program alone")
+            print(f"{name:34} only in one program")
             continue
         table.append(row)
         print(shown(row), flush=True)

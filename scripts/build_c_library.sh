@@ -3,18 +3,18 @@
 #
 #     scripts/build_c_library.sh [--proved | --aarch64] [ARCHIVE]
 #
-# It needs `rt`, a C compiler (`cc`, or the one that CC names) and binutils. The archive is crates/ropey_c/out/libropey.a, or the
-# file that is named. It has one object: what was compiled of crates/ropey_c, the kit's three functions over malloc, realloc and
-# free, and bindings/c/status_text.c. Its symbols are those of ropey.h. Beside it libropey.sources has the version and a checksum
-# of the sources, and libropey.proved the last line of the proof, which says on what it rests.
+# It needs `rt`, a C compiler ($CC, or `cc`) and binutils. ARCHIVE is crates/ropey_c/out/libropey.a by default. It has one
+# object: crates/ropey_c, the kit's three functions over malloc, realloc and free, and bindings/c/status_text.c. Its symbols
+# are those of ropey.h. Beside it libropey.sources has the version and a checksum of the sources, and libropey.proved the last
+# line of the proof, which names its assumptions.
 #
-# `rt lib` proves the crate and those below it first; what was proved before in this checkout is not proved again. With --proved
-# the crates below are taken as `rt ci` left them, and the crate alone is proved over them. That is for .ci/run, right after
-# `rt ci` in a checkout that had no crates/*/out before: it trusts that these are what `rt ci` proved of the sources, and compares
-# nothing. `rt lib` takes none of them, since `rt ci` keeps their statements and not their proofs.
+# `rt lib` first proves the crate and those below it, unless they were proved before in this checkout. With --proved only the
+# crate itself is proved, over the crates below as `rt ci` left them. That is for .ci/run, right after `rt ci` in a checkout
+# that had no crates/*/out before: it trusts that `rt ci` proved these crates from the sources, and compares nothing. `rt lib`
+# can't use them, since `rt ci` keeps their statements without their proofs.
 #
 # With --aarch64 the archive is crates/ropey_c/out/aarch64/libropey.a, for Linux on aarch64. The crate is proved for that
-# processor. The kit has no heap for it: bindings/c/heap.c stands for its three functions. The C compiler and binutils are those
+# processor. The kit has no heap for it: bindings/c/heap.c replaces its three functions. The C compiler and binutils are those
 # that begin with aarch64-linux-gnu-.
 set -euo pipefail
 
@@ -41,7 +41,7 @@ archive=$(realpath -m "${1:-$folder/libropey.a}")
 work=$(mktemp -d)
 trap 'rm -rf "$work"' EXIT
 
-# Writes what the proof says to a file, and of that to standard output how far it is.
+# Writes the output of the proof to a file, and its progress to standard output.
 shown() {
     awk -v log_file="$work/proofs" '
         { print > log_file }
@@ -67,7 +67,7 @@ build() {
         --jobs "${RT_JOBS:-$(nproc)}" -o out/libropey_c.a
 }
 
-echo "proving and compiling crates/ropey_c (minutes, where it isn't proved yet)"
+echo "proving and compiling crates/ropey_c (takes minutes if it isn't proved yet)"
 (build 2>&1) | shown || { tail -n 40 "$work/proofs"; exit 1; }
 grep '^logic=' "$work/proofs" | tail -n 1 | tee "$work/proved"
 grep -q '^logic=proved ' "$work/proved"

@@ -1,17 +1,16 @@
 #!/usr/bin/env python3
-"""Fails where a document names what isn't in the tree, shows code that stands in no file, or is longer than it may be, and where a
-line of the sources is too wide.
+"""Fails if a document uses a name or shows code that isn't in the tree, or is too long, or a line of the sources is too wide.
 
 It reads README.md, CONTRIBUTING.md, CHANGELOG.md, docs/*.md, the README files below bindings and benchmarks, and the heads of
-modules (`//!`). In them
+modules (`//!`), and checks that
 
-- each word between backticks stands somewhere in a file of the tree that is no document, and each file's name there is one's,
+- each word between backticks occurs in a file of the tree that isn't a document, and each file name there exists,
 - each link leads to a file,
-- each block of Rust, C or C++ stands in a file, line by line, perhaps further in,
-- no sentence tells of machines, days or trees that are gone,
-- no document is longer than its size below.
+- each block of Rust, C or C++ occurs in a file, perhaps with more indentation,
+- no sentence mentions a machine, day or tree that is gone,
+- no document is longer than its limit below.
 
-No comment, clause or code in a crate's `src` goes beyond column 100, but for texts in quotes, attributes and `ghost use`.
+No line of a crate's sources, definitions or proofs has more than 100 columns, except those with quoted texts, attributes and imports.
 """
 import pathlib
 import re
@@ -27,19 +26,19 @@ SIZES = {
     "docs/RUST.md": 8192,
 }
 WIDTH = 100
-UNBROKEN = ("ghost use", "#!")
+UNBROKEN = ("use ", "pub use ", "ghost use", "#!")
 GONE = ("machine of four cores,", "the tree before", "fifth machine", "thirteenth machine", "the one before that", "last session")
-# Words of the system, of Rust and of the Rust crate that no file of this tree has.
+# Words of the system, of Rust and of the Rust crate that no file of this tree contains.
 KNOWN = set("""std rustc usize isize u64 u32 malloc realloc free no_std gcc clang callgrind fnv
     Arc FromIterator RangeBounds is_instance smallvec str_indices cr_lines unicode_lines simd axioms lasting""".split())
-# A file's name, at least the end of its path.
+# A file's path, or the end of one.
 FILE = re.compile(r"(?<![\w*/.])[\w./-]+\.(?:antt|cpp|c|edit|hpp|h|py|rs|rt|sh|svg|toml|tsv|txt)\b")
-# What begins with one of these is a command line.
+# How command lines begin.
 COMMANDS = ("rt ", "perf ", "cargo ", "git ", "rattle-kit")
 
 
 def tracked():
-    """The files of the repository, or where this is no clone all but what builds leave."""
+    """The files of the repository; outside a clone all files that no build made."""
     listed = subprocess.run(["git", "ls-files"], cwd=TOP, capture_output=True, text=True, check=False)
     if listed.returncode == 0:
         return [TOP / name for name in listed.stdout.splitlines() if (TOP / name).is_file()]
@@ -64,12 +63,12 @@ def blocks(text):
 
 
 def names(text):
-    """What stands between backticks, outside of blocks."""
+    """The texts between backticks, outside of blocks."""
     return re.findall(r"`([^`\n]+)`", re.sub(r"^```.*?^```", "", text, flags=re.M | re.S))
 
 
 def is_known(word, words):
-    """A word of the tree, a placeholder, or a part that words of the tree begin or end with."""
+    """Whether a word is one of the tree, a placeholder, or a prefix or suffix of words of the tree."""
     if word in words or word in KNOWN or word.isupper():
         return True
     if word.endswith("_"):
@@ -89,37 +88,37 @@ def unknown_names(text, words, paths):
             yield f"nothing in the tree is called {' '.join(missing)}: `{name}`"
 
 
-def lost_links(path, text):
+def broken_links(path, text):
     for link in re.findall(r"\]\(([^)#\s]+)[^)]*\)", text) + re.findall(r'src(?:set)?="([^"]+)"', text):
         if "://" not in link and not (path.parent / link).exists():
             yield f"no file at the link {link}"
 
 
-def stands_in(block, source):
+def occurs_in(block, source):
     return any(textwrap.indent(block, " " * indent) in source for indent in (0, 4, 8))
 
 
-def lost_blocks(text, sources):
+def unknown_blocks(text, sources):
     for language, block in blocks(text):
-        if language in ("rust", "c", "cpp") and not any(stands_in(block, source) for source in sources):
+        if language in ("rust", "c", "cpp") and not any(occurs_in(block, source) for source in sources):
             yield f"no file has the block that begins {block.strip().splitlines()[0]}"
 
 
 def faults(path, words, paths, sources):
     text = read(path)
     yield from unknown_names(text, words, paths)
-    yield from lost_links(path, text)
-    yield from lost_blocks(text, sources)
-    yield from (f"tells of {gone}" for gone in GONE if gone in text)
+    yield from broken_links(path, text)
+    yield from unknown_blocks(text, sources)
+    yield from (f"mentions {gone}" for gone in GONE if gone in text)
     most = SIZES.get(str(path.relative_to(TOP)))
     if most and len(text.encode()) > most:
-        yield f"has {len(text.encode())} bytes, and may have {most}"
+        yield f"has {len(text.encode())} bytes, more than {most}"
 
 
 def wide_lines(text):
     for number, line in enumerate(text.splitlines(), 1):
         if len(line) > WIDTH and not line.lstrip().startswith(UNBROKEN) and '"' not in line:
-            yield f"line {number} has {len(line)} columns, and may have {WIDTH}"
+            yield f"line {number} has {len(line)} columns, more than {WIDTH}"
 
 
 def main():
@@ -136,8 +135,9 @@ def main():
     for path in others:
         if path.suffix == ".rt" and "/src/" in str(path):
             found += [f"{path.relative_to(TOP)}: {fault}" for fault in unknown_names(module_head(path), words, paths)]
+        if path.suffix == ".antt" or path.suffix == ".rt" and "/src/" in str(path):
             found += [f"{path.relative_to(TOP)}: {fault}" for fault in wide_lines(texts[path])]
-    print("\n".join(found) if found else f"{len(documents)} documents name what is there")
+    print("\n".join(found) if found else f"{len(documents)} documents are in order")
     return 1 if found else 0
 
 

@@ -1,14 +1,14 @@
 #!/usr/bin/env bash
 # Compares bindings/c/ropey.h with the functions, numbers, structs and version of crates/ropey_c that it declares. One function
-# is not of the crate: ropey_status_text, of bindings/c/status_text.c.
+# isn't in the crate: ropey_status_text, in bindings/c/status_text.c.
 #
 #     scripts/compare_c_header.sh
 #
-# It needs sed, awk and diff alone. A line is made of each exported function with its parameters in order, of each status and
-# set of line breaks with its number, and of each struct with its fields in order: once from the source, once from the
-# header. The version is compared wherever it is written: the number that `ropey_version` returns, the four that the header
-# defines and the one that it begins with, the newest of CHANGELOG.md, and those of README.md and the Rust crate. The status
-# is 0 where the two lists are the same and there is one version.
+# It needs only sed, awk and diff. It writes a line for each exported function with its parameters in order, for each status
+# and set of line breaks with its number, and for each struct with its fields in order: once from the source, once from the
+# header. It compares every mention of the version: the number that `ropey_version` returns, the four that the header defines,
+# the header's first line, the newest of CHANGELOG.md, and those of README.md and the Rust crate. The status is 0 if the two
+# lists are equal and there is only one version.
 set -euo pipefail
 
 top=$(cd "$(dirname "$0")/.." && pwd)
@@ -17,8 +17,8 @@ source=$top/crates/ropey_c/src
 work=$(mktemp -d)
 trap 'rm -rf "$work"' EXIT
 
-# A Rust type as C writes it. Slices are a pointer and a number, `Global` takes no bytes, and C's pieces have both parts of
-# their slice as fields.
+# Rewrites Rust types as C types. A slice is a pointer and a length, `Global` takes no bytes, and the fields of a piece in C
+# are the pointer and the length of its slice.
 types='s/alloc: Global(, )?//; s/&'"'"'a /\&/g; s/<'"'"'(a|_)>//g; s/(pieces): &mut \[Piece\]/ropey_piece *\1, size_t room/; s/(lines): &mut \[Slice\]/ropey_slice *\1, size_t room/; s/(\w+): &mut Slice/ropey_slice *\1/g; s/(buffer): &mut \[u8\]/uint8_t *\1, size_t room/
 s/(\w+): &\[GivenEdit\]/const ropey_edit *\1, size_t count/g; s/(\w+): &mut \[Replacement\]/ropey_replacement *\1, size_t room/g
 s/(\w+): &\[u8\]/const uint8_t *\1, size_t len/g; s/(\w+): &LentChanges/const ropey_changes *\1/g; s/(\w+): &Lent/const ropey_rope *\1/g; s/(\w+): &mut Handle/ropey_rope *\1/g; s/(\w+): &mut BuilderHandle/ropey_builder *\1/g; s/(\w+): &mut ChangesHandle/ropey_changes *\1/g
@@ -58,8 +58,7 @@ from_header() {
         on { sub(/^ +/, ""); sub(/ +$/, ""); text = text " " $0 }' "$work/plain" | grep -v '^ropey_\(rope\|builder\|changes\):'
 }
 
-# Each place where a version is written, with the version: of the source first, whose number is major * 1000000 + minor * 1000
-# + patch.
+# Each mention of a version, with the version. The source's is major * 1000000 + minor * 1000 + patch.
 versions() {
     sed -nE 's/^pub const VERSION: u32 = ([0-9_]+);$/\1/p' "$source/version.rt" | tr -d _ |
         awk '{ print "crates/ropey_c/src/version.rt: " int($1 / 1000000) "." int($1 / 1000) % 1000 "." $1 % 1000 }'
@@ -76,7 +75,7 @@ from_header | sort > "$work/header"
 diff "$work/source" "$work/header"
 versions > "$work/versions"
 if [ "$(wc -l < "$work/versions")" -ne 7 ] || [ "$(sed 's/.*: //' "$work/versions" | sort -u | wc -l)" -ne 1 ]; then
-    echo 'not one version in seven places:'
+    echo 'not the same version seven times:'
     cat "$work/versions"
     exit 1
 fi

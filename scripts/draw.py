@@ -1,15 +1,15 @@
 #!/usr/bin/env python3
-"""Draws docs/speed.svg, docs/growth.svg, docs/scale.svg and docs/tree.svg, and prints what docs/figures.tsv says.
+"""Draws docs/speed.svg, docs/growth.svg, docs/scale.svg and docs/tree.svg, and prints tables of docs/figures.tsv.
 
-Every number comes from docs/figures.tsv, which holds what benchmarks/turns.py wrote with --tsv: a line a workload. The groups are
-the headings of benchmarks/WORKLOADS.md. docs/scale.svg shows the rows of the workloads `scale_`, and is drawn once there are some:
+Every number comes from docs/figures.tsv, the output of benchmarks/turns.py --tsv: a row for each workload. The groups are the
+headings of benchmarks/WORKLOADS.md. docs/scale.svg shows the rows of the workloads `scale_`, and is drawn if there are any:
 
     benchmarks/turns.py OURS THEIRS scale_ --turns 5 --tsv TABLE; tail -n +2 TABLE >> docs/figures.tsv
 
-    scripts/draw.py            # draws the pictures anew
-    scripts/draw.py --tables   # prints the tables of the document
-    scripts/draw.py --rows     # prints a line for each workload, and how many there are
-    scripts/draw.py --check    # fails where a picture or a table in docs/ isn't what the figures say
+    scripts/draw.py            # redraws the pictures
+    scripts/draw.py --tables   # prints the tables of docs/BENCHMARKS.md
+    scripts/draw.py --rows     # prints a row for each workload, and their number
+    scripts/draw.py --check    # fails if a picture or a table in docs/ doesn't match the figures
 """
 import math
 import pathlib
@@ -59,13 +59,13 @@ text.ours, text.theirs { stroke: none }
 
 
 def rows():
-    """The figures, without the line of names."""
+    """The figures, without the heading."""
     lines = FIGURES.read_text(encoding="utf-8").splitlines()[1:]
     return [line.split("\t") for line in lines]
 
 
 def groups():
-    """The headings of workloads, each with the names below it, in order."""
+    """The workloads by the heading above them, in order."""
     found, name = {}, None
     for line in WORKLOADS.read_text(encoding="utf-8").splitlines():
         if line.startswith("### "):
@@ -76,7 +76,7 @@ def groups():
 
 
 def ratios():
-    """For each workload and text the least and the middle ratio."""
+    """The least and the median ratio of each workload on each text."""
     known = {}
     for row in rows():
         workload, _, text = row[0].partition("/")
@@ -90,15 +90,15 @@ def mean(numbers):
 
 
 def group_means(known):
-    """For each group its mean on each text, of the least ratios."""
+    """The geometric mean of the least ratios of each group on each text."""
     means = []
     for group, names in groups().items():
         of_texts = [[known[name, text][0] for name in names if (name, text) in known] for text in TEXTS]
         if any(of_texts):
             means.append((group, [mean(numbers) if numbers else None for numbers in of_texts]))
-    worn = [[least for (name, text), (least, _) in known.items() if name.startswith("worn_") and text == t] for t in TEXTS]
-    if any(worn) and "worn ropes" not in dict(means):
-        means.append(("worn ropes", [mean(numbers) if numbers else None for numbers in worn]))
+    edited = [[least for (name, text), (least, _) in known.items() if name.startswith("edited_") and text == t] for t in TEXTS]
+    if any(edited) and "edited ropes" not in dict(means):
+        means.append(("edited ropes", [mean(numbers) if numbers else None for numbers in edited]))
     return means
 
 
@@ -111,7 +111,7 @@ def group_table(known):
 
 
 def growth_table():
-    """Nanoseconds an operation of both, and their ratio, by length."""
+    """Nanoseconds per operation of both, and their ratio, by length."""
     lines = ["| workload | 1 MB | 10 MB | 100 MB | 1 GB |", "|---|---|---|---|---|"]
     for name, of_lengths in growth().items():
         cells = [f"{ours:.0f}, {theirs:.0f}: {ours / theirs:.2f}" for ours, theirs in of_lengths]
@@ -120,7 +120,7 @@ def growth_table():
 
 
 def row_table(known):
-    """The least and the middle ratio of each workload on each text."""
+    """The least and the median ratio of each workload on each text, as a table."""
     lines = ["| workload | P | M | C |", "|---|---|---|---|"]
     for name in dict.fromkeys(name for name, _ in known):
         shown = [known.get((name, text)) for text in TEXTS]
@@ -131,19 +131,19 @@ def row_table(known):
 
 
 def summary(known):
-    """How many workloads there are, how many are below 0.9 by both figures, and the mean of all."""
+    """The number of rows, the number of those below 0.9 by both figures, and the mean of all."""
     below = sum(max(pair) < 0.9 for pair in known.values())
     return f"{len(known)} rows, {below} below 0.9 by both figures, geometric mean {mean([least for least, _ in known.values()]):.2f}"
 
 
 def tables():
-    """What docs/BENCHMARKS.md shows of the figures."""
+    """The tables of docs/BENCHMARKS.md."""
     known = ratios()
     return [*group_table(known), "", *growth_table()]
 
 
 def growth():
-    """For each workload of growing texts the nanoseconds of both, by length."""
+    """The nanoseconds of both for each workload on texts of growing length, by length."""
     found = {}
     for row in rows():
         workload, _, length = row[0].partition("/")
@@ -168,7 +168,7 @@ def line(x1, y1, x2, y2, name):
 
 
 def speed():
-    """A bar for each group: our time over ropey's, in the mean of all texts."""
+    """A bar for each group: our time over ropey's, averaged over all texts."""
     known = ratios()
     bars = [(group, mean([m for m in means if m is not None])) for group, means in group_means(known)]
     bars.append(("all workloads", mean([least for least, _ in known.values()])))
@@ -192,7 +192,7 @@ def curve(points, name):
 
 
 def growth_picture():
-    """Nanoseconds an operation by the text's length, a panel a workload, both axes in powers of ten."""
+    """Nanoseconds per operation by the text's length: a panel for each workload, both axes logarithmic."""
     panels = [(name, of) for name, of in growth().items() if name != "from_str"]
     most = max(max(pair) for _, of in panels for pair in of)
     low, high = 1, math.ceil(math.log10(most))
@@ -206,18 +206,18 @@ def growth_picture():
             y = base - (power - low) * tall / (high - low)
             parts.append(line(70, round(y), width - 20, round(y), "axis"))
             parts.append(text(62, round(y) + 5, f"{10 ** power:,}", "small", "end"))
-        places = [100 + k * 145 for k in range(len(of_lengths))]
+        xs = [100 + k * 145 for k in range(len(of_lengths))]
         for side, style in ((1, "theirs"), (0, "ours")):
             points = [(x, base - (math.log10(pair[side]) - low) * tall / (high - low))
-                      for x, pair in zip(places, of_lengths)]
+                      for x, pair in zip(xs, of_lengths)]
             parts.append(curve(points, style))
-        for x, length in zip(places, LENGTHS):
+        for x, length in zip(xs, LENGTHS):
             parts.append(text(x, base + 18, length.replace("MB", " MB").replace("GB", " GB"), "small", "middle"))
     return picture(width, top + len(panels) * (tall + 60) + 20, parts, "Time by the length of the text")
 
 
 def scaled():
-    """For each workload of line lengths and of portions its ratios, by length or portion."""
+    """The ratios of each workload `scale_`, by the length of lines or of portions."""
     found = {}
     for row in rows():
         workload, _, length = row[0].partition("/")
@@ -227,26 +227,26 @@ def scaled():
 
 
 def ratio_panel(left, base, tall, powers, name, of_lengths):
-    """The ratios of a workload, with a line for each power of ten; that of 1 is dashed."""
+    """The ratios of a workload, with a line for each power of ten, dashed at 1."""
     low, high = powers
     known = LINES if LINES.keys() & of_lengths.keys() else PORTIONS
     height = {length: base - (math.log10(ratio) - low) * tall / (high - low) for length, ratio in of_lengths.items()}
-    places = {length: left + 52 + k * 34 for k, length in enumerate(known)}
+    xs = {length: left + 52 + k * 34 for k, length in enumerate(known)}
     parts = [text(left, base - tall - 14, name)]
     for power in range(low, high + 1):
         y = round(base - (power - low) * tall / (high - low))
         parts.append(line(left + 34, y, left + 274, y, "axis" if power else "even"))
         parts.append(text(left + 28, y + 5, f"{10.0 ** power:g}", "small", "end"))
-    parts.append(curve([(places[length], height[length]) for length in known if length in of_lengths], "ours"))
+    parts.append(curve([(xs[length], height[length]) for length in known if length in of_lengths], "ours"))
     for length, shown in known.items():
-        parts.append(text(places[length], base + 18, shown, "small", "middle"))
+        parts.append(text(xs[length], base + 18, shown, "small", "middle"))
         if length in of_lengths:
-            parts.append(text(places[length], round(height[length]) - 8, f"{of_lengths[length]:.2g}", "small", "middle"))
+            parts.append(text(xs[length], round(height[length]) - 8, f"{of_lengths[length]:.2g}", "small", "middle"))
     return parts
 
 
 def scale_picture():
-    """The ratio of the times by the length of lines, and by how much an edit inserts or removes; a panel a workload."""
+    """The ratio of the times by the length of lines, and by the length of an insert or removal: a panel for each workload."""
     found = scaled()
     logs = [math.log10(ratio) for of_lengths in found.values() for ratio in of_lengths.values()]
     powers = min(math.floor(min(logs)), -1), max(math.ceil(max(logs)), 1)
@@ -265,7 +265,7 @@ def box(x, y, wide, words, name):
 
 
 def tree():
-    """A rope, its clone, and what an insert into the rope copies."""
+    """A rope, its clone, and the nodes that an insert into the rope copies."""
     parts = [text(16, 30, "A rope, its clone, and what one insert copies", "title"),
              text(16, 54, "nodes that both share stay as they were", "small")]
     leaves = [(60, "The qu"), (150, "ick br"), (240, "own fo"), (330, "x jump"), (420, "s over")]
@@ -301,7 +301,7 @@ def main(words):
         lines = set(BENCHMARKS.read_text(encoding="utf-8").splitlines())
         old += [row for row in tables() if row and row not in lines]
         for name in old:
-            print(f"not what docs/figures.tsv says: {name}")
+            print(f"doesn't match docs/figures.tsv: {name}")
         return 1 if old else 0
     for name, svg in drawn().items():
         (TOP / "docs" / name).write_text(svg, encoding="utf-8")

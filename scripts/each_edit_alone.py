@@ -1,21 +1,21 @@
 #!/usr/bin/env python3
-"""Tries each wrong body by itself, and keeps in docs/refusals.tsv which goal refused it.
+"""Tries each mutant alone, and records in docs/refusals.tsv which goal refused it.
 
-    scripts/each_edit_alone.py CRATE[/EDIT]..             # tries the bodies of these crates, or of these edits of them
-    scripts/each_edit_alone.py --changed CRATE[/EDIT]..   # those alone that have changed since their line was written
-    scripts/each_edit_alone.py --stale                    # proves nothing: lists what has changed since then
+    scripts/each_edit_alone.py CRATE[/EDIT]..             # tries the mutants of these crates or edits
+    scripts/each_edit_alone.py --changed CRATE[/EDIT]..   # only those that have changed since their row was written
+    scripts/each_edit_alone.py --stale                    # proves nothing: lists the rows that are out of date
 
-An edit may hold several bodies, and `rt ci` sees only that one of them is refused. This writes each to an edit of its own, in
-a scratch folder whose crates are links to the repository's, and runs `rt must-fail` there once, which tries four bodies at a
-time, or as many as RT_JOBS says, over what `rt check` in the crates' folders has proved: run that before. `rt` keeps what came
-out, so that a later run tries only what has changed. The status is 0 where each body is refused.
+An edit may have several mutants, and `rt ci` checks only that one of them is refused. This script writes each mutant to an
+edit of its own, in a scratch folder whose crates are links to the repository's, and runs `rt must-fail` there once. That tries
+RT_JOBS mutants at a time, by default four, over the proofs of `rt check`: run `rt check` in the crates' folders before. `rt`
+caches the results, so a later run tries only changed mutants. The status is 0 if every mutant is refused.
 
-A line of docs/refusals.tsv has the body, as the name of its edit and its number there; its crate; its function; the goal that the
-prover could not show, as its function and its name; why it could not; and a checksum of the body and of its function with its
-contract, but for what stands elsewhere: a trait's clauses, and the definitions that a contract cites. The reason is `name` where
-all that `rt` shows are names that a written proof cites and the body took away, `limit` where the prover gave no verdict, and
-`value` for any other body. With --stale the status is 0 where each body has a line with its checksum, each line a body, and each
-goal is one of the body's function.
+A row of docs/refusals.tsv has the mutant, as the name of its edit and its number there; its crate; its function; the goal that
+the prover could not show, as its function and its name; the reason; and a checksum of the mutant and of its function with its
+contract, without a trait's clauses and the definitions that a contract cites. The reason is `name` if `rt` reports only names
+that a written proof cites and the mutant removed, `limit` if the prover gave no verdict, and `value` otherwise. With --stale
+the status is 0 if each mutant has a row with its checksum, each row has a mutant, and each goal belongs to the mutant's
+function.
 """
 import hashlib
 import os
@@ -29,37 +29,37 @@ import time
 
 sys.dont_write_bytecode = True
 from functions import CRATES, FUNCTION, function_at, owner_of, path_at  # noqa: E402
-from wrong_bodies import changes  # noqa: E402
+from mutants import changes  # noqa: E402
 
 TOP = CRATES.parent
 TABLE = TOP / "docs" / "refusals.tsv"
-HEADS = ["body", "crate", "function", "goal", "refused by", "checksum"]
+HEADS = ["mutant", "crate", "function", "goal", "refused by", "checksum"]
 REFUSED = re.compile(r"rt: must-fail (?P<crate>\w+)/(?P<edit>\S+)\.(?P<number>\d+)\.edit: refused, as it must be"
                      r"(?: \(only (?P<only>because|by)[^)]*\))?(?:: (?P<said>.*))?")
 KINDS = {None: "value", "because": "name", "by": "limit"}
 
 
-def contract_at(lines, place):
+def contract_at(lines, number):
     """The function around a line with its contract, and with the ghost members that its impl begins with."""
-    first, last = function_at(lines, place)
+    first, last = function_at(lines, number)
     owner = owner_of(lines, first)
     if owner is None:
         return lines[first : last + 1]
-    members = next(number for number in range(owner, len(lines)) if FUNCTION.match(lines[number]))
+    members = next(at for at in range(owner, len(lines)) if FUNCTION.match(lines[at]))
     ghosts = [line for line in lines[owner:members] if not line.lstrip().startswith(("//", "#["))]
     return ghosts + lines[first : last + 1]
 
 
 def described(crate, file, pairs):
-    """The function that a body changes, and the body's checksum."""
+    """The function that a mutant changes, and the mutant's checksum."""
     lines = file.read_text(encoding="utf-8").splitlines()
-    places = [next((at for at, line in enumerate(lines) if old in line), 0) for old, _ in pairs]
-    texts = [text for pair in pairs for text in pair] + [line for place in places for line in contract_at(lines, place)]
-    return path_at(crate, file, lines, places[0]), hashlib.sha256("\n".join(texts).encode()).hexdigest()[:12]
+    numbers = [next((at for at, line in enumerate(lines) if old in line), 0) for old, _ in pairs]
+    texts = [text for pair in pairs for text in pair] + [line for number in numbers for line in contract_at(lines, number)]
+    return path_at(crate, file, lines, numbers[0]), hashlib.sha256("\n".join(texts).encode()).hexdigest()[:12]
 
 
 def edits_of(words):
-    """The edits of these crates, or of these alone."""
+    """The edits that these names of crates or edits select."""
     found = sorted(CRATES.glob("*/must-fail/*.edit"))
     return [edit for edit in found if crate_of(edit) in words or f"{crate_of(edit)}/{edit.stem}" in words]
 
@@ -68,14 +68,14 @@ def crate_of(edit):
     return edit.parent.parent.name
 
 
-def bodies_of(edits):
-    """The function and the checksum of each body, by its name and number and its crate."""
+def mutants_of(edits):
+    """The function and the checksum of each mutant, by its edit and number and its crate."""
     every = ((edit, number, change) for edit in edits for number, change in enumerate(changes(edit), 1))
     return {(f"{edit.stem} {number}", crate_of(edit)): described(crate_of(edit), *change) for edit, number, change in every}
 
 
 def table():
-    """The lines of docs/refusals.tsv by body and crate."""
+    """The rows of docs/refusals.tsv by mutant and crate."""
     lines = TABLE.read_text(encoding="utf-8").splitlines()[1:] if TABLE.exists() else []
     return {tuple(line.split("\t")[:2]): line.split("\t") for line in lines}
 
@@ -85,29 +85,29 @@ def write(rows):
     TABLE.write_text("\n".join("\t".join(row) for row in [HEADS, *order]) + "\n", encoding="utf-8")
 
 
-def scratch(edits, bodies, room):
-    """Makes a folder in which each of these bodies is an edit of its own, and all else are links."""
-    room.mkdir()
+def scratch(edits, mutants, tree):
+    """Makes a folder in which each of these mutants is an edit of its own, and everything else a link."""
+    tree.mkdir()
     for name in ("crates.txt", "HANDLES"):
-        (room / name).symlink_to(TOP / name)
+        (tree / name).symlink_to(TOP / name)
     for part in CRATES.glob("*/*"):
-        folder = room / "crates" / part.parent.name
+        folder = tree / "crates" / part.parent.name
         folder.mkdir(parents=True, exist_ok=True)
         if part.name != "must-fail":
             (folder / part.name).symlink_to(part)
     for edit in edits:
         crate = CRATES / crate_of(edit)
-        alone = room / edit.parent.relative_to(TOP)
+        alone = tree / edit.parent.relative_to(TOP)
         alone.mkdir(exist_ok=True)
         for number, (file, pairs) in enumerate(changes(edit), 1):
-            if (f"{edit.stem} {number}", crate.name) not in bodies:
+            if (f"{edit.stem} {number}", crate.name) not in mutants:
                 continue
-            body = "".join(f"old: {old}\nnew: {new}\n" for old, new in pairs)
-            (alone / f"{edit.stem}.{number}.edit").write_text(f"file: {file.relative_to(crate)}\n{body}", encoding="utf-8")
+            mutant = "".join(f"old: {old}\nnew: {new}\n" for old, new in pairs)
+            (alone / f"{edit.stem}.{number}.edit").write_text(f"file: {file.relative_to(crate)}\n{mutant}", encoding="utf-8")
 
 
 def goal_of(crate, said):
-    """The goal that a line of the prover names: its function, by the folder of its proof or its place in the source, and its name."""
+    """The goal that a line of the prover names: its function, by the path of its proof or its source line, and its name."""
     at = re.match(r"(?:note: )?(?:\./)?(src|proofs)/(\S+?):(\d+):\d+: (.*)", said or "")
     if not at:
         return (said or "none told").replace("\t", " ")
@@ -122,11 +122,11 @@ def goal_of(crate, said):
     return f"{path} {name[1] if name else rest}"
 
 
-def said_by(words, room):
-    """What a command says in the scratch folder. Where this is ended, the command is too, and what it made goes with the folder."""
-    (room / "made").mkdir()
-    surroundings = {"RT_JOBS": "4", **os.environ, "TMPDIR": str(room / "made")}
-    with subprocess.Popen(words, cwd=room / "tree", env=surroundings, text=True, errors="replace", stdin=subprocess.DEVNULL,
+def output_of(words, folder):
+    """The output of a command run in the scratch folder. Ending this script ends the command and removes temporary files."""
+    (folder / "made").mkdir()
+    environment = {"RT_JOBS": "4", **os.environ, "TMPDIR": str(folder / "made")}
+    with subprocess.Popen(words, cwd=folder / "tree", env=environment, text=True, errors="replace", stdin=subprocess.DEVNULL,
                           stdout=subprocess.PIPE, stderr=subprocess.STDOUT) as command:
         try:
             return command.communicate()[0].splitlines()
@@ -135,58 +135,60 @@ def said_by(words, room):
             raise
 
 
-def tried(edits, bodies):
-    """Tries these bodies of these edits: what `rt must-fail` says of each that was refused, and what else it says."""
+def tried(edits, mutants):
+    """Tries these mutants of these edits. Returns the line of `rt must-fail` for each refused one, and its other lines."""
     with tempfile.TemporaryDirectory(prefix="each-edit-alone-") as name:
-        room = pathlib.Path(name)
-        scratch(edits, bodies, room / "tree")
-        lines = said_by(["rt", "must-fail", *sorted({crate_of(edit) for edit in edits})], room)
-    told = list(map(REFUSED.match, lines))
-    found = {(f"{it['edit']} {it['number']}", it["crate"]): it for it in told if it}
-    return found, [line for line, it in zip(lines, told) if not it]
+        folder = pathlib.Path(name)
+        scratch(edits, mutants, folder / "tree")
+        lines = output_of(["rt", "must-fail", *sorted({crate_of(edit) for edit in edits})], folder)
+    matches = list(map(REFUSED.match, lines))
+    found = {(f"{it['edit']} {it['number']}", it["crate"]): it for it in matches if it}
+    return found, [line for line, it in zip(lines, matches) if not it]
 
 
-def rows_of(bodies, found):
-    """The lines of the bodies that were refused."""
-    for key, (function, checksum) in bodies.items():
+def rows_of(mutants, found):
+    """The rows of the mutants that were refused."""
+    for key, (function, checksum) in mutants.items():
         if key in found:
             yield [*key, function, goal_of(key[1], found[key]["said"]), KINDS[found[key]["only"]], checksum]
 
 
-def try_all(edits, bodies):
-    """Tries these bodies of these edits, writes the lines of those that were refused, and answers whether each was."""
+def try_all(edits, mutants):
+    """Tries these mutants of these edits, writes the rows of the refused ones, and returns whether all were refused."""
     begun = time.monotonic()
-    print(f"{len(bodies)} bodies of {len(edits)} edits", flush=True)
-    found, others = tried(edits, bodies)
-    lost = [key for key in bodies if key not in found]
+    print(f"{len(mutants)} mutants of {len(edits)} edits", flush=True)
+    found, others = tried(edits, mutants)
+    lost = [key for key in mutants if key not in found]
     if lost:
         print("\n".join(others))
     if found:
-        standing = bodies_of(CRATES.glob("*/must-fail/*.edit"))
-        kept = [row for key, row in table().items() if key in standing and key not in bodies]
-        write([*kept, *rows_of(bodies, found)])
-    each = (time.monotonic() - begun) / len(bodies)
-    print(f"{len(bodies) - len(lost)} were refused, {len(lost)} not; {each:.1f} seconds a body")
+        existing = mutants_of(CRATES.glob("*/must-fail/*.edit"))
+        kept = [row for key, row in table().items() if key in existing and key not in mutants]
+        write([*kept, *rows_of(mutants, found)])
+    each = (time.monotonic() - begun) / len(mutants)
+    print(f"{len(mutants) - len(lost)} were refused, {len(lost)} not; {each:.1f} seconds a mutant")
     return not lost
 
 
 def is_of_another(function, goal):
-    """Whether a goal is of another function than the one that a body changes.
+    """Whether a goal belongs to another function than the one that a mutant changes.
 
-    A cycle's goals are of its folder, and a constant, a macro or an import, whose names have a space, may be refused anywhere."""
+    The goals of a cycle are named by its folder. A constant, a macro or an import has a space in its name, and may be refused
+    in
+    any function."""
     path, name = goal.split(" ")[0], function.split("::")[-1]
     return " " not in name and path.split("::")[-1] != name and "+" not in path and not path.endswith(".antt")
 
 
 def stale():
-    """The bodies that have no line or one of another state, the lines that have no body, and those with a goal of another function."""
-    rows, bodies = table(), bodies_of(CRATES.glob("*/must-fail/*.edit"))
-    for key, (function, checksum) in bodies.items():
+    """The mutants without a row or with an old checksum, and the rows without a mutant or with another function's goal."""
+    rows, mutants = table(), mutants_of(CRATES.glob("*/must-fail/*.edit"))
+    for key, (function, checksum) in mutants.items():
         if key not in rows:
-            yield f"no line: {key[1]}/{key[0]}, {function}"
+            yield f"no row: {key[1]}/{key[0]}, {function}"
         elif rows[key][5] != checksum:
             yield f"changed: {key[1]}/{key[0]}, {function}"
-    yield from (f"no body: {key[1]}/{key[0]}, {rows[key][2]}" for key in rows if key not in bodies)
+    yield from (f"no mutant: {key[1]}/{key[0]}, {rows[key][2]}" for key in rows if key not in mutants)
     others = [row for row in rows.values() if is_of_another(row[2], row[3])]
     yield from (f"another's goal: {row[1]}/{row[0]}, {row[2]}: {row[3]}" for row in others)
 
@@ -194,21 +196,21 @@ def stale():
 def main(words):
     if words == ["--stale"]:
         found = list(stale())
-        print("\n".join(found) if found else f"{len(table())} bodies have the line of their refusal")
+        print("\n".join(found) if found else f"{len(table())} mutants have the row of their refusal")
         return 1 if found else 0
     names = [word for word in words if word != "--changed"]
     edits = edits_of(names)
     if not edits:
         print("no such edit" if names else __doc__, file=sys.stderr)
         return 2
-    bodies = bodies_of(edits)
+    mutants = mutants_of(edits)
     if "--changed" in words:
         rows = table()
-        bodies = {key: body for key, body in bodies.items() if key not in rows or rows[key][5] != body[1]}
-    if not bodies:
+        mutants = {key: mutant for key, mutant in mutants.items() if key not in rows or rows[key][5] != mutant[1]}
+    if not mutants:
         print("none has changed")
         return 0
-    return 0 if try_all(edits, bodies) else 1
+    return 0 if try_all(edits, mutants) else 1
 
 
 if __name__ == "__main__":

@@ -1,16 +1,16 @@
 #!/usr/bin/env bash
-# Prints where an archive libropey.a lies that was built of the sources as they stand, or fails.
+# Prints the path of an archive libropey.a that was built from the current sources, or fails.
 #
 #     scripts/find_c_library.sh            # the archive's path
-#     scripts/find_c_library.sh --crates   # ropey_c and all crates that it stands on
-#     scripts/find_c_library.sh --sources  # the version, and a checksum of the sources that an archive is made of
+#     scripts/find_c_library.sh --crates   # ropey_c and all crates that it depends on
+#     scripts/find_c_library.sh --sources  # the version, and a checksum of an archive's sources
 #
-# An archive is looked for in the folder that ROPEY_LIB_DIR names, where scripts/build_c_library.sh leaves it, and where
-# pkg-config finds it. Beside it lies libropey.sources, with the version and the checksum of the sources that it was built of.
+# It searches the folder ROPEY_LIB_DIR, the output of scripts/build_c_library.sh, and the folder that pkg-config names. The
+# file libropey.sources beside an archive has the version and the checksum of the sources that it was built from.
 set -euo pipefail
 cd "$(dirname "$0")/.."
 
-# ropey_c and all crates of this repository that it stands on.
+# ropey_c and all crates of this repository that it depends on.
 crates() {
     awk -F: '
         { split($1, name, " "); below[name[1]] = $2 }
@@ -27,7 +27,7 @@ crates() {
     done
 }
 
-# Their code, and what is compiled from C.
+# The code of these crates, and the source in C.
 sources() {
     crates | while read -r crate; do find "crates/$crate/src" -name '*.rt' | sort; done
     echo bindings/c/status_text.c

@@ -9,7 +9,7 @@ ITEM = re.compile(r"(?:pub(?:\([^)]*\))? )?(\S+ \w+|.*)")
 
 
 def end_of(lines, first):
-    """The last line of a function, by the layout of `rt fmt`: its brace stands below its head, unless it has no body or a short one."""
+    """The last line of a function in the layout of `rt fmt`: a brace aligned with its head, or the head if the body is short."""
     indent = FUNCTION.match(lines[first])[1]
     has_body = False
     for number in range(first, len(lines)):
@@ -20,28 +20,28 @@ def end_of(lines, first):
     return first
 
 
-def function_at(lines, place):
-    """The first and the last line of the function around a line; of the constant, macro or import where it stands in none.
+def function_at(lines, number):
+    """The first and the last line of the function around a line; outside of functions, of the constant, macro or import.
 
     A line of a comment or an attribute belongs to the item below it."""
-    while place + 1 < len(lines) and lines[place].lstrip().startswith(("//", "#[")):
-        place += 1
-    for first in range(place, -1, -1):
-        if FUNCTION.match(lines[first]) and end_of(lines, first) >= place:
+    while number + 1 < len(lines) and lines[number].lstrip().startswith(("//", "#[")):
+        number += 1
+    for first in range(number, -1, -1):
+        if FUNCTION.match(lines[first]) and end_of(lines, first) >= number:
             return first, end_of(lines, first)
-    first = next((number for number in range(place, -1, -1) if lines[number][:1].isalpha()), place)
-    return first, next((number for number in range(place, len(lines)) if not lines[number].startswith(" ")), place)
+    first = next((at for at in range(number, -1, -1) if lines[at][:1].isalpha()), number)
+    return first, next((at for at in range(number, len(lines)) if not lines[at].startswith(" ")), number)
 
 
 def owner_of(lines, first):
-    """The line where the impl or trait begins that a function stands in."""
+    """The first line of the impl or trait that contains a function."""
     indent = len(lines[first]) - len(lines[first].lstrip())
     heads = ((number, OWNER.match(lines[number])) for number in range(first, -1, -1))
     return next((number for number, head in heads if head and len(head[1]) < indent), None)
 
 
 def owner_parts(head):
-    """The name of the type that an impl is for, and of the trait that it is of; empty where there is none."""
+    """The names of the type and of the trait in the head of an impl; empty where there is none."""
     while head != (shorter := re.sub(r"<[^<>]*>", "", head)):
         head = shorter
     trait, _, kind = re.sub(r"(?<!:):(?!:).*", "", head.partition(" where ")[0]).partition(" for ")
@@ -49,9 +49,9 @@ def owner_parts(head):
     return parts if kind else parts[::-1]
 
 
-def path_at(crate, file, lines, place):
-    """The path of the function around a line: its module, its type with a trait's name behind it in an impl of one, and its name."""
-    first, _ = function_at(lines, place)
+def path_at(crate, file, lines, number):
+    """The path of the function around a line: its module, its type followed by the implemented trait, if any, and its name."""
+    first, _ = function_at(lines, number)
     owner, head = owner_of(lines, first), FUNCTION.match(lines[first])
     names = [*file.relative_to(CRATES / crate / "src").with_suffix("").parts]
     names += ["".join(owner_parts(OWNER.match(lines[owner])[3]))] if owner is not None else []
@@ -72,7 +72,7 @@ def names_at(lines, first):
 
 
 def sources(crate):
-    """The lines of a crate's sources, by their files."""
+    """The lines of a crate's sources, by file."""
     return {file: file.read_text(encoding="utf-8").splitlines() for file in sorted((CRATES / crate / "src").rglob("*.rt"))}
 
 
@@ -89,7 +89,7 @@ def exported(crate):
 def public_functions(crate):
     """The functions that users of a crate can call: the file and the first line of each.
 
-    A trait's method counts if it has a body. An impl of a trait is public if its type and its trait are, or belong to another crate."""
+    A trait's method counts if it has a body. An impl of a trait counts if type and trait are public or of another crate."""
     files, names = sources(crate), exported(crate)
     declared = {name for lines in files.values() for name in re.findall(r"\b(?:struct|enum|trait|type) (\w+)", "\n".join(lines))}
     for file, lines in files.items():

@@ -3,10 +3,10 @@
 #
 #     [DESTDIR=STAGE] scripts/install_c_library.sh PREFIX
 #
-# It takes the archive that scripts/find_c_library.sh finds, or else builds one (scripts/build_c_library.sh), for which `rt` and
-# binutils are needed. A C compiler is needed in any case. It leaves below PREFIX what scripts/place_c_library.sh places, and
-# LICENSE and LICENSE-ropey in share/licenses/ropey. With DESTDIR the files are written below STAGE/PREFIX, for a package that
-# unpacks them at PREFIX.
+# It installs the archive that scripts/find_c_library.sh finds, or else builds one (scripts/build_c_library.sh), which needs
+# `rt` and binutils. It always needs a C compiler. It writes the files of scripts/place_c_library.sh below PREFIX, and LICENSE
+# and LICENSE-ropey in share/licenses/ropey. With DESTDIR the files are written below STAGE/PREFIX, for a package that unpacks
+# them at PREFIX.
 #
 #     cc editor.c $(pkg-config --cflags --libs ropey)
 #     find_package(ropey) and target_link_libraries(editor ropey::ropey) in CMakeLists.txt
@@ -20,7 +20,7 @@ tools=("${CC:-cc}")
 archive=$("$top/scripts/find_c_library.sh") || tools+=(rt ar ld objcopy)
 for tool in "${tools[@]}"; do
     command -v "$tool" > /dev/null || {
-        echo "install_c_library.sh: $tool is not found. rt comes with the Rattle kit, which is no part of this repository" \
+        echo "install_c_library.sh: $tool is not found. rt comes with the Rattle kit, which isn't part of this repository" \
             "(README.md), and ar, ld and objcopy with binutils. A release needs none of them." >&2
         exit 1
     }

@@ -1,19 +1,18 @@
 #!/usr/bin/env bash
-# Searches the source for a look-up that could touch a node's count of owners.
+# Searches the source for a lookup that could touch a node's reference count.
 #
 #     scripts/look_ups_touch_no_count.sh
 #
-# The counts of nodes are changed in one way alone: a node that is owned is made, cloned (`share`) or dropped. Look-ups get
-# nodes by `&`. So the files that they go through may name no owned node, no `Rc`, no `share` and no `Maker`, which makes
-# nodes; and `crates/ropey_c` may name none of them where it looks. The one exception is `Rope::from_slice`, which makes a rope
-# and which in the library for C `ropey_clone_chars` alone reaches, no look-up. It needs git and grep. The status is 0 where
-# nothing is found.
+# Reference counts change only when an owned node is made, cloned (`share`) or dropped. Lookups borrow nodes by `&`. So the
+# files of lookups, in crates/ropey_c too, may mention no owned node, no `Rc`, no `share`, and no `Maker`, which makes nodes.
+# The exception is `Rope::from_slice`, which makes a rope; in the library for C only `ropey_clone_chars` calls it, and that is
+# no lookup. It needs git and grep. The status is 0 if nothing is found.
 #
-# bindings/c/look_ups_write_nothing.c shows the same as it runs: nodes and handles lie in memory that may only be read.
+# bindings/c/look_ups_write_nothing.c tests the same at run time, with nodes and handles in read-only memory.
 set -euo pipefail
 
 cd "$(dirname "$0")/.."
-through=(
+lookups=(
     crates/rope_tree/src/lookup.rt crates/rope_tree/src/conversions.rt crates/rope_tree/src/search.rt crates/rope_tree/src/search
     crates/rope_slice/src crates/rope_position/src
     crates/ropey/src/lookups.rt crates/ropey/src/slices.rt crates/ropey/src/iter.rt crates/ropey/src/compare.rt
@@ -23,18 +22,18 @@ through=(
     crates/ropey_c/src/changes.rt crates/ropey_c/src/change_edits.rt crates/ropey_c/src/change_sets.rt
     crates/ropey_c/src/lent_changes.rt crates/rope_changes/src/splice.rt
 )
-for path in "${through[@]}"; do
+for path in "${lookups[@]}"; do
     [ -e "$path" ] || { echo "no such file: $path" >&2; exit 1; }
 done
 
-# Code without comments: an owned node is a `Node` that stands behind no `&`, `&'a`, `[` or `use`.
-code() { git grep -nE "$1" -- "${through[@]}" | grep -vE ':[0-9]+: *(//|ghost |use )' || true; }
+# Searches code without comments. An owned node is a `Node` that doesn't follow `&`, `&'a`, `[` or `use`.
+code() { git grep -nE "$1" -- "${lookups[@]}" | grep -vE ':[0-9]+: *(//|ghost |use )' || true; }
 counted=$(code '\bRc\b|\bshare\(|\.clone\(|\bMaker\b|\bBuilder\b|Rope::from_slice\(|&mut Node\b' |
     grep -vE '^crates/ropey/src/slices.rt:[0-9]+: *(pub fn from_slice\(|let root = between\(&mut Maker::new\(alloc\), node,)' || true)
 owned=$(code '\bNode\b' | grep -vE "(&|&'a |\[)Node\b" || true)
 if [ -n "$counted$owned" ]; then
-    echo "a look-up may touch a count of owners:" >&2
+    echo "a lookup may touch a reference count:" >&2
     printf '%s\n%s\n' "$counted" "$owned" >&2
     exit 1
 fi
-echo "look-ups hold nodes by reference alone: ${#through[@]} files and folders searched"
+echo "lookups only borrow nodes: ${#lookups[@]} files and folders searched"

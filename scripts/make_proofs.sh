@@ -1,12 +1,13 @@
 #!/usr/bin/env bash
-# Makes a release for programs in Rattle: the crates that a program over `ropey` stands on, with their proofs.
+# Makes a release for programs in Rattle: the crates that a program over `ropey` depends on, with their proofs.
 #
 #     scripts/make_proofs.sh [FOLDER]
 #
-# It leaves ropey-VERSION-KIT.tar.zst in FOLDER, or in the folder out of the repository. It holds rope_text, rope_tree, rope_join,
-# rope_slice, rope_io, ropey, rope_position and rope_changes with what `rt lib` keeps of a proved crate, so a program over them
-# proves itself alone. Only the kit KIT takes them, and only of these very sources. `rt ci` proves them anew: it trusts no such
-# file. `rt` is needed, which proves the crates first, and zstd. A program over the release is checked before it is left.
+# It writes ropey-VERSION-KIT.tar.zst to FOLDER, by default the repository's folder out. The file has rope_text, rope_tree,
+# rope_join, rope_slice, rope_io, ropey, rope_position and rope_changes with the results of `rt lib`, so that a program over
+# them only proves itself. They are valid only for the kit KIT and these very sources. `rt ci` trusts no such file and
+# re-proves them. It needs `rt`, which proves the crates first, and zstd. A program over the release is checked before the
+# release is written.
 set -euo pipefail
 
 top=$(cd "$(dirname "$0")/.." && pwd)
@@ -30,7 +31,7 @@ done
 cp "$top/HANDLES" "$top/LICENSE" "$top/LICENSE-ropey" "$work/$name"
 tar -C "$work" --sort=name --owner=0 --group=0 --numeric-owner -cf - "$name" | zstd -q -10 -T0 > "$work/$name.tar.zst"
 
-# A program over what was packed: no crate but its own is proved.
+# Checks that a program over the unpacked release proves only its own crate.
 mkdir "$work/unpacked"
 tar -C "$work/unpacked" --zstd -xf "$work/$name.tar.zst"
 cd "$work/unpacked/$name"
@@ -43,4 +44,4 @@ if ! grep -q '^logic=proved functions=1 ' "$work/log" || grep -q '^rt: building'
     exit 1
 fi
 mv "$work/$name.tar.zst" "$folder"
-echo "made $folder/$name.tar.zst, $(stat -c %s "$folder/$name.tar.zst") bytes: a program over it proves itself alone"
+echo "made $folder/$name.tar.zst, $(stat -c %s "$folder/$name.tar.zst") bytes: a program over it only proves itself"

@@ -3,12 +3,12 @@
 #
 #     scripts/make_release.sh [--aarch64] VERSION [FOLDER]
 #
-# It leaves ropey-VERSION-x86_64-linux.tar.gz in FOLDER, or in the folder out of the repository, once
-# scripts/test_release.sh has passed over it. VERSION is the one that bindings/c/ropey.h has. The archive is the one that
-# scripts/find_c_library.sh finds, or a new one (scripts/build_c_library.sh). A C compiler and GNU tar are needed. The same
-# commit, archive and compiler make the same file.
+# It writes ropey-VERSION-x86_64-linux.tar.gz to FOLDER, by default the repository's folder out, once scripts/test_release.sh
+# passes on it. VERSION must be that of bindings/c/ropey.h. The archive is the one that scripts/find_c_library.sh finds, or a
+# new one (scripts/build_c_library.sh). It needs a C compiler and GNU tar. The same commit, archive and compiler give the same
+# file.
 #
-# With --aarch64 the file is ropey-VERSION-aarch64-linux.tar.gz, for C and C++ programs alone.
+# With --aarch64 the file is ropey-VERSION-aarch64-linux.tar.gz, for C and C++ programs only.
 set -euo pipefail
 
 top=$(cd "$(dirname "$0")/.." && pwd)
@@ -27,7 +27,7 @@ work=$(mktemp -d)
 trap 'rm -rf "$work"' EXIT
 
 if ! grep -qxF "#define ROPEY_VERSION \"$version\"" "$top/bindings/c/ropey.h"; then
-    echo "make_release.sh: bindings/c/ropey.h has another version than $version" >&2
+    echo "make_release.sh: the version of bindings/c/ropey.h isn't $version" >&2
     exit 1
 fi
 if [ $processor = aarch64 ]; then
@@ -40,14 +40,12 @@ elif ! archive=$("$top/scripts/find_c_library.sh"); then
     archive=$top/crates/ropey_c/out/libropey.a
 fi
 
-mkdir -p "$work/$name/rust" "$folder"
+mkdir -p "$work/$name" "$folder"
 "$top/scripts/place_c_library.sh" "$archive" "$work/$name"
-for file in Cargo.toml README.md build.rs rustfmt.toml LICENSE LICENSE-ropey src examples tests; do
-    cp -r "$top/bindings/rust/$file" "$work/$name/rust"
-done
+"$top/scripts/copy_rust_crate.sh" "$work/$name/rust"
 cp "$archive" "${archive%.a}.sources" "$work/$name/rust"
 cp "$top/LICENSE" "$top/LICENSE-ropey" "$work/$name"
-# What is for x86-64 alone stands between lines of @x86_64@.
+# Text for x86-64 only is between lines of @x86_64@.
 drop='/@x86_64@/d'
 if [ $processor = aarch64 ]; then
     drop='/@x86_64@/,/@x86_64@/d'
@@ -57,7 +55,7 @@ sed "$drop; s/@VERSION@/$version/g; s/@PROCESSOR@/$processor/g; s/@GLIBC@/$glibc
 chmod -R u=rwX,go=rX "$work/$name"
 (cd "$work/$name" && find . -type f ! -name SHA256SUMS | LC_ALL=C sort | xargs sha256sum > SHA256SUMS)
 
-# Each file has the commit's time, so that the same sources make the same file.
+# Each file has the commit's time, so that the same sources give the same file.
 time=$(git -C "$top" log -1 --format=@%ct 2> /dev/null || date +@%s)
 tar -C "$work" --sort=name --owner=0 --group=0 --numeric-owner --mtime="$time" -cf - "$name" |
     gzip -n9 > "$work/$name.tar.gz"

@@ -1,11 +1,11 @@
 #!/usr/bin/env bash
-# Makes the archive for C of compiled parts: one object, whose only symbols are the functions of ropey.h.
+# Makes the archive for C from compiled parts: one object, whose only symbols are the functions of ropey.h.
 #
 #     scripts/pack_c_library.sh ARCHIVE PART..
 #
-# A PART is an archive, or a file of C: what `rt lib` makes of crates/ropey_c, and the heap's three functions.
-# bindings/c/status_text.c is compiled and added. A C compiler (`cc`, or the one that CC names), ld, objcopy and ar are needed, or
-# those that LD, OBJCOPY and AR name. The archive is position-independent.
+# A PART is an archive or a file of C: the output of `rt lib` for crates/ropey_c, and the heap's three functions.
+# bindings/c/status_text.c is compiled and added. It needs a C compiler ($CC, or `cc`), ld, objcopy and ar ($LD, $OBJCOPY,
+# $AR). The archive is position-independent.
 set -euo pipefail
 
 top=$(cd "$(dirname "$0")/.." && pwd)

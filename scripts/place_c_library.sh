@@ -1,15 +1,15 @@
 #!/usr/bin/env bash
-# Places a built library for C below a folder: the archive, a shared object, headers and what build systems read.
+# Copies a built library for C below a folder: the archive, a shared object, headers and files for build systems.
 #
 #     scripts/place_c_library.sh ARCHIVE FOLDER
 #
-# It needs a C compiler (`cc`, or the one that CC names) to link the shared object. It leaves
+# It needs a C compiler ($CC, or `cc`) to link the shared object. It writes
 #
 #     FOLDER/include/ropey.h, ropey.hpp
 #     FOLDER/lib/libropey.a, libropey.sources, libropey.proved
 #     FOLDER/lib/libropey.so -> libropey.so.1 -> libropey.so.VERSION
 #     FOLDER/lib/pkgconfig/ropey.pc, ropey-shared.pc  for the archive, and for the shared object
-#     FOLDER/lib/cmake/ropey/ropey-config.cmake       targets ropey::ropey and ropey::shared, for the same two
+#     FOLDER/lib/cmake/ropey/ropey-config.cmake       targets ropey::ropey and ropey::shared, likewise
 #     FOLDER/lib/cmake/ropey/ropey-config-version.cmake
 #     FOLDER/share/man/man3/ropey.3
 #
@@ -18,7 +18,7 @@ set -euo pipefail
 
 top=$(cd "$(dirname "$0")/.." && pwd)
 archive=$(realpath "${1:?the archive libropey.a}")
-folder=$(realpath -m "${2:?the folder to place the library below}")
+folder=$(realpath -m "${2:?the folder to copy the library to}")
 header=$top/bindings/c/ropey.h
 version=$(sed -n 's/^#define ROPEY_VERSION "\(.*\)"$/\1/p' "$header")
 major=${version%%.*}
@@ -41,8 +41,8 @@ ln -sf "libropey.so.$version" "$folder/lib/libropey.so.$major"
 ln -sf "libropey.so.$major" "$folder/lib/libropey.so"
 
 # Writes the file for pkg-config with a name, a description and the flags for the linker.
-# `ropey` names the archive itself: a linker that is given -lropey prefers the shared object, and the program would then need
-# a path for the loader.
+# `ropey` names the archive itself: with -lropey a linker prefers the shared object, and the program would then need a path for
+# the loader.
 pkgconfig() {
     cat > "$folder/lib/pkgconfig/$1.pc" <<EOF
 prefix=\${pcfiledir}/../..

@@ -1,13 +1,13 @@
 #!/usr/bin/env bash
-# Runs the program rope_memory with each of its allocations refused in turn, and compares what it prints with what it
-# prints when none is refused, and with its file stdout.
+# Runs the program rope_memory with each of its allocations failing in turn, and compares its output with that of a run in
+# which none fails, and with its file stdout.
 #
 #     scripts/refuse_each_allocation.sh [FIRST [LAST]]
 #
-# Without numbers it goes from 1 to the last allocation of a run in which none is refused. It needs `rt`, which proves and
-# builds the program first, and a C compiler (`cc`, or the one that CC names) for an allocator that refuses the Nth call:
-# the program is built by LLVM with the C library's allocator, and a library that is loaded before that stands in for it.
-# A run takes some milliseconds. The status is 0 where each run printed the same and ended alike.
+# By default it goes from 1 to the last allocation of a run in which none fails. It needs `rt`, which proves and builds the
+# program first, and a C compiler ($CC, or `cc`) for an allocator whose Nth call fails: LLVM builds the program over the C
+# library's allocator, and a preloaded library replaces that. A run takes some milliseconds. The status is 0 if every run
+# prints the same and ends with status 0.
 set -euo pipefail
 
 top=$(cd "$(dirname "$0")/.." && pwd)
@@ -17,8 +17,8 @@ work=$(mktemp -d)
 trap 'rm -rf "$work"' EXIT
 
 cat > "$work/refuse.c" <<'C'
-// The C library's allocator, but for one call of `malloc` or `realloc`, which is refused: that whose number REFUSED has.
-// Where the program ends, the file that COUNTED names gets how many calls there were.
+// The C library's allocator, except that call number $REFUSED of `malloc` or `realloc` fails. At the end of the program the
+// file $COUNTED gets the number of calls.
 #include <fcntl.h>
 #include <stddef.h>
 #include <stdlib.h>
@@ -61,11 +61,11 @@ __attribute__((destructor)) static void tell(void) {
 C
 "${CC:-cc}" -shared -fPIC -O1 -fno-builtin -o "$work/refuse.so" "$work/refuse.c"
 
-# Proves the program where it isn't proved yet, builds it, and runs it once.
+# Proves the program if it isn't proved yet, builds it, and runs it once.
 (cd "$crate" && rt run < /dev/null > "$work/built" 2> "$work/said") || { cat "$work/said"; exit 1; }
 cmp "$work/built" "$crate/stdout"
 
-# Runs the program with one allocation refused, none where the number is 0, and tells how many there were.
+# Runs the program with one allocation refused, none if the number is 0, and prints the number of allocations.
 run() {
     local status=0
     rm -f "$work/counted"

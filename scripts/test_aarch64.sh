@@ -1,12 +1,11 @@
 #!/usr/bin/env bash
-# Runs the tests of the library for C, and programs over a release, on aarch64 by an emulator.
+# Runs the tests of the library for C, and programs over a release, on an emulated aarch64.
 #
 #     scripts/test_aarch64.sh [--built]
 #
-# It needs the archive that scripts/build_c_library.sh --aarch64 makes, and builds it unless --built is given; then one line says
-# where there is none of these sources. It needs aarch64-linux-gnu-gcc and qemu-aarch64 (Debian's packages gcc-aarch64-linux-gnu,
-# libc6-dev-arm64-cross and qemu-user; g++-aarch64-linux-gnu for C++). Where one is missing, one line says so. The status is 0 where
-# everything that could be run was as it must be.
+# It needs the archive of scripts/build_c_library.sh --aarch64, aarch64-linux-gnu-gcc and qemu-aarch64 (Debian's packages
+# gcc-aarch64-linux-gnu, libc6-dev-arm64-cross and qemu-user; g++-aarch64-linux-gnu for C++). It builds the archive unless
+# --built is given. If something is missing, it prints a line and skips the tests. The status is 0 if no test fails.
 set -euo pipefail
 
 top=$(cd "$(dirname "$0")/.." && pwd)

@@ -3,11 +3,10 @@
 #
 #     scripts/test_c_library.sh [--built] [CALLS]
 #
-# With --built it builds nothing: it takes the archive that scripts/find_c_library.sh finds, and says so in one line where there
-# is none of these sources.
-# It needs `rt`, `ar` and a C compiler (`cc`, or the one that CC names); the C++ test needs `c++` (or CXX). CALLS is how many
-# random calls are compared with a plain text, 20,000 if it isn't given; a tenth as many random changes and files are. Where a compiler
-# is missing the script says so in one line, and ends well. The status is 0 where everything that could be run was as it must be.
+# With --built it builds nothing: it takes the archive that scripts/find_c_library.sh finds. It needs `rt`, `ar` and a C
+# compiler ($CC, or `cc`); the C++ test needs $CXX, or `c++`. CALLS is the number of random calls that are compared with a
+# plain text, 20,000 by default; the number of random changes and of random files is a tenth of it. If the archive or a
+# compiler is missing, it prints a line and skips the tests. The status is 0 if no test fails.
 set -euo pipefail
 
 top=$(cd "$(dirname "$0")/.." && pwd)
@@ -35,7 +34,7 @@ if ! "$cc" --version > /dev/null 2>&1; then
 fi
 [ -n "${is_built:-}" ] || "$top/scripts/build_c_library.sh" "$library"
 
-# Strict C11 from here on, warnings are errors; `checked` is the same under the address checker.
+# Strict C11 from here on, with warnings as errors.
 strict="-std=c11 -pedantic -Wall -Wextra -Werror -I$here"
 refusals="-Wl,--wrap=malloc -Wl,--wrap=realloc"
 "$cc" $strict -O2 "$here/constants.c" "$library" -o "$work/constants"
@@ -53,21 +52,21 @@ for example in example undo tree_sitter; do
 done
 echo 'C: the examples print what they must'
 
-# The archive's symbols are the functions of the header, and all of them can be reached by name.
+# The archive's symbols are the functions of the header.
 functions() { sed -nE 's/^(ROPEY_NODISCARD )?(ropey_status|uint32_t|size_t|void|const char \*) ?\*?(ropey_\w+)\(.*/\3/p' "$@"; }
 functions "$here/ropey.h" | sort > "$work/functions"
 nm --defined-only --extern-only "$library" | awk 'NF == 3 { print $3 }' | sort | diff "$work/functions" -
 
-# An installation is staged, and names the folder where it is to lie nowhere.
+# An installation with DESTDIR is complete.
 DESTDIR=$work/stage "$top/scripts/install_c_library.sh" /opt/ropey > /dev/null
 for file in include/ropey.h include/ropey.hpp lib/libropey.a lib/libropey.so.1 lib/pkgconfig/ropey.pc share/licenses/ropey/LICENSE-ropey; do
     test -e "$work/stage/opt/ropey/$file"
 done
 
-# A status that is not looked at is warned of.
+# An ignored status gives a warning.
 printf '#include <ropey.h>\nint main(void) { ropey_rope rope = ROPEY_NO_ROPE; ropey_insert(&rope, 0, NULL, 0); return 0; }\n' > "$work/careless.c"
 if "$cc" $strict -c "$work/careless.c" -o "$work/careless.o" 2> "$work/warnings" || ! grep -q unused-result "$work/warnings"; then
-    echo 'C: no warning tells of a status that is not looked at'
+    echo 'C: no warning of an ignored status'
     exit 1
 fi
 
@@ -86,18 +85,18 @@ echo 'C: the checksums of rope_bench'
 "$cc" $strict -O2 "$here/look_ups_write_nothing.c" "$library" $refusals -Wl,--wrap=free -o "$work/look_ups"
 "$work/look_ups"
 
-# Every block is given back; and each call that is made to forget what it was to free is found out.
-given_back="$here/leaks.c $library $refusals -Wl,--wrap=free"
-"$cc" $strict -O2 $given_back -o "$work/leaks"
+# Every block is freed, and the test notices each call that is made to free nothing.
+freed="$here/leaks.c $library $refusals -Wl,--wrap=free"
+"$cc" $strict -O2 $freed -o "$work/leaks"
 "$work/leaks"
 for call in $("$work/leaks" --calls); do
     if "$work/leaks" "$call" 2> /dev/null; then
-        echo "C: no test sees that $call frees nothing"
+        echo "C: no test notices that $call frees nothing"
         exit 1
     fi
 done
 
-# A program that does nothing shows whether the address checker, and its leak finder, work here.
+# An empty program shows whether the address checker and its leak finder work here.
 checker="-g -O1 -fsanitize=address,undefined"
 echo 'int main(void) { return 0; }' > "$work/nothing.c"
 if "$cc" $checker "$work/nothing.c" -o "$work/nothing" 2> /dev/null && "$work/nothing" 2> /dev/null; then
@@ -107,7 +106,7 @@ if "$cc" $checker "$work/nothing.c" -o "$work/nothing" 2> /dev/null && "$work/no
     "$work/checked_changes" "$((calls / 10))" 2
     "$cc" $strict $checker "$here/files.c" "$library" $refusals -o "$work/checked_files"
     "$work/checked_files" "$((calls / 10))" 2
-    "$cc" $strict $checker $given_back -o "$work/checked_leaks"
+    "$cc" $strict $checker $freed -o "$work/checked_leaks"
     "$work/checked_leaks" > /dev/null
     echo 'C: the same under the address checker and its leak finder'
 else
@@ -130,7 +129,7 @@ for standard in c++17 c++20; do
     "$work/expected"
 done
 
-# The classes have each call of the header that is not made for bindings.
+# The classes cover each call of the header, except those for bindings.
 sed '/^\/\* For bindings:/,$d' "$here/ropey.h" > "$work/calls"
 for call in $(functions "$work/calls" | grep -vx ropey_version); do
     grep -qw "$call" "$here/ropey.hpp" || { echo "C++: no class calls $call"; exit 1; }

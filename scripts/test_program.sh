@@ -1,11 +1,11 @@
 #!/usr/bin/env bash
-# Runs the program rope to each of its ends, and compares its status and its line on standard error with what they must be.
+# Runs the program rope to each of its exit statuses, and compares the status and the line on standard error.
 #
 #     scripts/test_program.sh
 #
-# It needs `rt`, which proves and builds the program where that isn't done yet. Memory is refused by a limit on the program's
-# addresses, below what its input needs; a write fails at /dev/full, and a read at a folder. The status is 0 where each run
-# ended as it must.
+# It needs `rt`, which proves and builds the program if that isn't done yet. A limit on the program's address space lets it run
+# out of memory; a write to /dev/full fails, and so does a read of a folder. The exit status is 0 if every run ended as
+# expected.
 set -euo pipefail
 
 top=$(cd "$(dirname "$0")/.." && pwd)
@@ -18,7 +18,7 @@ wrong=0
 (cd "$crate" && rt run < stdin > "$work/printed" 2> "$work/said") || { cat "$work/said" >&2; exit 1; }
 cmp "$work/printed" "$crate/stdout"
 
-# Runs a command, and compares its status, and what it says on standard error, with those that are wanted.
+# Runs a command, and compares its status and its output on standard error with the expected ones.
 expect() {
     local case=$1 status=$2 line=$3 found=0 said
     shift 3
@@ -31,7 +31,7 @@ expect() {
     fi
 }
 
-# A line that is longer than all that `in_little_memory` leaves a program.
+# A line that doesn't fit into the memory that `in_little_memory` leaves a program.
 long_line() { printf 'text '; head -c 64M /dev/zero | tr '\0' a; echo; }
 in_little_memory() { (ulimit -v 65536; exec "$@"); }
 to_a_full_device() { "$@" > /dev/full; }

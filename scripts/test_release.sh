@@ -1,13 +1,13 @@
 #!/usr/bin/env bash
-# Unpacks a release into an empty folder, and builds and runs programs in C, C++ and Rust over it.
+# Unpacks a release into an empty folder, and builds and runs programs in C, C++ and Rust against it.
 #
 #     scripts/test_release.sh FILE
 #     scripts/test_release.sh --built
 #
-# FILE is what scripts/make_release.sh makes. With --built one is made of the archive that scripts/find_c_library.sh finds,
-# and tested; one line says so where there is none of these sources. There is no `rt` on the PATH, and nothing is
-# fetched. A C compiler is needed (`cc`, or the one that CC names). Where there is no C++ compiler, pkg-config, CMake, cargo or
-# rustc, what needs it isn't tried; the last line says what passed. The status is 0 where each program printed what it must.
+# FILE is the output of scripts/make_release.sh. With --built the script makes a release of the archive that
+# scripts/find_c_library.sh finds, and tests that; if there is none, it prints a line. `rt` is removed from the PATH, and
+# nothing is downloaded. It needs a C compiler ($CC, or `cc`). Tests that need a missing C++ compiler, pkg-config, CMake, cargo
+# or rustc are skipped; the last line lists those that passed. The status is 0 if every program printed the expected output.
 # Programs of a release for aarch64 are compiled by aarch64-linux-gnu-gcc and run by qemu-aarch64.
 set -euo pipefail
 
@@ -38,8 +38,8 @@ if [[ $(basename "$file") == *-aarch64-* ]]; then
     run=(qemu-aarch64 -L /usr/aarch64-linux-gnu)
 fi
 
-# From here on there is the release alone: no library that the environment names, and no `rt`. A folder of the PATH that
-# has an `rt` is replaced by links to the other programs in it.
+# From here on only the release is visible: no library of the environment, and no `rt`. A folder of the PATH with an `rt` is
+# replaced by links to its other programs.
 unset ROPEY_LIB_DIR PKG_CONFIG_PATH LD_LIBRARY_PATH LIBRARY_PATH CPATH CMAKE_PREFIX_PATH CARGO_TARGET_DIR
 kept=
 while IFS= read -r -d : part; do
@@ -57,7 +57,7 @@ if command -v rt; then
     exit 1
 fi
 
-# Without `rt` and an archive, the installer says in one line what is missing, and leaves nothing.
+# Without `rt` and an archive, the installer prints a line and installs nothing.
 mkdir "$work/bare"
 cp -r "$top/scripts" "$top/bindings" "$top/crates.txt" "$work/bare"
 if "$work/bare/scripts/install_c_library.sh" "$work/installed" > "$work/log" 2>&1 || [ -e "$work/installed" ] ||
@@ -79,7 +79,7 @@ grep -oE '^(ROPEY_NODISCARD )?(ropey_status|uint32_t|size_t|void|const char \*) 
     grep -oE 'ropey_\w+\(' | tr -d '(' | sort > "$work/functions"
 nm -D --defined-only "$lib/libropey.so" | awk '{ print $3 }' | sort | diff "$work/functions" -
 
-# A program that loads it by name reaches them, the messages of statuses among them.
+# A program that loads the shared object by name can call them, also for the message of a status.
 if [ ${#run[@]} -eq 0 ] && python3 --version > /dev/null 2>&1; then
     python3 - "$lib/libropey.so" <<'PYTHON'
 import ctypes, sys
@@ -91,10 +91,10 @@ sys.exit(library.ropey_status_text(status) != b"the bytes are not UTF-8")
 PYTHON
 fi
 
-# What `rt lib` said of the library comes with it.
+# The release has the result of the library's proof.
 grep -q '^logic=proved functions=' "$lib/libropey.proved"
 
-# It needs no C library that is newer than the release's README says.
+# The shared object needs no newer C library than the release's README says.
 newest=$(nm -D "$lib/libropey.so" | sed -n 's/.*@GLIBC_//p' | sort -V | tail -n 1)
 glibc=$(sed -nE 's/.* glibc ([0-9.]+) or later.*/\1/p' "$release/README.md")
 if [ "$(printf '%s\n' "$newest" "$glibc" | sort -V | tail -n 1)" != "$glibc" ]; then
@@ -102,15 +102,14 @@ if [ "$(printf '%s\n' "$newest" "$glibc" | sort -V | tail -n 1)" != "$glibc" ]; 
     exit 1
 fi
 
-# Runs a program that was linked with the archive, and compares what it prints with what the program NAME must print. The example
-# works on a file.
+# Runs a program linked with the archive, and compares its output with NAME.stdout. The example works on a file.
 static_prints() {
     cp "$work/programs/example.txt" "$work/notes.txt"
     "${run[@]}" "$2" "$work/notes.txt" > "$work/printed"
     diff "$work/programs/$1.stdout" "$work/printed"
 }
 
-# Does so of a program that was linked with the shared object, once the loader has found that one.
+# Runs a program linked with the shared object, after checking that the loader finds that object.
 shared_prints() {
     if [ ${#run[@]} -eq 0 ]; then
         LD_LIBRARY_PATH=$lib ldd "$2" > "$work/loaded"
@@ -119,7 +118,7 @@ shared_prints() {
     LD_LIBRARY_PATH=$lib QEMU_SET_ENV=LD_LIBRARY_PATH=$lib static_prints "$1" "$2"
 }
 
-# The programs lie apart from the headers of the repository.
+# The programs are copied, so that they can't include the headers of the repository.
 mkdir "$work/programs"
 cp "$top"/bindings/c/{example,undo,tree_sitter}.{c,stdout} "$top"/bindings/c/{example.txt,notes.stdout,{notes,wrapper,expected}.cpp} "$work/programs"
 echo 'C++: as it must be' > "$work/programs/wrapper.stdout"

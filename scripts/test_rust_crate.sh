@@ -3,12 +3,12 @@
 #
 #     scripts/test_rust_crate.sh [--built]
 #
-# It needs `cargo`, and the archive libropey.a: in the folder that ROPEY_LIB_DIR names, where scripts/build_c_library.sh leaves
-# it, or as `pkg-config` finds it. With --built it takes the archive that scripts/find_c_library.sh finds, and says so in one
-# line where there is none of these sources. Nothing is fetched, and nothing is left in the checkout. The tests run for each set
-# of line breaks that the features choose, and without the lock. Then the crate stands in ropey's place in a workspace, as a
-# member of one, and as a package; and a build for another platform, or over an archive of another version, has to fail. Where
-# there is no cargo, rustc or cc (which rustc links with), one line says so. The status is 0 where all is as it must be.
+# It needs cargo, rustc, cc (which rustc links with), and the archive libropey.a: in the folder ROPEY_LIB_DIR, as the output of
+# scripts/build_c_library.sh, or as pkg-config finds it; with --built the archive that scripts/find_c_library.sh finds. If one
+# is missing, it prints a line and skips the tests. Nothing is downloaded, and nothing is left in the checkout. The tests run
+# for each set of line breaks that the features choose, and without the lock. Then the crate replaces ropey in a workspace,
+# once from inside of it, and is packaged; a build for another platform, or over an archive of another version, must fail. The
+# status is 0 if no test fails.
 set -euo pipefail
 
 top=$(cd "$(dirname "$0")/.." && pwd)
@@ -37,14 +37,14 @@ fi
 folder=$(realpath "$folder")
 unset ROPEY_LIB_DIR PKG_CONFIG_PATH CARGO_TARGET_DIR
 
-# The crate is to stay thin: code alone, without comments and blank lines.
+# The crate must stay thin. Comments and blank lines don't count.
 lines=$(find "$crate/src" "$crate/build.rs" -name '*.rs' -print0 | xargs -0 cat | grep -cvE '^[[:space:]]*(//|$)')
 if [ "$lines" -gt 2650 ]; then
     echo "Rust crate: $lines lines of code, more than 2650"
     exit 1
 fi
 
-# Each public function has an example, of its own or by its macro.
+# Each public function has an example, its own or its macro's.
 find "$crate/src" -name '*.rs' -print0 | xargs -0 awk '
     FNR == 1 { has = 0 }
     /^ *(\/\/\/|#\[)/ { if (/```|example!/) has = 1; next }
@@ -59,10 +59,10 @@ cp -r "$crate" "$work/bindings/rust"
 rm -rf "$work/bindings/rust/target"
 ln -s "$folder" "$work/crates/ropey_c/out"
 cd "$work/bindings/rust"
-# Tests compare with plain texts, which is slow work.
+# The tests compare with plain texts, which is slow without optimization.
 export CARGO_PROFILE_TEST_OPT_LEVEL=1
 
-# Runs the tests with some flags, and says how many passed.
+# Runs the tests with some flags, and prints the number that passed.
 try() {
     local name=$1
     shift
@@ -76,7 +76,7 @@ try() {
     echo "Rust crate, $name: $((passed)) tests passed"
 }
 
-# Runs a command that has to succeed without a warning, or says what it was to show.
+# Runs a command that must succeed without a warning.
 must() {
     local name=$1
     shift
@@ -87,7 +87,7 @@ must() {
     fi
 }
 
-# Runs a command that has to fail with a text.
+# Runs a command that must fail with a given text.
 must_fail() {
     local name=$1 text=$2
     shift 2
@@ -104,9 +104,9 @@ try 'LF, CR and CR LF' --tests --no-default-features --features cr_lines
 try 'LF alone' --tests --no-default-features
 try 'without the lock' --tests --features single_thread
 
-# A workspace whose member asks for ropey 1.6 with its features is served by a patch; so is one that has the crate below it. Ropes
-# are Send and Sync whichever features are asked for.
-for place in "$work/bindings/rust" vendor/ropey; do
+# A patch replaces ropey 1.6 in a workspace whose member requests it with features, also if the crate is inside the workspace.
+# Ropes are Send and Sync with any features.
+for path in "$work/bindings/rust" vendor/ropey; do
     rm -rf "$work/editor"
     mkdir -p "$work/editor/app/src" "$work/editor/crates/ropey_c"
     cat > "$work/editor/Cargo.toml" <<TOML
@@ -114,7 +114,7 @@ for place in "$work/bindings/rust" vendor/ropey; do
 members = ["app"]
 resolver = "2"
 [patch.crates-io]
-ropey = { path = "$place" }
+ropey = { path = "$path" }
 TOML
     cat > "$work/editor/app/Cargo.toml" <<'TOML'
 [package]
@@ -135,13 +135,13 @@ fn main() {
 }
 RUST
     cd "$work/editor"
-    if [ "$place" = vendor/ropey ]; then
+    if [ "$path" = vendor/ropey ]; then
         mkdir vendor
         cp -r "$crate" vendor/ropey
         rm -rf vendor/ropey/target
         ln -s "$folder" crates/ropey_c/out
     fi
-    must "in place of ropey 1.6 from $place" cargo run --quiet --offline
+    must "in place of ropey 1.6 from $path" cargo run --quiet --offline
     test "$(cat "$work/said")" = 2
 done
 echo 'Rust crate, in place of ropey 1.6: workspaces that patch it run'
@@ -153,7 +153,29 @@ for file in Cargo.toml README.md LICENSE LICENSE-ropey build.rs src/lib.rs; do
     cargo package --offline --allow-dirty --list 2> "$work/log" | grep -qx "$file" || { echo "Rust crate: the package has no $file"; exit 1; }
 done
 
-# Another platform is named, and an archive of another version is refused, wherever it is found.
+# As a package of another name it has the address of its repository, and its library is still called ropey.
+"$top/scripts/copy_rust_crate.sh" --name ropey-rattle --repository https://example.org/ropey.git "$work/named"
+cd "$work/named"
+must 'as a package of another name' env ROPEY_LIB_DIR="$folder" cargo package --offline
+if grep 'manifest has no documentation' "$work/log"; then
+    exit 1
+fi
+mkdir -p "$work/reader/src"
+cat > "$work/reader/Cargo.toml" <<'TOML'
+[package]
+name = "reader"
+version = "0.1.0"
+edition = "2021"
+[dependencies]
+ropey-rattle = { path = "../named" }
+TOML
+echo 'fn main() { println!("{}", ropey::Rope::from_str("one\ntwo").len_lines()) }' > "$work/reader/src/main.rs"
+cd "$work/reader"
+must 'over a package of another name' env ROPEY_LIB_DIR="$folder" cargo run --quiet --offline
+test "$(cat "$work/said")" = 2
+cd "$work/bindings/rust"
+
+# A build fails for another platform, and over an archive of another version.
 must_fail 'for another platform' 'this build is for linux on aarch64' cargo check --offline --target aarch64-unknown-linux-gnu
 mkdir "$work/stale"
 cp "$folder/libropey.a" "$work/stale"

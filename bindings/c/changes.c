@@ -1,15 +1,15 @@
-/* Random changes, each compared with what their edits do to a plain text (model.h).
+/* Random changes, compared with their edits of a plain text (model.h).
  *
  *     changes [ROUNDS [SEED]]
  *
- * In each round changes are made, some of them from wrong edits, applied, inverted, composed, rebased and read back. Some
- * allocations are refused: the program is linked with --wrap=malloc and --wrap=realloc. A refused call has to leave its
- * handles. */
+ * Each round makes changes, some of them from wrong edits, and applies, inverts, composes, rebases and lists them. Some
+ * allocations fail: the program is linked with --wrap=malloc and --wrap=realloc. A call that fails must leave its handles
+ * unchanged. */
 #include "random.h"
 
 enum { EDITS = 8 };
 
-/* Edits of a text of `len` characters, with their characters; and the status that changes of them have. */
+/* Edits of a text of `len` characters, with their characters, and the expected status of changes made of them. */
 typedef struct {
     ropey_edit edits[EDITS];
     model texts[EDITS];
@@ -53,7 +53,7 @@ static void forget(list *drawn) {
     }
 }
 
-/* The text after the edits. One that changes nothing may lie before the one that it follows. */
+/* Returns the text after the edits. An edit that changes nothing may be out of order. */
 static model edited(const list *drawn, const model *text) {
     model after = part_of(text, 0, text->len);
     for (size_t i = drawn->count; i-- > 0;) {
@@ -65,7 +65,7 @@ static model edited(const list *drawn, const model *text) {
     return after;
 }
 
-/* Runs a call, and again if it was refused for memory, which has to leave the handle that it writes. */
+/* Runs a call, and again if it was out of memory, which must leave the handle unchanged. */
 #define TRY(status, handle, call)               \
     do {                                        \
         void *old_ = (handle)->ptr;             \
@@ -76,7 +76,7 @@ static model edited(const list *drawn, const model *text) {
         }                                       \
     } while (0)
 
-/* Makes changes of the edits, at once or one after the other. */
+/* Makes changes of the edits, at once or one by one. */
 static ropey_status made_of(const list *drawn, ropey_changes *changes) {
     ropey_status status;
     if (below(2)) {
@@ -129,8 +129,8 @@ static void check_applied(const ropey_changes *changes, const model *before, con
     ropey_free(&rope);
 }
 
-/* Reads the replacements back: in order and apart, each changes something, and its text lies in the text after. */
-static void check_read(const ropey_changes *changes, const model *before, const model *after) {
+/* Checks that the replacements are ordered and disjoint, that each changes something, and that its text is in the text after. */
+static void check_listed(const ropey_changes *changes, const model *before, const model *after) {
     ropey_replacement few[2] = {{77, 0, 0, 0, NULL, 0}, {77, 0, 0, 0, NULL, 0}};
     ropey_replacement all[2 * EDITS + 2];
     size_t count = 77, again = 77, end = 0, new_end = 0, len = 0;
@@ -152,7 +152,7 @@ static void check_read(const ropey_changes *changes, const model *before, const 
     free(bytes);
 }
 
-/* Where an index lies in the text after the edits, of which those that touch are one. */
+/* Returns an index of the text before, mapped to the text after the edits. Adjacent edits count as one. */
 static size_t moved(const list *drawn, size_t i, bool after) {
     size_t starts[EDITS], ends[EDITS], lens[EDITS], count = 0, end = 0, new_end = 0;
     for (size_t k = 0; k < drawn->count; k++) {
@@ -197,7 +197,7 @@ static void check_moved(const ropey_changes *changes, const list *drawn) {
     }
 }
 
-/* The inverse leads back; and the edits alone do what the changes do. */
+/* Checks that the inverse undoes the changes, and that ropey_apply_edits does what the changes do. */
 static void check_inverse(const ropey_changes *changes, const list *drawn, const model *before, const model *after) {
     ropey_changes inverse = ROPEY_NO_CHANGES;
     ropey_rope rope = ROPEY_NO_ROPE;
@@ -223,7 +223,7 @@ static void check_inverse(const ropey_changes *changes, const list *drawn, const
     ropey_changes_free(&inverse);
 }
 
-/* Changes and then later ones, as one. */
+/* Compares changes composed with later ones with both of them. */
 static void check_composed(const ropey_changes *changes, const model *before, const model *after) {
     list drawn = drawn_list(below(8) == 0 ? below(40) : after->len, false);
     ropey_changes later = ROPEY_NO_CHANGES, both = ROPEY_NO_CHANGES;
@@ -234,7 +234,7 @@ static void check_composed(const ropey_changes *changes, const model *before, co
     if (status == ROPEY_OK) {
         model last = edited(&drawn, after);
         check_applied(&both, before, &last);
-        check_read(&both, before, &last);
+        check_listed(&both, before, &last);
         free(last.chars);
     }
     ropey_changes_free(&later);
@@ -242,11 +242,11 @@ static void check_composed(const ropey_changes *changes, const model *before, co
     forget(&drawn);
 }
 
-/* Of two changes of one text each is carried over the other: both orders lead to the same text. */
+/* Checks that two changes of one text, each rebased over the other, lead to the same text in both orders. */
 static void check_rebased(const ropey_changes *changes, const model *before, const model *after) {
     list drawn = drawn_list(below(8) == 0 ? below(40) : before->len, false);
     ropey_changes other = ROPEY_NO_CHANGES, second = ROPEY_NO_CHANGES, first = ROPEY_NO_CHANGES;
-    ropey_rope rope = ROPEY_NO_ROPE, twin = ROPEY_NO_ROPE;
+    ropey_rope rope = ROPEY_NO_ROPE, other_rope = ROPEY_NO_ROPE;
     uint32_t side = (uint32_t)below(3);
     ropey_status status, wanted = side > ROPEY_AFTER ? ROPEY_UNKNOWN_SIDE : drawn.len != before->len ? ROPEY_LENGTHS_DIFFER : ROPEY_OK;
     CHECK(made_of(&drawn, &other) == ROPEY_OK);
@@ -258,20 +258,20 @@ static void check_rebased(const ropey_changes *changes, const model *before, con
         TRY(status, &first, ropey_changes_rebase(changes, &other, ROPEY_AFTER - side, &first));
         CHECK(status == ROPEY_OK);
         make_rope(after, &rope);
-        make_rope(&moved_text, &twin);
-        CHECK(ropey_changes_apply(&second, &rope) == ROPEY_OK && ropey_changes_apply(&first, &twin) == ROPEY_OK);
-        CHECK(ropey_compare(&rope, &twin, &order) == ROPEY_OK && order == 0);
+        make_rope(&moved_text, &other_rope);
+        CHECK(ropey_changes_apply(&second, &rope) == ROPEY_OK && ropey_changes_apply(&first, &other_rope) == ROPEY_OK);
+        CHECK(ropey_compare(&rope, &other_rope, &order) == ROPEY_OK && order == 0);
         free(moved_text.chars);
     }
     ropey_free(&rope);
-    ropey_free(&twin);
+    ropey_free(&other_rope);
     ropey_changes_free(&other);
     ropey_changes_free(&first);
     ropey_changes_free(&second);
     forget(&drawn);
 }
 
-/* Handles that hold nothing. */
+/* Checks calls on empty handles. */
 static void check_empty(void) {
     ropey_changes none = ROPEY_NO_CHANGES, other = ROPEY_NO_CHANGES, made = ROPEY_NO_CHANGES;
     ropey_rope rope = ROPEY_NO_ROPE;
@@ -313,7 +313,7 @@ static void run_round(void) {
     if (drawn.wanted == ROPEY_OK) {
         model after = edited(&drawn, &text);
         check_applied(&changes, &text, &after);
-        check_read(&changes, &text, &after);
+        check_listed(&changes, &text, &after);
         check_moved(&changes, &drawn);
         check_inverse(&changes, &drawn, &text, &after);
         check_composed(&changes, &text, &after);

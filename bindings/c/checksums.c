@@ -1,5 +1,5 @@
-/* Random edits and look-ups through the library, with the checksums of the program rope_bench: the texts, the row of numbers
- * and the work are those of crates/rope_bench, and each line that is printed stands in its file stdout. */
+/* Random edits and lookups through the library, with the texts, random numbers, workloads and checksums of
+ * crates/rope_bench: each printed line is in its file stdout. */
 #include "ropey.h"
 
 #include <inttypes.h>
@@ -7,7 +7,7 @@
 #include <stdlib.h>
 #include <string.h>
 
-enum { BYTES = 100000, EDITS = 1000, LOOK_UPS = 10000, CLONES = 100, SPLITS = 10, PIECES = 7 };
+enum { BYTES = 100000, EDITS = 1000, LOOKUPS = 10000, CLONES = 100, SPLITS = 10, PIECES = 7 };
 
 static uint64_t state;
 static uint8_t text[BYTES + 64];
@@ -16,7 +16,7 @@ static char kind;
 
 static void restart(void) { state = UINT64_C(0x9E3779B97F4A7C15); }
 
-/* The next number of the row, brought into the range from 0 to most. */
+/* Returns a random number from 0 to most. */
 static size_t up_to(size_t most) {
     state ^= state << 13;
     state ^= state >> 7;
@@ -89,7 +89,7 @@ static uint64_t lens(const ropey_rope *rope) {
         ^ (uint64_t)ropey_len_utf16(rope) << 3;
 }
 
-/* The bytes by FNV-1a, some chunks at a time, and the lengths. */
+/* Returns a checksum of the bytes, by FNV-1a, and of the lengths. */
 static uint64_t whole(const ropey_rope *rope) {
     uint64_t sum = UINT64_C(0xCBF29CE484222325);
     size_t at = 0, count = 0, before = 0;
@@ -151,26 +151,26 @@ typedef ropey_status conversion(const ropey_rope *, size_t, size_t *);
 static void convert(const ropey_rope *rope, const char *name, conversion *call, size_t most) {
     uint64_t sum = 0;
     restart();
-    for (int k = 0; k < LOOK_UPS; k++) {
+    for (int k = 0; k < LOOKUPS; k++) {
         size_t found = 0;
         expect(call(rope, up_to(most), &found));
         sum += found;
     }
-    report(name, LOOK_UPS, sum);
+    report(name, LOOKUPS, sum);
 }
 
-/* Adds up what a look-up of a rope writes for indices below a length. */
+/* Adds up the results of a lookup at random indices below a length. */
 #define ADD_UP(type, call, len)                           \
     do {                                                  \
         restart();                                        \
-        for (int k = 0; k < LOOK_UPS; k++) {              \
+        for (int k = 0; k < LOOKUPS; k++) {              \
             type found = 0;                               \
             expect(call(rope, up_to((len) - 1), &found)); \
             sum += found;                                 \
         }                                                 \
     } while (0)
 
-static void look_ups(const ropey_rope *rope) {
+static void lookups(const ropey_rope *rope) {
     size_t bytes = ropey_len_bytes(rope), chars = ropey_len_chars(rope), lines = ropey_len_lines(rope);
     uint64_t sum = 0;
     convert(rope, "char_to_byte", ropey_char_to_byte, chars);
@@ -182,19 +182,19 @@ static void look_ups(const ropey_rope *rope) {
     convert(rope, "line_to_byte", ropey_line_to_byte, lines);
     convert(rope, "utf16_cu_to_char", ropey_utf16_to_char, ropey_len_utf16(rope));
     ADD_UP(uint8_t, ropey_byte, bytes);
-    report("byte", LOOK_UPS, sum);
+    report("byte", LOOKUPS, sum);
     sum = 0;
     ADD_UP(uint32_t, ropey_char, chars);
-    report("char", LOOK_UPS, sum);
+    report("char", LOOKUPS, sum);
     sum = 0;
     restart();
-    for (int k = 0; k < LOOK_UPS; k++) {
-        size_t place = up_to(chars);
+    for (int k = 0; k < LOOKUPS; k++) {
+        size_t char_idx = up_to(chars);
         ropey_chunk chunk = ROPEY_NO_CHUNK;
-        expect(ropey_chunk_at_char(rope, place, &chunk));
-        sum += chunk.chars_before <= place;
+        expect(ropey_chunk_at_char(rope, char_idx, &chunk));
+        sum += chunk.chars_before <= char_idx;
     }
-    report("chunk_at_char", LOOK_UPS, sum);
+    report("chunk_at_char", LOOKUPS, sum);
 }
 
 static void clones(ropey_rope *rope) {
@@ -226,7 +226,7 @@ static void work(char which, void (*make)(void)) {
     make();
     edits();
     fresh(&rope);
-    look_ups(&rope);
+    lookups(&rope);
     clones(&rope);
     ropey_free(&rope);
 }

@@ -1,5 +1,4 @@
-/* What handles and outputs begin as, as static initializers; and that numbers and structs have the sizes that calls expect.
- * Compiled as strict C11; wrapper.cpp has the same for C++. */
+/* Tests of the initializers of handles and outputs, and of the sizes of numbers and structs. Compiled as strict C11. */
 #include "ropey.h"
 #include <stdio.h>
 #include <string.h>
@@ -12,14 +11,14 @@ static ropey_piece pieces[2] = {ROPEY_NO_PIECE, ROPEY_NO_PIECE};
 
 _Static_assert(sizeof(ropey_status) == sizeof(uint32_t), "a status is 32 bits");
 _Static_assert(sizeof(ropey_rope) == sizeof(void *) && sizeof(ropey_builder) == sizeof(void *), "a handle is a pointer");
-_Static_assert(sizeof(ropey_changes) == sizeof(void *), "so is one of changes");
+_Static_assert(sizeof(ropey_changes) == sizeof(void *), "a handle of changes is a pointer");
 _Static_assert(sizeof(ropey_chunk) == 5 * sizeof(size_t) && sizeof(ropey_piece) == 2 * sizeof(size_t), "no padding");
-_Static_assert(sizeof(ropey_edit) == 4 * sizeof(size_t) && sizeof(ropey_replacement) == 6 * sizeof(size_t), "nor in edits");
-_Static_assert(sizeof(ropey_range) == 2 * sizeof(size_t) && sizeof(ropey_place) == 2 * sizeof(size_t), "nor in ranges");
-_Static_assert(sizeof(ropey_counts) == 4 * sizeof(size_t) && sizeof(ropey_slice) == 6 * sizeof(size_t), "nor in counts");
+_Static_assert(sizeof(ropey_edit) == 4 * sizeof(size_t) && sizeof(ropey_replacement) == 6 * sizeof(size_t), "no padding in edits");
+_Static_assert(sizeof(ropey_range) == 2 * sizeof(size_t) && sizeof(ropey_place) == 2 * sizeof(size_t), "no padding in ranges");
+_Static_assert(sizeof(ropey_counts) == 4 * sizeof(size_t) && sizeof(ropey_slice) == 6 * sizeof(size_t), "no padding in counts");
 
-/* Places that results are written to hold anything before. Returns whether each then has its result. */
-static bool old_values_are_not_read(void) {
+/* Returns whether calls write their results to outputs with any initial value. */
+static bool outputs_need_no_value(void) {
     ropey_rope text = ROPEY_NO_ROPE;
     ropey_changes inserted = ROPEY_NO_CHANGES;
     struct {
@@ -75,7 +74,7 @@ int main(void) {
     if (ropey_version() != version || ropey_len_bytes(&rope) != 0 || builder.ptr != NULL || ropey_changes_len_after(&changes) != 0 || chunk.len + pieces[1].len != 0) {
         return 3;
     }
-    if (!old_values_are_not_read()) {
+    if (!outputs_need_no_value()) {
         return 4;
     }
     puts("C: constants are static initializers, and the version is the library's");

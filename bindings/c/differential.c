@@ -1,15 +1,15 @@
-/* Random calls of the library, each compared with a plain text that does the same (model.h).
+/* Random calls of the library, each compared with a plain text (model.h).
  *
  *     differential [CALLS [SEED]]
  *
- * Some allocations are refused: the program is linked with --wrap=malloc and --wrap=realloc. A refused edit has to leave
- * the text, and, unless it was refused for memory, every pointer into the rope. Pointers into a clone are held through the
- * edits of the others, and read again. */
+ * Some allocations fail: the program is linked with --wrap=malloc and --wrap=realloc. An edit that fails must leave the text
+ * unchanged, and, except out of memory, keep every pointer into the rope valid. Pointers into a clone are kept during edits of
+ * the others, and read again. */
 #include "random.h"
 
 enum { HANDLES = 4, PIECES = 64, LONGEST = 6000 };
 
-/* A rope beside its model, and its first pieces as they were seen last. */
+/* A rope with its model, and its first pieces at the last read. */
 typedef struct {
     ropey_rope rope;
     model text;
@@ -21,7 +21,7 @@ typedef struct {
 
 static pair pairs[HANDLES];
 
-/* Reads a rope through its pieces, from the front, and compares it with its model. */
+/* Reads all pieces of a rope, and compares them with its model. */
 static void see(pair *p) {
     size_t len = 0, count = 0, before = 0, at = 0;
     free(p->bytes);
@@ -44,17 +44,17 @@ static void see(pair *p) {
     CHECK(at == len);
 }
 
-/* The bytes that were seen lie where they lay. */
-static void held(const pair *p) {
+/* Checks that the pieces of the last read are still in place. */
+static void check_seen(const pair *p) {
     for (size_t i = 0, at = 0; p->held && i < p->seen_count; at += p->seen[i++].len) {
         CHECK(memcmp(p->seen[i].text, p->bytes + at, p->seen[i].len) == 0);
     }
 }
 
-static void held_all(const pair *but) {
+static void check_all_seen(const pair *but) {
     for (size_t i = 0; i < HANDLES; i++) {
         if (&pairs[i] != but) {
-            held(&pairs[i]);
+            check_seen(&pairs[i]);
         }
     }
 }
@@ -76,9 +76,9 @@ static void take(pair *p, model text) {
     see(p);
 }
 
-/* Behind an edit that was done or refused. */
-static void settle(pair *p, ropey_status status, ropey_status wanted) {
-    held_all(p);
+/* Checks all pairs after an edit, whether it succeeded or not. */
+static void check_edit(pair *p, ropey_status status, ropey_status wanted) {
+    check_all_seen(p);
     if (status == ROPEY_OUT_OF_MEMORY) {
         CHECK(wanted == ROPEY_OK);
         see(p);
@@ -86,14 +86,14 @@ static void settle(pair *p, ropey_status status, ropey_status wanted) {
     }
     CHECK(status == wanted);
     if (status != ROPEY_OK) {
-        held(p);
+        check_seen(p);
     }
     if (p->held) {
         see(p);
     }
 }
 
-/* Edits. Each draws its arguments, some of them wrong, says what has to come, and tries. */
+/* Edits. Each draws its arguments, some of them wrong, runs the call, and compares the status with the expected one. */
 static void make(pair *p) {
     size_t len = 0;
     model text = drawn_text(below(4) == 0 ? LONGEST : 40);
@@ -110,12 +110,12 @@ static void make(pair *p) {
     free(bytes);
     if (status == ROPEY_OK && wanted == ROPEY_OK) {
         take(p, text);
-        held_all(p);
+        check_all_seen(p);
         return;
     }
     free(text.chars);
     CHECK(status == (wanted == ROPEY_OK ? ROPEY_OUT_OF_MEMORY : wanted));
-    held_all(NULL);
+    check_all_seen(NULL);
 }
 
 static void make_clone(pair *p, pair *q) {
@@ -123,30 +123,30 @@ static void make_clone(pair *p, pair *q) {
         return;
     }
     ropey_status status = CALL(ropey_clone(&p->rope, &q->rope));
-    held_all(q);
+    check_all_seen(q);
     if (status == ROPEY_OK) {
         CHECK(p->held);
         take(q, part_of(&p->text, 0, p->text.len));
         return;
     }
     CHECK(status == (p->held ? ROPEY_OUT_OF_MEMORY : ROPEY_NO_ROPE_HELD));
-    held(q);
+    check_seen(q);
 }
 
 static void release(pair *p) {
     ropey_free(&p->rope);
     forget(p);
     CHECK(ropey_len_bytes(&p->rope) == 0);
-    held_all(p);
+    check_all_seen(p);
 }
 
 static void shrink(pair *p) {
     ropey_status status = CALL(ropey_shrink_to_fit(&p->rope)), wanted = p->held ? ROPEY_OK : ROPEY_NO_ROPE_HELD;
     CHECK(p->text.len > 0 || status == wanted);
-    settle(p, status, wanted);
+    check_edit(p, status, wanted);
 }
 
-/* A range in the units of len, sometimes past it or the wrong way round. */
+/* Returns a random range in a length, sometimes out of bounds or reversed. */
 static ropey_range drawn_range(size_t len) {
     ropey_range r = {below(len + 2), below(len + 2)};
     if (r.end < r.start && below(8) != 0) {
@@ -172,14 +172,14 @@ static void make_part(pair *p, pair *q) {
     ropey_range r = drawn_range(p->text.len);
     ropey_status wanted = !p->held ? ROPEY_NO_ROPE_HELD : char_range_fault(&p->text, r);
     ropey_status status = CALL(ropey_clone_chars(&p->rope, r.start, r.end, &q->rope));
-    held_all(q);
+    check_all_seen(q);
     if (status == ROPEY_OK) {
         CHECK(wanted == ROPEY_OK);
         take(q, part_of(&p->text, r.start, r.end));
         return;
     }
     CHECK(status == (wanted == ROPEY_OK ? ROPEY_OUT_OF_MEMORY : wanted));
-    held(q);
+    check_seen(q);
 }
 
 static ropey_status byte_range_fault(const model *m, ropey_range r) {
@@ -193,7 +193,7 @@ static ropey_status byte_range_fault(const model *m, ropey_range r) {
     return is_boundary(m, r.start) && is_boundary(m, r.end) ? ROPEY_OK : ROPEY_BYTE_RANGE_NOT_CHAR_BOUNDARY;
 }
 
-static ropey_status byte_place_fault(const model *m, size_t byte) {
+static ropey_status byte_index_fault(const model *m, size_t byte) {
     if (byte > counts_of(m).bytes) {
         return ROPEY_BYTE_INDEX_OUT_OF_BOUNDS;
     }
@@ -220,7 +220,7 @@ static void put_text(pair *p) {
     } else {
         r.end = r.start;
         status = by_byte ? CALL(ropey_insert_at_byte(&p->rope, r.start, bytes, len)) : CALL(ropey_insert(&p->rope, r.start, bytes, len));
-        wanted = by_byte ? byte_place_fault(&p->text, r.start) : r.start > p->text.len ? ROPEY_CHAR_INDEX_OUT_OF_BOUNDS : ROPEY_OK;
+        wanted = by_byte ? byte_index_fault(&p->text, r.start) : r.start > p->text.len ? ROPEY_CHAR_INDEX_OUT_OF_BOUNDS : ROPEY_OK;
     }
     wanted = !p->held ? ROPEY_NO_ROPE_HELD : broken ? ROPEY_INVALID_UTF8 : wanted;
     CHECK(len > 0 || r.start < r.end || status == wanted);
@@ -228,7 +228,7 @@ static void put_text(pair *p) {
         ropey_range chars = by_byte ? (ropey_range){char_at_byte(&p->text, r.start), char_at_byte(&p->text, r.end)} : r;
         model_replace(&p->text, chars.start, chars.end, text.chars, text.len);
     }
-    settle(p, status, wanted);
+    check_edit(p, status, wanted);
     free(bytes);
     free(text.chars);
 }
@@ -242,7 +242,7 @@ static void put_char(pair *p) {
     if (status == ROPEY_OK && wanted == ROPEY_OK) {
         model_replace(&p->text, i, i, &c, 1);
     }
-    settle(p, status, wanted);
+    check_edit(p, status, wanted);
 }
 
 static void cut(pair *p) {
@@ -255,7 +255,7 @@ static void cut(pair *p) {
         ropey_range chars = by_byte ? (ropey_range){char_at_byte(&p->text, r.start), char_at_byte(&p->text, r.end)} : r;
         model_replace(&p->text, chars.start, chars.end, NULL, 0);
     }
-    settle(p, status, wanted);
+    check_edit(p, status, wanted);
 }
 
 static void split(pair *p, pair *q) {
@@ -269,7 +269,7 @@ static void split(pair *p, pair *q) {
         take(q, part_of(&p->text, i, p->text.len));
         model_replace(&p->text, i, p->text.len, NULL, 0);
     }
-    settle(p, status, wanted);
+    check_edit(p, status, wanted);
 }
 
 static void append(pair *p, pair *q) {
@@ -285,11 +285,11 @@ static void append(pair *p, pair *q) {
         forget(q);
     }
     CHECK(ropey_len_chars(&q->rope) == q->text.len);
-    settle(p, status, wanted);
+    check_edit(p, status, wanted);
 }
 
-/* Look-ups. Each is asked at an index that may be past the end, and compared with the model. */
-#define ASKS(call, fault, out, value)                      \
+/* Lookups at indices that may be past the end, compared with the model. */
+#define CHECK_LOOKUP(call, fault, out, value)                      \
     do {                                                   \
         size_t out = 77;                                   \
         ropey_status status_ = (call);                     \
@@ -309,21 +309,21 @@ static void convert(pair *p) {
     ropey_status past_u = u > all.utf16 ? ROPEY_UTF16_INDEX_OUT_OF_BOUNDS : ROPEY_OK;
     ropey_status past_l = l > all.line_breaks + 1 ? ROPEY_LINE_INDEX_OUT_OF_BOUNDS : ROPEY_OK;
     ropey_counts before = counts_before(m, past_i == ROPEY_OK ? i : 0);
-    ASKS(ropey_byte_to_char(rope, b, &x), past_b, x, char_at_byte(m, b));
-    ASKS(ropey_byte_to_line(rope, b, &x), past_b, x, counts_before(m, char_at_byte(m, b)).line_breaks);
-    ASKS(ropey_char_to_byte(rope, i, &x), past_i, x, before.bytes);
-    ASKS(ropey_char_to_line(rope, i, &x), past_i, x, before.line_breaks);
-    ASKS(ropey_char_to_utf16(rope, i, &x), past_i, x, before.utf16);
-    ASKS(ropey_utf16_to_char(rope, u, &x), past_u, x, char_at_utf16(m, u));
-    ASKS(ropey_line_to_byte(rope, l, &x), past_l, x, counts_before(m, start_of_line(m, l)).bytes);
-    ASKS(ropey_line_to_char(rope, l, &x), past_l, x, start_of_line(m, l));
+    CHECK_LOOKUP(ropey_byte_to_char(rope, b, &x), past_b, x, char_at_byte(m, b));
+    CHECK_LOOKUP(ropey_byte_to_line(rope, b, &x), past_b, x, counts_before(m, char_at_byte(m, b)).line_breaks);
+    CHECK_LOOKUP(ropey_char_to_byte(rope, i, &x), past_i, x, before.bytes);
+    CHECK_LOOKUP(ropey_char_to_line(rope, i, &x), past_i, x, before.line_breaks);
+    CHECK_LOOKUP(ropey_char_to_utf16(rope, i, &x), past_i, x, before.utf16);
+    CHECK_LOOKUP(ropey_utf16_to_char(rope, u, &x), past_u, x, char_at_utf16(m, u));
+    CHECK_LOOKUP(ropey_line_to_byte(rope, l, &x), past_l, x, counts_before(m, start_of_line(m, l)).bytes);
+    CHECK_LOOKUP(ropey_line_to_char(rope, l, &x), past_l, x, start_of_line(m, l));
     CHECK(ropey_len_bytes(rope) == all.bytes && ropey_len_chars(rope) == m->len && ropey_len_utf16(rope) == all.utf16);
     CHECK(ropey_len_lines(rope) == (held_ ? all.line_breaks + 1 : 0));
     uint32_t set = 77;
     CHECK(ropey_get_break_set(rope, &set) == (held_ ? ROPEY_OK : ROPEY_NO_ROPE_HELD) && set == (held_ ? m->break_set : 77));
 }
 
-static void place(pair *p) {
+static void position(pair *p) {
     const model *m = &p->text;
     bool held_ = p->held;
     size_t i = below(m->len + 2), lines = counts_of(m).line_breaks + 1, line = below(lines + 2);
@@ -338,15 +338,15 @@ static void place(pair *p) {
     size_t units = counts_before(m, start).utf16, column = below(counts_before(m, end).utf16 - units + 2);
     ropey_status wanted = line >= lines ? ROPEY_LINE_INDEX_OUT_OF_BOUNDS
         : units + column > counts_before(m, end).utf16 ? ROPEY_UTF16_INDEX_OUT_OF_BOUNDS : ROPEY_OK;
-    ASKS(ropey_position_to_char(&p->rope, line, column, &x), wanted, x, char_at_utf16(m, units + column));
+    CHECK_LOOKUP(ropey_position_to_char(&p->rope, line, column, &x), wanted, x, char_at_utf16(m, units + column));
 }
 
 static size_t units_of(uint32_t c, uint32_t encoding) {
     return encoding == ROPEY_UTF8 ? width_of(c) : encoding == ROPEY_UTF16 && c >= 0x10000 ? 2 : 1;
 }
 
-/* Positions in an encoding, and the line breaks that lines end in. */
-static void place_in(pair *p) {
+/* Positions in an encoding, and the line breaks at the ends of lines. */
+static void position_in(pair *p) {
     const model *m = &p->text;
     bool held_ = p->held;
     uint32_t encoding = (uint32_t)below(4);
@@ -366,12 +366,12 @@ static void place_in(pair *p) {
     size_t start = line < lines ? start_of_line(m, line) : m->len, end = line < lines ? start_of_line(m, line + 1) : m->len;
     size_t stop = !break_ends_at(m, end) || start == end ? end : end >= 2 && m->chars[end - 1] == '\n' && end - start >= 2
         && m->break_set != ROPEY_LF && m->chars[end - 2] == '\r' ? end - 2 : end - 1;
-    ASKS(ropey_line_break(&p->rope, line, &x), line < lines ? ROPEY_OK : ROPEY_LINE_INDEX_OUT_OF_BOUNDS, x, end - stop);
+    CHECK_LOOKUP(ropey_line_break(&p->rope, line, &x), line < lines ? ROPEY_OK : ROPEY_LINE_INDEX_OUT_OF_BOUNDS, x, end - stop);
     size_t found = start;
     for (size_t seen = 0; found < stop && seen + units_of(m->chars[found], encoding) <= column; found++) {
         seen += units_of(m->chars[found], encoding);
     }
-    ASKS(ropey_clamped_position_to_char(&p->rope, line, column, encoding, &x), known, x, found);
+    CHECK_LOOKUP(ropey_clamped_position_to_char(&p->rope, line, column, encoding, &x), known, x, found);
 }
 
 static void item(pair *p) {
@@ -395,7 +395,7 @@ static void item(pair *p) {
     CHECK(chars.start == (status == ROPEY_OK ? start_of_line(m, l) : 77) && chars.end == (status == ROPEY_OK ? start_of_line(m, l + 1) : 77));
 }
 
-/* A chunk is a part of the text with what lies before it, and holds the place that was asked for. */
+/* Compares a chunk, and the counts before it, with the model. */
 static void see_chunk(const pair *p, const ropey_chunk *chunk) {
     size_t end = chunk->bytes_before + chunk->len;
     CHECK(chunk->text != NULL && chunk->len <= 984 && (chunk->len > 0 || p->text.len == 0));
@@ -432,7 +432,7 @@ static void chunk(pair *p) {
     }
 }
 
-/* Chunks on both sides of a byte: they meet, and lie where the text has them. */
+/* Compares the chunks before and after a byte with the model. */
 static void pieces(pair *p) {
     size_t len = counts_of(&p->text).bytes, b = below(len + 2), room = below(PIECES), count = 77, before = 77, at;
     ropey_piece found[PIECES];
@@ -459,7 +459,7 @@ static void pieces(pair *p) {
     CHECK(count <= room && (count == room || at == len));
 }
 
-/* Chunks from a byte, a character or a line break on, with all that lies before them: they are those of the look-up of one. */
+/* Compares the chunks from a byte, a character or a line break on, and the counts before them, with the lookup of one chunk. */
 static void chunks_at(pair *p) {
     typedef ropey_status one(const ropey_rope *, size_t, ropey_chunk *);
     typedef ropey_status some(const ropey_rope *, size_t, ropey_piece *, size_t, size_t *, size_t *, size_t *, size_t *);
@@ -510,7 +510,7 @@ static void line(pair *p) {
     CHECK(count <= room && (count == room || at == bytes.end));
 }
 
-/* A slice of the characters from start up to end: how much they are, and their bytes, where it has any. */
+/* Compares a slice of the characters from start up to end with the model. */
 static void see_slice(const pair *p, const ropey_slice *slice, size_t start, size_t end) {
     model part = part_of(&p->text, start, end);
     ropey_counts wanted = counts_of(&part);
@@ -520,7 +520,7 @@ static void see_slice(const pair *p, const ropey_slice *slice, size_t start, siz
     free(part.chars);
 }
 
-/* Lines on both sides of one, a line, and a range, as slices. */
+/* Slices: a range, a line, and the lines before and after it. */
 static void slices(pair *p) {
     enum { SLICES = 8 };
     const model *m = &p->text;
@@ -561,7 +561,7 @@ static void slices(pair *p) {
     }
 }
 
-/* A range, and the lines from a character on, with what lies before them. */
+/* A range, and the lines from a character on, with the counts before them. */
 static void slices_at(pair *p) {
     enum { SLICES = 8 };
     const model *m = &p->text;
@@ -600,7 +600,7 @@ static void slices_at(pair *p) {
     free(rest.chars);
 }
 
-/* A range of bytes, with what lies before it. */
+/* A range of bytes, with the counts before it. */
 static void byte_slice_at(pair *p) {
     const model *m = &p->text;
     ropey_slice slice = ROPEY_NO_SLICE;
@@ -684,19 +684,19 @@ static void plain(void) {
         ropey_counts again = {77, 77, 77, 77};
         CHECK(ropey_text_counts_unchecked(bytes, len, set, &again) == by_set && memcmp(&again, &counts, sizeof again) == 0);
     }
-    ASKS(ropey_text_byte_to_char(bytes, len, b, &x), fault, x, char_at_byte(&m, b));
-    ASKS(ropey_text_byte_to_line(bytes, len, set, b, &x), by_set, x, counts_before(&m, char_at_byte(&m, b)).line_breaks);
-    ASKS(ropey_text_char_to_byte(bytes, len, i, &x), fault, x, counts_before(&m, at).bytes);
-    ASKS(ropey_text_char_to_line(bytes, len, set, i, &x), by_set, x, counts_before(&m, at).line_breaks);
-    ASKS(ropey_text_char_to_utf16(bytes, len, i, &x), fault, x, counts_before(&m, at).utf16);
-    ASKS(ropey_text_utf16_to_char(bytes, len, u, &x), fault, x, char_at_utf16(&m, u));
-    ASKS(ropey_text_line_to_byte(bytes, len, set, l, &x), by_set, x, counts_before(&m, start_of_line(&m, l)).bytes);
-    ASKS(ropey_text_line_to_char(bytes, len, set, l, &x), by_set, x, start_of_line(&m, l));
+    CHECK_LOOKUP(ropey_text_byte_to_char(bytes, len, b, &x), fault, x, char_at_byte(&m, b));
+    CHECK_LOOKUP(ropey_text_byte_to_line(bytes, len, set, b, &x), by_set, x, counts_before(&m, char_at_byte(&m, b)).line_breaks);
+    CHECK_LOOKUP(ropey_text_char_to_byte(bytes, len, i, &x), fault, x, counts_before(&m, at).bytes);
+    CHECK_LOOKUP(ropey_text_char_to_line(bytes, len, set, i, &x), by_set, x, counts_before(&m, at).line_breaks);
+    CHECK_LOOKUP(ropey_text_char_to_utf16(bytes, len, i, &x), fault, x, counts_before(&m, at).utf16);
+    CHECK_LOOKUP(ropey_text_utf16_to_char(bytes, len, u, &x), fault, x, char_at_utf16(&m, u));
+    CHECK_LOOKUP(ropey_text_line_to_byte(bytes, len, set, l, &x), by_set, x, counts_before(&m, start_of_line(&m, l)).bytes);
+    CHECK_LOOKUP(ropey_text_line_to_char(bytes, len, set, l, &x), by_set, x, start_of_line(&m, l));
     free(bytes);
     free(m.chars);
 }
 
-/* A rope of bytes in parts, which are cut anywhere, and some of which are no text. */
+/* A rope of bytes in parts, cut anywhere, some of them not UTF-8. */
 static void build(pair *p) {
     size_t len = 0, at = 0, valid = 77;
     model text = drawn_text(below(4) == 0 ? LONGEST : 40);
@@ -734,14 +734,14 @@ static void build(pair *p) {
     free(bytes);
     if (status == ROPEY_OK) {
         take(p, text);
-        held_all(p);
+        check_all_seen(p);
         return;
     }
     free(text.chars);
-    held_all(NULL);
+    check_all_seen(NULL);
 }
 
-static const char *const names[] = {"make", "make_clone", "release", "shrink", "put_text", "put_char", "cut", "split", "append", "convert", "place",
+static const char *const names[] = {"make", "make_clone", "release", "shrink", "put_text", "put_char", "cut", "split", "append", "convert", "position",
     "item", "chunk", "pieces", "line", "range", "compare", "plain", "slices", "build"};
 static const int weights[] = {2, 3, 1, 1, 24, 8, 12, 3, 4, 10, 6, 6, 6, 6, 6, 8, 3, 3, 6, 2};
 enum { STEPS = sizeof weights / sizeof *weights };
@@ -759,7 +759,7 @@ static void step(int k, pair *p, pair *q) {
     case 7: split(p, q); break;
     case 8: append(p, q); break;
     case 9: convert(p); break;
-    case 10: (below(2) ? place : place_in)(p); break;
+    case 10: (below(2) ? position : position_in)(p); break;
     case 11: item(p); break;
     case 12: chunk(p); break;
     case 13: below(2) ? pieces(p) : chunks_at(p); break;
@@ -770,7 +770,7 @@ static void step(int k, pair *p, pair *q) {
     case 18: (below(3) == 0 ? byte_slice_at : below(2) ? slices : slices_at)(p); break;
     default: build(p); break;
     }
-    held_all(NULL);
+    check_all_seen(NULL);
 }
 
 int main(int argc, char **argv) {

@@ -1,4 +1,4 @@
-/* A small editor without a screen of its own: it loads a file, draws a few lines, edits, undoes, and saves.
+/* A small editor without a screen: it loads a file, prints a few lines, edits, undoes, and saves.
  *
  *     example FILE */
 #include "ropey.h"
@@ -8,7 +8,7 @@
 
 enum { ROWS = 4, COLUMNS = 40 };
 
-/* Ends the program where a call fails. */
+/* Ends the program if a call fails. */
 static void expect(ropey_status status, const char *what) {
     if (status != ROPEY_OK) {
         fprintf(stderr, "%s: %s\n", what, ropey_status_text(status));
@@ -25,7 +25,7 @@ static FILE *opened(const char *path, const char *mode) {
     return file;
 }
 
-/* Makes a rope of a file. Its bytes come in parts, which may end inside a character. */
+/* Makes a rope of a file. Its bytes arrive in parts, which may end inside a character. */
 static void load(const char *path, ropey_rope *rope) {
     ropey_builder builder = ROPEY_NO_BUILDER;
     uint8_t bytes[4096];
@@ -48,7 +48,7 @@ static void load(const char *path, ropey_rope *rope) {
     expect(ropey_builder_finish(&builder, rope, &valid), path);
 }
 
-/* Draws lines from one on, each as far as it fits in a row, without its line break. */
+/* Prints lines from one on, each without its line break and cut to the row. */
 static void draw(const ropey_rope *rope, size_t first) {
     ropey_slice lines[ROWS];
     size_t count, start;
@@ -69,7 +69,7 @@ static void draw(const ropey_rope *rope, size_t first) {
     printf("      %zu lines, %zu characters\n", ropey_len_lines(rope), ropey_len_chars(rope));
 }
 
-/* Makes edits, all or none, and leaves in undo the changes that take them back. */
+/* Applies edits atomically, and writes the changes that undo them to undo. */
 static void edit(ropey_rope *rope, const ropey_edit *edits, size_t count, ropey_changes *undo) {
     ropey_changes changes = ROPEY_NO_CHANGES;
     expect(ropey_changes_of_edits(ropey_len_chars(rope), edits, count, &changes), "changes_of_edits");
@@ -78,7 +78,7 @@ static void edit(ropey_rope *rope, const ropey_edit *edits, size_t count, ropey_
     ropey_changes_free(&changes);
 }
 
-/* Writes the text, chunk by chunk: no text is copied. */
+/* Writes the text, chunk by chunk, without a copy. */
 static void save(const char *path, const ropey_rope *rope) {
     ropey_piece pieces[64];
     size_t count, before, at = 0;
@@ -107,7 +107,7 @@ int main(int count, char **words) {
     load(words[1], &rope);
     draw(&rope, 2);
 
-    /* Two carets, at the starts of the third and fourth lines: indices are those of the text before both edits. */
+    /* Two carets, at the starts of the third and fourth lines. The indices are in the text before both edits. */
     size_t third, fourth;
     expect(ropey_line_to_char(&rope, 2, &third), "line_to_char");
     expect(ropey_line_to_char(&rope, 3, &fourth), "line_to_char");

@@ -1,4 +1,4 @@
-/* Uses the classes of ropey.hpp that throw nothing, and fails where they return anything else. Compiled without exceptions. */
+/* Tests the classes of ropey::expected. Compiled without exceptions. */
 #include "ropey.hpp"
 #include <cstdio>
 #include <cstdlib>

@@ -1,14 +1,14 @@
-/* Files in encodings, each compared with what the definitions of the encodings say of it.
+/* Files in encodings, compared with the definitions of the encodings.
  *
  *     files [ROUNDS [SEED]]
  *
- * In each round a random text is written in each encoding and read again, and random bytes are read. Some allocations are refused:
- * the program is linked with --wrap=malloc and --wrap=realloc. A refused call has to leave its handle and what it writes to. */
+ * Each round writes a random text in each encoding and reads it again, and reads random bytes. Some allocations fail: the program
+ * is linked with --wrap=malloc and --wrap=realloc. A call that fails must leave its handle and its outputs unchanged. */
 #include "random.h"
 
 enum { ENCODINGS = ROPEY_FILE_LATIN1 + 1, LONGEST = 4000, UNTOUCHED = 77 };
 
-/* The marks of the encodings, and how many bytes they have. */
+/* The marks of the encodings, and their lengths. */
 static const uint8_t marks[ENCODINGS][3] = {{0}, {0xEF, 0xBB, 0xBF}, {0}, {0xFF, 0xFE}, {0}, {0xFE, 0xFF}, {0}};
 static const size_t mark_lens[ENCODINGS] = {0, 3, 0, 2, 0, 2, 0};
 
@@ -36,7 +36,7 @@ static size_t put_char(uint32_t c, uint32_t encoding, uint8_t *out) {
     return 2 + put_unit(0xDC00 + (c - 0x10000) % 0x400, encoding, out + 2);
 }
 
-/* The file of a text; of one that Latin-1 can't have, only its length is that of a file. */
+/* Writes the file of a text, and returns its length. If Latin-1 lacks a character, only the length is right. */
 static size_t file_of(const model *text, uint32_t encoding, uint8_t *out) {
     size_t len = mark_lens[encoding];
     memcpy(out, marks[encoding], len);
@@ -46,7 +46,7 @@ static size_t file_of(const model *text, uint32_t encoding, uint8_t *out) {
     return len;
 }
 
-/* The first character above U+00FF, or the number of characters. */
+/* Returns the index of the first character above U+00FF, or the number of characters. */
 static size_t first_wide(const model *text) {
     size_t i = 0;
     while (i < text->len && text->chars[i] <= 0xFF) {
@@ -55,7 +55,7 @@ static size_t first_wide(const model *text) {
     return i;
 }
 
-/* How many bytes at the front are a character of UTF-8, or 0. */
+/* Returns the length of the UTF-8 character at the front, or 0 if there is none. */
 static size_t first_char(const uint8_t *bytes, size_t len) {
     uint8_t again[4];
     size_t width = len == 0 ? 0 : bytes[0] < 0x80 ? 1 : bytes[0] < 0xE0 ? 2 : bytes[0] < 0xF0 ? 3 : 4;
@@ -70,7 +70,7 @@ static size_t first_char(const uint8_t *bytes, size_t len) {
     return is_scalar && encode(c, again) == width && memcmp(again, bytes, width) == 0 ? width : 0;
 }
 
-/* The status that bytes in an encoding are read with, and the offset of their fault. */
+/* Returns the expected status of reading bytes in an encoding, and writes the offset of an error. */
 static ropey_status status_of(const uint8_t *bytes, size_t len, uint32_t encoding, size_t *offset) {
     size_t at = mark_lens[encoding];
     if (len < at || memcmp(bytes, marks[encoding], at) != 0) {
@@ -98,7 +98,7 @@ static ropey_status status_of(const uint8_t *bytes, size_t len, uint32_t encodin
     return ROPEY_OK;
 }
 
-/* The encoding in which bytes are read where a number is given. */
+/* Returns the encoding that ropey_from_bytes_as uses for bytes and a given number. */
 static uint32_t encoding_of(uint32_t given, const uint8_t *bytes, size_t len) {
     for (uint32_t encoding = 0; given == ROPEY_FILE_BY_MARK && encoding < ENCODINGS; encoding++) {
         size_t mark = mark_lens[encoding];
@@ -109,7 +109,7 @@ static uint32_t encoding_of(uint32_t given, const uint8_t *bytes, size_t len) {
     return given == ROPEY_FILE_BY_MARK ? ROPEY_FILE_UTF8 : given;
 }
 
-/* Reads bytes into a handle that holds a rope, and compares what comes of it. */
+/* Reads bytes into a handle with a rope, and checks the status, the outputs and the text. */
 static void check_read(const uint8_t *bytes, size_t len, uint32_t given, ropey_rope *rope) {
     uint32_t found = UNTOUCHED, encoding = encoding_of(given, bytes, len);
     size_t offset = UNTOUCHED, wanted_offset = UNTOUCHED, count = 0, index = UNTOUCHED;
@@ -153,7 +153,7 @@ static void check_written(const model *text, uint32_t encoding, ropey_rope *rope
     free(buffer);
 }
 
-/* Bytes of which many begin with a mark, and are surrogates or parts of characters. */
+/* Reads random bytes, many of them with a mark, surrogates and parts of characters. */
 static void check_random(ropey_rope *rope) {
     static const uint8_t drawn[] = {0, 0, 'a', 'a', 0xD8, 0xDB, 0xDC, 0xDF, 0xE0, 0xFE, 0xFF, 0xEF, 0xBB, 0xBF, 0x80, 0xC3, 0xF0, 0x9F};
     uint8_t bytes[LONGEST];

@@ -1,6 +1,6 @@
-/* The heap's three functions over malloc, realloc and free, for a processor of which the kit has no archive with them. Rattle's
- * libc declares them, with contracts: `ok` says whether there is a block. The calls ask for an alignment of 16 at most, which
- * malloc gives; of no bytes they take a block of the alignment. */
+/* The heap's three functions over malloc, realloc and free, for processors for which the kit has no archive. Rattle's libc
+ * declares them, with contracts: `ok` tells whether there is a block. The library needs an alignment of at most 16, which
+ * malloc guarantees. A block of 0 bytes has the size of its alignment. */
 #include <stdbool.h>
 #include <stddef.h>
 #include <stdlib.h>
@@ -14,7 +14,7 @@ tried rattle_alloc(size_t n, size_t a);
 tried rattle_realloc(void *p, size_t kept, size_t n, size_t a);
 void rattle_dealloc(void *p);
 
-/* Where there is no block, a pointer that leads to nothing, and isn't null. */
+/* Returns a pointer to a dummy, not null, if there is no block. */
 static tried of(void *block) {
     static char nothing;
     return block == NULL ? (tried){false, &nothing} : (tried){true, block};

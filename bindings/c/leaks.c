@@ -1,18 +1,17 @@
-/* The library gives back every block that it takes: ropey_free, ropey_builder_free and ropey_changes_free free what the handle
- * holds, a call that makes a rope, a builder or changes frees what its handle held, and a refused call keeps nothing.
+/* A test that the library frees every block: ropey_free, ropey_builder_free and ropey_changes_free free the handle's value, a
+ * call that makes a rope, a builder or changes frees the old value of its handle, and a call that fails keeps nothing.
  *
- *     leaks          # runs each case, and runs it again with each of its allocations refused in turn
- *     leaks CALL     # the same, where CALL forgets what it was to free: has to fail
- *     leaks --calls  # lists the calls that can be made to forget
+ *     leaks          # runs each case, and again with each of its allocations refused in turn
+ *     leaks CALL     # the same with a CALL that frees nothing: must fail
+ *     leaks --calls  # lists the calls that can be made to free nothing
  *
- * No contract says that memory is given back. So the prover lets these mutants through, and this test alone refuses them:
- *   - `drop` of the rope, of the builder or of the changes left out of ropey_free, ropey_builder_free and ropey_changes_free;
- *   - `drop` of what was replaced left out of `put` (handle.rt, builder_handle.rt, changes_handle.rt), which every call that
- *     makes a rope, a builder or changes ends with.
+ * No contract states that memory is freed. So the prover accepts these mutants, and only this test finds them:
+ *   - ropey_free, ropey_builder_free or ropey_changes_free without the `drop` of the value;
+ *   - `put` (handle.rt, builder_handle.rt, changes_handle.rt), the last step of every call that makes a rope, a builder or
+ *     changes, without the `drop` of the old value.
  *
- * The program counts the blocks that are taken and not given back: it is linked with --wrap=malloc, --wrap=realloc and
- * --wrap=free. */
-/* Calls are made for what they free: no status is looked at. */
+ * The program counts the blocks in use: it is linked with --wrap=malloc, --wrap=realloc and --wrap=free. */
+/* No case needs a status. */
 #define ROPEY_NODISCARD
 #include "ropey.h"
 #include <stdio.h>
@@ -51,7 +50,7 @@ void __wrap_free(void *block) {
     __real_free(block);
 }
 
-/* The call that forgets, and how it does: its handle is empty before it runs. */
+/* The call that is to free nothing: its handle is emptied before it runs. */
 static const char *forgetful = "";
 
 static void forget(const char *call, void **held) {
@@ -86,7 +85,7 @@ static const char *const calls[] = {"ropey_free", "ropey_from_text", "ropey_from
     (forget("ropey_changes_rebase", &(rebased)->ptr), ropey_changes_rebase(changes, over, side, rebased))
 #define ropey_changes_free(changes) (forget("ropey_changes_free", &(changes)->ptr), ropey_changes_free(changes))
 
-/* What the cases work on. Each case leaves what it likes in them. */
+/* The handles of the cases, which may leave values in them. */
 static ropey_rope rope = ROPEY_NO_ROPE, other = ROPEY_NO_ROPE;
 static ropey_builder builder = ROPEY_NO_BUILDER;
 static ropey_changes changes = ROPEY_NO_CHANGES, more = ROPEY_NO_CHANGES, moved = ROPEY_NO_CHANGES;
@@ -212,8 +211,8 @@ static void changes_over(void) {
 static void (*const cases[])(void) = {
     frees, makes_over, makes_nothing, reads_over, clones_over, splits_over, appends, edits, builds_over, builds_nothing, changes_over};
 
-/* Runs a case with one allocation refused, frees what it left, and returns whether every block was given back. */
-static bool gives_back(void (*run)(void), long at) {
+/* Runs a case with one allocation refused, frees the handles, and returns whether every block was freed. */
+static bool frees_all(void (*run)(void), long at) {
     long before = blocks;
     refused = false;
     refuse_at = at;
@@ -243,14 +242,14 @@ int main(int argc, char **argv) {
     for (size_t k = 0; k < sizeof cases / sizeof *cases; k++) {
         long at = -1;
         do {
-            if (!gives_back(cases[k], at)) {
-                fprintf(stderr, "leaks: case %zu, allocation %ld refused: %ld blocks are not given back\n", k, at, blocks);
+            if (!frees_all(cases[k], at)) {
+                fprintf(stderr, "leaks: case %zu, allocation %ld refused: %ld blocks are not freed\n", k, at, blocks);
                 return 1;
             }
             at++;
             runs++;
         } while (at == 0 || refused);
     }
-    printf("C: every block is given back, in %ld runs with one allocation refused in each\n", runs);
+    printf("C: every block is freed, in %ld runs with one allocation refused in each\n", runs);
     return 0;
 }

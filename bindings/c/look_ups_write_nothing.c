@@ -1,6 +1,6 @@
-/* Look-ups run on ropes and handles in memory that may only be read: one that wrote to a node, such as to its count of owners,
- * would end the program. It is linked with --wrap=malloc, --wrap=realloc and --wrap=free, so that all that the library takes
- * lies in such memory. Linux alone. */
+/* Runs lookups on ropes and handles in read-only memory: a lookup that wrote to a node, for instance to its reference count,
+ * would crash. The program is linked with --wrap=malloc, --wrap=realloc and --wrap=free, so that all allocations of the library
+ * are in that memory. For Linux only. */
 #define _GNU_SOURCE
 #include "ropey.h"
 #include <stdio.h>
@@ -14,7 +14,7 @@ static const size_t ARENA = (size_t)256 << 20;
 static uint8_t *arena;
 static size_t used = 0;
 
-/* Memory that is never given back. Before each block stands its size. */
+/* An arena that is never freed. The size of a block is stored before it. */
 void *__wrap_malloc(size_t size) {
     size_t whole = (size + 31) / 16 * 16;
     if (used + whole > ARENA) {
@@ -51,7 +51,7 @@ static size_t below(size_t n) {
     return (size_t)(state >> 33) % n;
 }
 
-/* Ropes that share nodes: each is a clone of the one before, edited. */
+/* Makes ropes that share nodes: each is an edited clone of the previous one. */
 static void make(ropey_rope *ropes) {
     static const char text[] = "a line\r\nanother, \xC3\xA9 \xE4\xB8\xAD \xF0\x9F\x98\x80\n\xE2\x80\xA8";
     expect(ropey_from_text((const uint8_t *)text, sizeof text - 1, ROPEY_UNICODE, &ropes[0]));
@@ -66,10 +66,10 @@ static void make(ropey_rope *ropes) {
     }
 }
 
-/* Every look-up but ropey_clone, ropey_clone_chars and ropey_changes_invert, and those of changes. */
+/* Runs every lookup of ropes and of changes, except ropey_clone, ropey_clone_chars and ropey_changes_invert. */
 static void look(const ropey_rope *rope, const ropey_rope *other, const ropey_changes *changes) {
     size_t bytes = ropey_len_bytes(rope), chars = ropey_len_chars(rope), lines = ropey_len_lines(rope), units = ropey_len_utf16(rope);
-    size_t i = below(chars), line = below(lines), answer = 0, count = 0, before = 0;
+    size_t i = below(chars), line = below(lines), index = 0, count = 0, before = 0;
     static uint8_t buffer[1 << 16], file[4 << 20];
     uint32_t number = 0;
     uint8_t byte = 0;
@@ -83,19 +83,19 @@ static void look(const ropey_rope *rope, const ropey_rope *other, const ropey_ch
     ropey_slice slices[PIECES] = {{0}};
     ropey_replacement replacements[PIECES] = {{0}};
     expect(ropey_get_break_set(rope, &number));
-    expect(ropey_byte_to_char(rope, below(bytes), &answer));
-    expect(ropey_byte_to_line(rope, below(bytes), &answer));
-    expect(ropey_char_to_byte(rope, i, &answer));
-    expect(ropey_char_to_line(rope, i, &answer));
-    expect(ropey_char_to_utf16(rope, i, &answer));
-    expect(ropey_utf16_to_char(rope, below(units), &answer));
-    expect(ropey_line_to_byte(rope, line, &answer));
-    expect(ropey_line_to_char(rope, line, &answer));
+    expect(ropey_byte_to_char(rope, below(bytes), &index));
+    expect(ropey_byte_to_line(rope, below(bytes), &index));
+    expect(ropey_char_to_byte(rope, i, &index));
+    expect(ropey_char_to_line(rope, i, &index));
+    expect(ropey_char_to_utf16(rope, i, &index));
+    expect(ropey_utf16_to_char(rope, below(units), &index));
+    expect(ropey_line_to_byte(rope, line, &index));
+    expect(ropey_line_to_char(rope, line, &index));
     expect(ropey_char_to_position(rope, i, &place));
-    expect(ropey_position_to_char(rope, place.line, place.column, &answer));
+    expect(ropey_position_to_char(rope, place.line, place.column, &index));
     expect(ropey_char_to_position_in(rope, i, (uint32_t)below(3), &place));
-    expect(ropey_clamped_position_to_char(rope, place.line, place.column, (uint32_t)below(3), &answer));
-    expect(ropey_line_break(rope, line, &answer));
+    expect(ropey_clamped_position_to_char(rope, place.line, place.column, (uint32_t)below(3), &index));
+    expect(ropey_line_break(rope, line, &index));
     expect(ropey_byte(rope, below(bytes), &byte));
     expect(ropey_char(rope, i, &number));
     expect(ropey_line(rope, line, &range));
@@ -105,16 +105,16 @@ static void look(const ropey_rope *rope, const ropey_rope *other, const ropey_ch
     expect(ropey_copy_bytes(rope, range.start, range.end, buffer, sizeof buffer, &count));
     expect(ropey_copy_chars(rope, i, chars < i + 100 ? chars : i + 100, buffer, sizeof buffer, &count));
     if (below(1000) == 0) {
-        expect(ropey_write_as(rope, (uint32_t)below(ROPEY_FILE_LATIN1), file, sizeof file, &count, &answer));
+        expect(ropey_write_as(rope, (uint32_t)below(ROPEY_FILE_LATIN1), file, sizeof file, &count, &index));
     }
     expect(ropey_chunk_at_byte(rope, below(bytes), &chunk));
     expect(ropey_chunk_at_char(rope, i, &chunk));
     expect(ropey_chunk_at_line_break(rope, line, &chunk));
     expect(ropey_chunks_from_byte(rope, below(bytes), pieces, PIECES, &count, &before));
     expect(ropey_chunks_before_byte(rope, below(bytes), pieces, PIECES, &count, &before));
-    expect(ropey_chunks_from_byte_with_before(rope, below(bytes), pieces, PIECES, &count, &before, &answer, &answer));
-    expect(ropey_chunks_from_char_with_before(rope, i, pieces, PIECES, &count, &before, &answer, &answer));
-    expect(ropey_chunks_from_line_break_with_before(rope, line, pieces, PIECES, &count, &before, &answer, &answer));
+    expect(ropey_chunks_from_byte_with_before(rope, below(bytes), pieces, PIECES, &count, &before, &index, &index));
+    expect(ropey_chunks_from_char_with_before(rope, i, pieces, PIECES, &count, &before, &index, &index));
+    expect(ropey_chunks_from_line_break_with_before(rope, line, pieces, PIECES, &count, &before, &index, &index));
     expect(ropey_line_slice(rope, line, &slices[0]));
     expect(ropey_char_slice(rope, i, chars, &slices[0]));
     expect(ropey_char_slice_with_before(rope, i, chars, &slices[0], &counts));
@@ -126,7 +126,7 @@ static void look(const ropey_rope *rope, const ropey_rope *other, const ropey_ch
     expect(ropey_lines_from_with_before(rope, line, slices, PIECES, &count, &counts));
     expect(ropey_compare(rope, other, &order));
     expect(ropey_equals_text(rope, chunk.text, chunk.len, &equal));
-    expect(ropey_changes_map(changes, below(ropey_changes_len_before(changes)), (uint32_t)below(2), &answer));
+    expect(ropey_changes_map(changes, below(ropey_changes_len_before(changes)), (uint32_t)below(2), &index));
     expect(ropey_changes_edits(changes, replacements, PIECES, &count));
     count += ropey_changes_len_after(changes);
 }
@@ -153,6 +153,6 @@ int main(void) {
     for (int k = 0; k < 20000; k++) {
         look(&ropes[below(ROPES)], &ropes[below(ROPES)], changes);
     }
-    printf("C: look-ups wrote neither to nodes nor to handles (%zu KB of them)\n", used >> 10);
+    printf("C: lookups wrote neither to nodes nor to handles (%zu KB of them)\n", used >> 10);
     return 0;
 }

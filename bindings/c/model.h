@@ -1,5 +1,4 @@
-/* A plain text as a list of characters, which answers everything that a rope does by going over it: what the library for C
- * is compared with. */
+/* A reference implementation of ropes, for tests of the library for C: a list of characters that each lookup scans. */
 #ifndef MODEL_H
 #define MODEL_H
 
@@ -35,7 +34,7 @@ static inline bool is_break(uint32_t break_set, uint32_t c) {
     return break_set == ROPEY_UNICODE && (c == 0x0B || c == 0x0C || c == 0x85 || c == 0x2028 || c == 0x2029);
 }
 
-/* Whether a line break ends before character i. */
+/* Returns whether a line break ends before character i. */
 static inline bool break_ends_at(const model *m, size_t i) {
     if (i == 0 || i > m->len || !is_break(m->break_set, m->chars[i - 1])) {
         return false;
@@ -43,7 +42,7 @@ static inline bool break_ends_at(const model *m, size_t i) {
     return !(m->chars[i - 1] == 0x0D && i < m->len && m->chars[i] == 0x0A);
 }
 
-/* The bytes, the characters, the code units and the line breaks of the first n characters, seen within the whole text. */
+/* Returns the counts of the first n characters, with their line breaks in the whole text. */
 static inline ropey_counts counts_before(const model *m, size_t n) {
     ropey_counts counts = {0, n, 0, 0};
     for (size_t i = 0; i < n; i++) {
@@ -72,7 +71,7 @@ static inline size_t char_at_utf16(const model *m, size_t unit) {
     return i;
 }
 
-/* The character at which a line starts; past the last line, the end. */
+/* Returns the character at which a line starts, or the end for a line past the last one. */
 static inline size_t start_of_line(const model *m, size_t line) {
     size_t i = 0;
     for (size_t seen = 0; seen < line && i < m->len; i++) {
@@ -93,7 +92,7 @@ static inline model model_of(const uint32_t *chars, size_t len, uint32_t break_s
 
 static inline model part_of(const model *m, size_t start, size_t end) { return model_of(m->chars + start, end - start, m->break_set); }
 
-/* Puts characters in the place of those from start up to end. */
+/* Replaces the characters from start up to end. */
 static inline void model_replace(model *m, size_t start, size_t end, const uint32_t *chars, size_t len) {
     uint32_t *all = malloc((m->len - (end - start) + len + 1) * sizeof *all);
     memcpy(all, m->chars, start * sizeof *all);
@@ -106,7 +105,7 @@ static inline void model_replace(model *m, size_t start, size_t end, const uint3
     m->len = m->len - (end - start) + len;
 }
 
-/* The bytes of the text, which the caller frees, and their number. */
+/* Returns the bytes of the text, which the caller frees, and writes their number to len. */
 static inline uint8_t *bytes_of(const model *m, size_t *len) {
     uint8_t *bytes = malloc(m->len * 4 + 1);
     *len = 0;

@@ -1,4 +1,4 @@
-/* Reads a file, edits it, prints its lines, undoes, and writes it: the classes of ropey.hpp.
+/* Reads a file, edits it, prints its lines, undoes, and writes it, with the classes of ropey.hpp.
  *
  *     notes FILE */
 #include "ropey.hpp"

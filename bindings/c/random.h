@@ -1,5 +1,5 @@
-/* Random numbers, texts and refused allocations for tests that compare the library with a plain text (model.h). A program
- * that includes this is linked with --wrap=malloc and --wrap=realloc. */
+/* Random numbers, texts and failing allocations for tests that compare the library with a plain text (model.h). Link programs
+ * that include this with --wrap=malloc and --wrap=realloc. */
 #ifndef RANDOM_H
 #define RANDOM_H
 
@@ -18,7 +18,7 @@ static inline uint64_t draw(void) {
 
 static inline size_t below(size_t n) { return (size_t)(draw() % n); }
 
-/* Takes a program's arguments: the number of rounds, `usual` if it isn't given, and then a seed of the random numbers. */
+/* Reads a program's arguments: the number of rounds, `usual` by default, and then a seed of the random numbers. */
 static inline long rounds_of(int argc, char **argv, long usual) {
     state += argc > 2 ? (uint64_t)atoll(argv[2]) * 0x9E3779B97F4A7C15u : 0;
     return argc > 1 ? atol(argv[1]) : usual;
@@ -31,7 +31,7 @@ static inline void fail(int line, const char *what) {
 
 #define CHECK(fact) ((fact) ? (void)0 : fail(__LINE__, #fact))
 
-/* Allocations, of which one can be refused. */
+/* Allocations, one of which can be refused. */
 static long refuse_at = -1;
 static bool refused = false;
 
@@ -50,7 +50,7 @@ void *__wrap_malloc(size_t size) { return is_refused() ? NULL : __real_malloc(si
 
 void *__wrap_realloc(void *block, size_t size) { return is_refused() ? NULL : __real_realloc(block, size); }
 
-/* Decides before a call whether one of its allocations fails, and after it lets all of them succeed. */
+/* Decides before a call whether one of its allocations fails; `disarm` lets the later ones succeed. */
 static inline void arm(void) {
     refused = false;
     refuse_at = below(8) == 0 ? (long)below(6) : -1;

@@ -1,17 +1,17 @@
-/* Ropes, builders and changes for programs in C++17: the calls of ropey.h on classes that free what they hold. Texts are UTF-8.
- * ropey.h says what each call does, what it costs, and what may run at once.
+/* Ropes, builders and changes for programs in C++17: classes over the calls of ropey.h that own their handles. Texts are
+ * UTF-8. ropey.h describes each call, its cost, and the rules for threads.
  *
- * Errors. The classes `ropey::rope`, `ropey::builder` and `ropey::changes` throw ropey::refused, and std::bad_alloc when out of
- * memory. Those of the same names in `ropey::expected` throw nothing of their own, and are there without exceptions too: a call
- * returns a ropey::result, which has the value or a ropey_status. A call that fails leaves its rope as it was, unless its comment
- * says otherwise. Both kinds take memory for a std::string or a std::vector that they return as these do.
+ * Errors. The classes `ropey::rope`, `ropey::builder` and `ropey::changes` throw ropey::refused, and std::bad_alloc when out
+ * of memory. The classes in `ropey::expected` also work without exceptions: a call returns a ropey::result, which has the
+ * value or a ropey_status. A call that fails leaves its rope unchanged, unless its comment says otherwise. A std::string or a
+ * std::vector that a call returns allocates, and throws, as usual in both.
  *
- * Moves. The classes may be moved; a rope is copied by clone() alone. One that was moved from holds nothing: its lengths are 0, it
- * may be assigned to, moved and destroyed, and any other call fails with ROPEY_NO_ROPE_HELD (ROPEY_NO_BUILDER_HELD,
+ * Moves. Objects can be moved; a rope is copied only by clone(). A moved-from object is empty: its lengths are 0, it may be
+ * assigned to, moved and destroyed, and any other call fails with ROPEY_NO_ROPE_HELD (ROPEY_NO_BUILDER_HELD,
  * ROPEY_NO_CHANGES_HELD).
  *
- * Views. A std::string_view, a slice or a range of them refers to the rope's memory. It is good until the rope is edited, assigned
- * to or destroyed, whatever happens to its clones. */
+ * Views. A std::string_view, a slice or a range of them refers to the rope's memory. It is valid until the rope is edited,
+ * assigned to or destroyed, whatever happens to its clones. */
 #ifndef ROPEY_HPP
 #define ROPEY_HPP
 
@@ -32,13 +32,13 @@
 
 namespace ropey {
 
-/* On which side of inserted text an index stays. */
+/* The side of inserted text on which an index stays. */
 enum class side : uint32_t { before = ROPEY_BEFORE, after = ROPEY_AFTER };
 
-/* What a column counts. */
+/* The unit of columns. */
 enum class encoding : uint32_t { utf8 = ROPEY_UTF8, utf16 = ROPEY_UTF16, utf32 = ROPEY_UTF32 };
 
-/* How the bytes of a file stand for its text. */
+/* An encoding of files. */
 enum class file_encoding : uint32_t {
     utf8 = ROPEY_FILE_UTF8,
     utf8_bom = ROPEY_FILE_UTF8_BOM,
@@ -50,20 +50,20 @@ enum class file_encoding : uint32_t {
     by_mark = ROPEY_FILE_BY_MARK
 };
 
-/* The rope of a file, and the encoding in which it was read. */
+/* The rope of a file, and its encoding. */
 template <typename Rope> struct file {
     Rope rope;
     file_encoding encoding;
 };
 
-/* The characters from start up to end of a text are replaced by another text. */
+/* A replacement of the characters from start up to end by a text. */
 struct edit {
     size_t start;
     size_t end;
     std::string_view text;
 };
 
-/* A replacement of changes, with its range in the text before and in the text after. The text belongs to the changes. */
+/* A replacement of changes, with its ranges in the text before and after. The text belongs to the changes. */
 struct replacement {
     size_t start;
     size_t end;
@@ -72,7 +72,7 @@ struct replacement {
     std::string_view text;
 };
 
-/* A chunk of a rope's text, and how much of the text lies before it. */
+/* A chunk of a rope, and the counts of the text before it. */
 struct chunk {
     std::string_view text;
     size_t bytes_before;
@@ -94,10 +94,10 @@ template <typename T> class [[nodiscard]] result {
     explicit operator bool() const { return has_value(); }
     ropey_status error() const { return failed; }
 
-    /* The value; without one, the program ends. */
-    T &value() & { return given(), *held; }
-    const T &value() const & { return given(), *held; }
-    T &&value() && { return given(), std::move(*held); }
+    /* Returns the value, or aborts if there is none. */
+    T &value() & { return require(), *held; }
+    const T &value() const & { return require(), *held; }
+    T &&value() && { return require(), std::move(*held); }
     T &operator*() & { return value(); }
     const T &operator*() const & { return value(); }
     T &&operator*() && { return std::move(*this).value(); }
@@ -105,7 +105,7 @@ template <typename T> class [[nodiscard]] result {
     const T *operator->() const { return &value(); }
 
   private:
-    void given() const {
+    void require() const {
         if (!has_value()) {
             std::abort();
         }
@@ -127,7 +127,7 @@ template <> class [[nodiscard]] result<void> {
     ropey_status failed = ROPEY_OK;
 };
 
-/* How a call that fails returns that: by a result. */
+/* A policy for errors: results. */
 struct by_result {
     static constexpr bool throws = false;
     template <typename T> using answer = result<T>;
@@ -153,7 +153,7 @@ inline void check(ropey_status status) {
     }
 }
 
-/* How a call that fails returns that: by an exception. */
+/* A policy for errors: exceptions. */
 struct by_exception {
     static constexpr bool throws = true;
     template <typename T> using answer = T;
@@ -165,7 +165,7 @@ struct by_exception {
 };
 #endif
 
-/* An iterator over a range that fetches its values as it goes: the range has current(), step() and is_done(). */
+/* An iterator over a range that fetches its values on demand. The range has current(), step() and is_done(). */
 template <typename Range, typename Value> class fetched_iterator {
   public:
     using iterator_category = std::input_iterator_tag;
@@ -190,7 +190,7 @@ template <typename Range, typename Value> class fetched_iterator {
     Range *range = nullptr;
 };
 
-/* The chunks of a rope's text from a byte to another. Its begin() is called once: the chunks are fetched as it goes. */
+/* The chunks of a rope from a byte to another. It can be iterated once, since it fetches the chunks on demand. */
 class chunks {
   public:
     chunks(const ropey_rope *of, size_t from, size_t to) : rope(of), at(from), end_at(to) { fetch(); }
@@ -222,7 +222,7 @@ class chunks {
             fetch();
         }
     }
-    /* Of the first chunk the part from `at` on, of the last the part up to the end. */
+    /* Cuts the chunk to the range. */
     void show() {
         text = std::string_view();
         if (next < count && at < end_at) {
@@ -237,7 +237,7 @@ class chunks {
     ropey_piece pieces[room];
 };
 
-/* Shows texts to a function until it returns false; one that returns nothing is shown all. */
+/* Calls a function for each text, until it returns false; one that returns nothing gets all texts. */
 template <typename Texts, typename Show> void show_each(Texts &&texts, Show &show) {
     for (std::string_view text : texts) {
         if constexpr (std::is_void_v<std::invoke_result_t<Show &, std::string_view>>) {
@@ -248,7 +248,7 @@ template <typename Texts, typename Show> void show_each(Texts &&texts, Show &sho
     }
 }
 
-/* A part of a rope's text, and how much it is. */
+/* A part of a rope's text, and its counts. */
 class slice {
   public:
     slice() = default;
@@ -259,10 +259,10 @@ class slice {
     size_t len_utf16() const { return part.counts.utf16; }
     size_t len_lines() const { return part.counts.line_breaks + 1; }
 
-    /* The byte of the rope at which it starts. */
+    /* Returns the slice's first byte index in the rope. */
     size_t start_byte() const { return start; }
 
-    /* The text where it lies in one chunk, else nothing. */
+    /* Returns the text if it lies in one chunk. */
     std::optional<std::string_view> view() const {
         return part.len == part.counts.bytes ? std::optional<std::string_view>(text_of(part.text, part.len)) : std::nullopt;
     }
@@ -288,7 +288,7 @@ class slice {
     ropey_slice part = ROPEY_NO_SLICE;
 };
 
-/* The lines of a rope from one on, each with its line break. Its begin() is called once: the lines are fetched as it goes. */
+/* The lines of a rope from one on, each with its line break. It can be iterated once, since it fetches the lines on demand. */
 class lines {
   public:
     lines(const ropey_rope *of, size_t from, size_t from_byte) : rope(of), line_idx(from), at(from_byte) { fetch(); }
@@ -322,7 +322,7 @@ class lines {
     ropey_slice list[room];
 };
 
-/* The owner of a handle, which is freed with it. One that was moved from holds nothing. */
+/* The owner of a handle. A moved-from one is empty. */
 template <typename Handle, void (*free_handle)(Handle *)> class owner {
   public:
     owner(owner &&other) noexcept : handle(std::exchange(other.handle, none())) {}
@@ -337,7 +337,7 @@ template <typename Handle, void (*free_handle)(Handle *)> class owner {
     owner &operator=(const owner &) = delete;
     ~owner() { free_handle(&handle); }
 
-    /* The handle, for calls of ropey.h. */
+    /* Returns the handle, for calls of ropey.h. */
     const Handle *get() const { return &handle; }
     Handle *get() { return &handle; }
 
@@ -354,7 +354,7 @@ template <typename Policy> class basic_rope : public owner<ropey_rope, ropey_fre
   public:
     template <typename T> using answer = typename Policy::template answer<T>;
 
-    /* An empty rope; of ropey::expected, one that holds nothing. */
+    /* Makes a rope of an empty text; in ropey::expected, an empty handle. */
     basic_rope() {
         if constexpr (Policy::throws) {
             *this = basic_rope(std::string_view());
@@ -367,7 +367,7 @@ template <typename Policy> class basic_rope : public owner<ropey_rope, ropey_fre
         return made([&](ropey_rope *made) { return ropey_from_text(bytes_of(text), text.size(), breaks, made); });
     }
 
-    /* Reads a stream to its end. Where a read fails the text ends: the stream's state says so. */
+    /* Reads a stream to its end, or to the first read that fails: check the stream's state. */
     static answer<basic_rope> read(std::istream &in, ropey_break_set breaks = ROPEY_UNICODE) {
         return made([&](ropey_rope *made) {
             ropey_builder builder = ROPEY_NO_BUILDER;
@@ -387,7 +387,7 @@ template <typename Policy> class basic_rope : public owner<ropey_rope, ropey_fre
         });
     }
 
-    /* Reads all bytes of a file. Where they are no text, the offset of the first that is not is written to *offset. */
+    /* Reads all bytes of a file. If they aren't text, writes the offset of the first such byte to *offset. */
     static answer<file<basic_rope>> from_bytes_as(std::string_view bytes, file_encoding given = file_encoding::by_mark,
                                                   ropey_break_set breaks = ROPEY_UNICODE, size_t *offset = nullptr) {
         file<basic_rope> read = {basic_rope(none()), given};
@@ -399,7 +399,7 @@ template <typename Policy> class basic_rope : public owner<ropey_rope, ropey_fre
         return Policy::give(status, std::move(read));
     }
 
-    /* The bytes of a file of the text. Where the encoding has none for a character, its index is written to *char_idx. */
+    /* Returns the text as the bytes of a file. If the encoding has none for a character, writes its index to *char_idx. */
     answer<std::string> bytes_as(file_encoding in, size_t *char_idx = nullptr) const {
         std::string bytes;
         size_t len = 0, index = 0;
@@ -420,12 +420,12 @@ template <typename Policy> class basic_rope : public owner<ropey_rope, ropey_fre
         return made([&](ropey_rope *copy) { return ropey_clone(&handle, copy); });
     }
 
-    /* A rope of a range of characters. */
+    /* Returns a rope of a range of characters. */
     answer<basic_rope> clone(size_t start, size_t end) const {
         return made([&](ropey_rope *copy) { return ropey_clone_chars(&handle, start, end, copy); });
     }
 
-    /* Whether it holds a rope: not one that was moved from. */
+    /* Returns whether the object has a rope: false after a move from it. */
     bool has_rope() const { return handle.ptr != nullptr; }
 
     answer<void> insert(size_t char_idx, std::string_view text) {
@@ -444,7 +444,7 @@ template <typename Policy> class basic_rope : public owner<ropey_rope, ropey_fre
         return Policy::give(ropey_replace_bytes(&handle, start, end, bytes_of(text), text.size()));
     }
 
-    /* Appends the text of other, which holds nothing afterwards, also when out of memory. A rope appended to itself has its text
+    /* Appends the text of other, which is empty afterwards, even when out of memory. A rope appended to itself has its text
      * twice. */
     answer<void> append(basic_rope &&other) {
         if (this != &other) {
@@ -459,7 +459,7 @@ template <typename Policy> class basic_rope : public owner<ropey_rope, ropey_fre
     }
     answer<void> shrink_to_fit() { return Policy::give(ropey_shrink_to_fit(&handle)); }
 
-    /* Makes edits in order and apart, or none of them. Their indices are those of the text before all of them. */
+    /* Applies ordered edits of disjoint ranges, atomically. Their indices are in the text before all of them. */
     answer<void> apply(const std::vector<edit> &edits) {
         std::vector<ropey_edit> list;
         list.reserve(edits.size());
@@ -492,7 +492,7 @@ template <typename Policy> class basic_rope : public owner<ropey_rope, ropey_fre
     answer<size_t> line_to_byte(size_t i) const { return found<size_t>(ropey_line_to_byte, i); }
     answer<size_t> line_to_char(size_t i) const { return found<size_t>(ropey_line_to_char, i); }
 
-    /* Columns count code units of UTF-16 where no encoding is given. */
+    /* Columns are in UTF-16 code units unless an encoding is given. */
     answer<ropey_place> char_to_position(size_t char_idx) const { return found<ropey_place>(ropey_char_to_position, char_idx); }
     answer<ropey_place> char_to_position(size_t char_idx, encoding columns) const {
         return found<ropey_place>(ropey_char_to_position_in, char_idx, static_cast<uint32_t>(columns));
@@ -511,7 +511,7 @@ template <typename Policy> class basic_rope : public owner<ropey_rope, ropey_fre
         return Policy::give(status, static_cast<char32_t>(c));
     }
 
-    /* The characters of a line, including its line break, and the number of those of the line break. */
+    /* Return the range of characters of a line, including its line break, and the number of characters of the line break. */
     answer<ropey_range> line_range(size_t line_idx) const { return found<ropey_range>(ropey_line, line_idx); }
     answer<size_t> line_break(size_t line_idx) const { return found<size_t>(ropey_line_break, line_idx); }
 
@@ -519,13 +519,13 @@ template <typename Policy> class basic_rope : public owner<ropey_rope, ropey_fre
     answer<chunk> chunk_at_char(size_t char_idx) const { return chunk_at(ropey_chunk_at_char, char_idx); }
     answer<chunk> chunk_at_line_break(size_t line_idx) const { return chunk_at(ropey_chunk_at_line_break, line_idx); }
 
-    /* The chunks, and those from a byte on, of which the first begins with that byte. */
+    /* Return the chunks, or the chunks from a byte on, the first of them cut to start with that byte. */
     ropey::chunks chunks() const { return ropey::chunks(&handle, 0, len_bytes()); }
     answer<ropey::chunks> chunks(size_t byte_idx) const {
         return Policy::give(is_within(byte_idx), ropey::chunks(&handle, byte_idx, len_bytes()));
     }
 
-    /* Shows the chunks from a byte on to a function that gets a std::string_view. It returns nothing, or whether to go on. */
+    /* Calls a function with each chunk from a byte on, a std::string_view. It returns nothing, or whether to continue. */
     template <typename Show> answer<void> each_chunk(size_t byte_idx, Show show) const {
         const ropey_status status = is_within(byte_idx);
         if (status == ROPEY_OK) {
@@ -534,7 +534,7 @@ template <typename Policy> class basic_rope : public owner<ropey_rope, ropey_fre
         return Policy::give(status);
     }
 
-    /* The chunks before the one that holds a byte, at most `most` of them, the nearest first. */
+    /* Returns the chunks before the one that contains a byte, at most `most` of them, the nearest first. */
     answer<std::vector<std::string_view>> chunks_before(size_t byte_idx, size_t most) const {
         std::vector<ropey_piece> pieces(most);
         std::vector<std::string_view> texts;
@@ -565,7 +565,7 @@ template <typename Policy> class basic_rope : public owner<ropey_rope, ropey_fre
         return Policy::give(status, ropey::slice(&handle, byte, part));
     }
 
-    /* The lines, and those from one on. */
+    /* Return the lines, or the lines from one on. */
     ropey::lines lines() const { return ropey::lines(&handle, 0, 0); }
     answer<ropey::lines> lines(size_t line_idx) const {
         size_t byte = 0;
@@ -573,7 +573,7 @@ template <typename Policy> class basic_rope : public owner<ropey_rope, ropey_fre
         return Policy::give(status, ropey::lines(&handle, status == ROPEY_OK ? line_idx : len_lines(), byte));
     }
 
-    /* The lines before one, at most `most` of them, the nearest first. */
+    /* Returns the lines before one, at most `most` of them, the nearest first. */
     answer<std::vector<ropey::slice>> lines_before(size_t line_idx, size_t most) const {
         std::vector<ropey_slice> list(most);
         std::vector<ropey::slice> parts;
@@ -589,7 +589,7 @@ template <typename Policy> class basic_rope : public owner<ropey_rope, ropey_fre
         return Policy::give(status, std::move(parts));
     }
 
-    /* Copies of the text. */
+    /* Return copies of the text. */
     std::string text() const {
         std::string copy;
         copy.reserve(len_bytes());
@@ -615,14 +615,14 @@ template <typename Policy> class basic_rope : public owner<ropey_rope, ropey_fre
         return Policy::give(status, std::move(copy));
     }
 
-    /* The order of two texts by their bytes: -1, 0 or 1. */
+    /* Compares two texts by their bytes: -1, 0 or 1. */
     answer<int> compare(const basic_rope &other) const {
         int32_t order = 0;
         const ropey_status status = ropey_compare(&handle, &other.handle, &order);
         return Policy::give(status, static_cast<int>(order));
     }
 
-    /* A rope that holds nothing equals those that hold nothing. A text that is not UTF-8 equals no rope. */
+    /* Empty handles are equal. A text that isn't UTF-8 equals no rope. */
     friend bool operator==(const basic_rope &a, const basic_rope &b) {
         int32_t order = 0;
         const ropey_status status = ropey_compare(&a.handle, &b.handle, &order);
@@ -684,12 +684,12 @@ template <typename Policy> class basic_rope : public owner<ropey_rope, ropey_fre
     }
 };
 
-/* A rope in the making, of bytes that are cut anywhere. */
+/* A builder of a rope from bytes that arrive in parts, cut anywhere. */
 template <typename Policy> class basic_builder : public owner<ropey_builder, ropey_builder_free> {
   public:
     template <typename T> using answer = typename Policy::template answer<T>;
 
-    /* A builder that was given nothing; of ropey::expected, one that holds nothing. */
+    /* Makes a builder of an empty text; in ropey::expected, an empty handle. */
     basic_builder() {
         if constexpr (Policy::throws) {
             *this = start();
@@ -708,19 +708,19 @@ template <typename Policy> class basic_builder : public owner<ropey_builder, rop
         return Policy::give(status, std::move(made));
     }
 
-    /* Gives the builder the bytes that follow. After an error every later call fails in the same way. */
+    /* Appends bytes to the text. After an error every later call fails with the same error. */
     answer<void> append(std::string_view bytes) {
         return Policy::give(ropey_builder_append(&handle, bytes_of(bytes), bytes.size(), &valid));
     }
 
-    /* Makes the rope. Afterwards the builder holds nothing. */
+    /* Makes the rope. Afterwards the builder is empty. */
     answer<basic_rope<Policy>> finish() {
         basic_rope<Policy> rope{basic_rope<Policy>::none()};
         const ropey_status status = ropey_builder_finish(&handle, rope.get(), &valid);
         return Policy::give(status, std::move(rope));
     }
 
-    /* After ROPEY_INVALID_UTF8: how many bytes of all that was given are UTF-8. */
+    /* After ROPEY_INVALID_UTF8, returns the number of bytes before the first that isn't UTF-8. */
     size_t valid_bytes() const { return valid; }
 
   private:
@@ -728,25 +728,25 @@ template <typename Policy> class basic_builder : public owner<ropey_builder, rop
     size_t valid = 0;
 };
 
-/* Changes of a text of a given length: replacements of ranges, in order and apart. */
+/* Changes of a text of a given length: ordered replacements of disjoint ranges. */
 template <typename Policy> class basic_changes : public owner<ropey_changes, ropey_changes_free> {
   public:
     template <typename T> using answer = typename Policy::template answer<T>;
     using rope = basic_rope<Policy>;
 
-    /* Keeps all of a text of len characters. */
+    /* Makes changes of a text of len characters that replace nothing. */
     template <typename P = Policy, typename = std::enable_if_t<P::throws>>
     explicit basic_changes(size_t len) : basic_changes(of_edits(len, {})) {}
-    /* Edits in order. */
+    /* Makes changes from edits in order. */
     template <typename P = Policy, typename = std::enable_if_t<P::throws>>
     basic_changes(size_t len, const std::vector<edit> &edits) : basic_changes(of_edits(len, edits)) {}
 
-    /* Keeps all of a text of len characters. */
+    /* Makes changes of a text of len characters that replace nothing. */
     static answer<basic_changes> keep(size_t len) {
         return made([&](ropey_changes *made) { return ropey_changes_new(len, made); });
     }
 
-    /* Edits in order. */
+    /* Makes changes from edits in order. */
     static answer<basic_changes> of_edits(size_t len, const std::vector<edit> &edits) {
         std::vector<ropey_edit> list;
         list.reserve(edits.size());
@@ -756,7 +756,7 @@ template <typename Policy> class basic_changes : public owner<ropey_changes, rop
         return made([&](ropey_changes *made) { return ropey_changes_of_edits(len, list.data(), list.size(), made); });
     }
 
-    /* Indices are those of the text before, and the range comes after the last one. */
+    /* Adds a replacement. The range is in the text before, and must come after the last one. */
     answer<void> replace(size_t start, size_t end, std::string_view text) {
         return Policy::give(ropey_changes_replace(&handle, start, end, bytes_of(text), text.size()));
     }
@@ -764,39 +764,39 @@ template <typename Policy> class basic_changes : public owner<ropey_changes, rop
     size_t len_before() const { return ropey_changes_len_before(&handle); }
     size_t len_after() const { return ropey_changes_len_after(&handle); }
 
-    /* Whole, or not at all. */
+    /* Applies the changes, atomically. */
     answer<void> apply(rope &text) const { return Policy::give(ropey_changes_apply(&handle, text.get())); }
 
-    /* The changes that lead back to the text of before. */
+    /* Returns the changes that undo these, where before is the text before these. */
     answer<basic_changes> invert(const rope &before) const {
         return made([&](ropey_changes *inverse) { return ropey_changes_invert(&handle, before.get(), inverse); });
     }
 
-    /* The changes, and then later ones. */
+    /* Returns changes equivalent to these followed by later. */
     answer<basic_changes> compose(const basic_changes &later) const {
         return made([&](ropey_changes *both) { return ropey_changes_compose(&handle, &later.handle, both); });
     }
 
-    /* The changes as changes of the text after over. */
+    /* Returns these changes rebased over others, as changes of the text after over. */
     answer<basic_changes> rebase(const basic_changes &over, side on) const {
         const uint32_t number = static_cast<uint32_t>(on);
         return made([&](ropey_changes *rebased) { return ropey_changes_rebase(&handle, &over.handle, number, rebased); });
     }
 
-    /* Where an index of the text before lies in the text after. */
+    /* Maps an index of the text before to the text after. */
     answer<size_t> map(size_t char_idx, side on) const {
         size_t moved = 0;
         const ropey_status status = ropey_changes_map(&handle, char_idx, static_cast<uint32_t>(on), &moved);
         return Policy::give(status, std::move(moved));
     }
 
-    /* Moves all indices as map does, in one pass where they ascend. */
+    /* Maps all indices as map does, in one pass if they ascend. */
     answer<void> map_sorted(std::vector<size_t> &char_indices, side on) const {
         const uint32_t number = static_cast<uint32_t>(on);
         return Policy::give(ropey_changes_map_sorted(&handle, char_indices.data(), char_indices.size(), number));
     }
 
-    /* The replacements, in order. Their texts are good until the changes are edited, assigned to or destroyed. */
+    /* Returns the replacements in order. Their texts are valid until the changes are edited, assigned to or destroyed. */
     answer<std::vector<replacement>> edits() const {
         size_t count = 0;
         std::vector<replacement> shown;
@@ -821,7 +821,7 @@ template <typename Policy> class basic_changes : public owner<ropey_changes, rop
     }
 };
 
-/* Counts of plain texts. */
+/* Counts and conversions of plain texts. */
 template <typename Policy> struct basic_texts {
     template <typename T> using answer = typename Policy::template answer<T>;
     static size_t valid_len(std::string_view text) { return ropey_text_valid_len(bytes_of(text), text.size()); }
@@ -871,7 +871,7 @@ using texts = basic_texts<by_result>;
 
 } // namespace ropey
 
-/* Equal texts hash alike, however they are cut into chunks. */
+/* Equal texts have equal hashes, whatever their chunks. */
 template <typename Policy> struct std::hash<ropey::basic_rope<Policy>> {
     size_t operator()(const ropey::basic_rope<Policy> &rope) const {
         uint64_t sum = 0xcbf29ce484222325;

@@ -1,4 +1,4 @@
-/* The words for statuses: the one function of the library that is written in C. A function of the crate can't return a pointer. */
+/* The messages of statuses: the only function of the library in C, since a function of the crate can't return a pointer. */
 #include "ropey.h"
 
 const char *ropey_status_text(uint32_t status) {

@@ -1,6 +1,6 @@
-/* A rope under tree-sitter: the edit that ts_tree_edit takes, with rows and byte columns, and the callback by which ts_parser_parse
- * reads the text. The types are those of tree_sitter/api.h, so that this file needs no other library. Tree-sitter's rows end after
- * LF alone: so do the rope's lines, by ROPEY_LF. */
+/* A rope as tree-sitter's input: the edit for ts_tree_edit, with rows and byte columns, and the callback with which
+ * ts_parser_parse reads the text. The types are copied from tree_sitter/api.h, so that this file needs no other library.
+ * Tree-sitter's rows end only after LF, so the rope has the set ROPEY_LF. */
 #include "ropey.h"
 
 #include <inttypes.h>
@@ -29,7 +29,7 @@ static void expect(ropey_status status, const char *what) {
     }
 }
 
-/* TSInput.read: the rest of the chunk that holds a byte. */
+/* TSInput.read: returns the rest of the chunk that contains a byte. */
 static const char *read_chunk(void *rope, uint32_t byte_index, TSPoint position, uint32_t *bytes_read) {
     ropey_chunk chunk;
     (void)position;
@@ -42,7 +42,7 @@ static const char *read_chunk(void *rope, uint32_t byte_index, TSPoint position,
     return (const char *)chunk.text + skipped;
 }
 
-/* The row and byte column of a byte. */
+/* Returns the row and byte column of a byte. */
 static TSPoint point_at(const ropey_rope *rope, size_t byte_idx) {
     size_t line, start;
     expect(ropey_byte_to_line(rope, byte_idx, &line), "byte_to_line");
@@ -50,7 +50,7 @@ static TSPoint point_at(const ropey_rope *rope, size_t byte_idx) {
     return (TSPoint){(uint32_t)line, (uint32_t)(byte_idx - start)};
 }
 
-/* Replaces bytes by a text, and returns what tree-sitter wants to know of it. */
+/* Replaces bytes by a text, and returns the edit for tree-sitter. */
 static TSInputEdit replace(ropey_rope *rope, size_t start, size_t end, const char *text) {
     const size_t len = strlen(text);
     TSInputEdit edit = {(uint32_t)start, (uint32_t)end, (uint32_t)(start + len), {0, 0}, {0, 0}, {0, 0}};
@@ -80,7 +80,7 @@ int main(void) {
     print("old end", edit.old_end_byte, edit.old_end_point);
     print("new end", edit.new_end_byte, edit.new_end_point);
 
-    /* The callback, called as a parser calls it, until it reads nothing. */
+    /* Calls the callback as a parser does, to the end of the text. */
     uint32_t at = 0, len = 0, reads = 0;
     bool equal = true;
     for (;; at += len, reads++) {

@@ -1,5 +1,4 @@
-/* An editor's undo: words that are typed character by character are taken back word by word. Each line that is printed
- * stands beside the call that it comes from. */
+/* An editor's undo: text that is typed character by character is undone word by word. */
 #include "ropey.h"
 
 #include <stdio.h>
@@ -8,14 +7,14 @@
 
 enum { STEPS = 16 };
 
-/* A text, and the changes that take its last edits back, the last of them on top. */
+/* A text, and a stack of changes that undo its last edits. */
 typedef struct {
     ropey_rope rope;
     ropey_changes undo[STEPS];
     size_t count;
 } editor;
 
-/* Ends the program where a call is refused. */
+/* Ends the program if a call fails. */
 static void expect(ropey_status status, const char *what) {
     if (status != ROPEY_OK) {
         fprintf(stderr, "%s: %s\n", what, ropey_status_text(status));
@@ -30,7 +29,7 @@ static void print(const char *label, const editor *e) {
     printf("%s: %.*s\n", label, (int)len, (const char *)buffer);
 }
 
-/* Makes edits, and keeps what takes them back: as a step of its own, or as one with the step before. */
+/* Applies edits, and pushes the changes that undo them, or joins these with the last step. */
 static void edit(editor *e, const ropey_edit *edits, size_t count, bool joins) {
     ropey_changes changes = ROPEY_NO_CHANGES, back = ROPEY_NO_CHANGES, both = ROPEY_NO_CHANGES;
     expect(ropey_changes_of_edits(ropey_len_chars(&e->rope), edits, count, &changes), "changes_of_edits");
@@ -49,7 +48,7 @@ static void edit(editor *e, const ropey_edit *edits, size_t count, bool joins) {
     ropey_changes_free(&changes);
 }
 
-/* Types a text at the end; a space begins a new step. */
+/* Types a text at the end. A space starts a new step. */
 static void type(editor *e, const char *text) {
     for (size_t i = 0; text[i] != '\0'; i++) {
         size_t end = ropey_len_chars(&e->rope);
@@ -71,7 +70,7 @@ int main(void) {
     type(&e, "one two three");
     print("typed", &e);
 
-    /* Two carets: both edits are made at once, and their indices are those of the text before. */
+    /* Two carets: both edits are applied at once. Their indices are in the text before both. */
     const ropey_edit carets[] = {{0, 3, (const uint8_t *)"1", 1}, {4, 7, (const uint8_t *)"2", 1}};
     edit(&e, carets, 2, false);
     print("two carets", &e);

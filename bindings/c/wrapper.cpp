@@ -1,4 +1,4 @@
-/* Uses the classes of ropey.hpp, and fails where they return anything else. */
+/* Tests the classes of ropey.hpp. */
 #include "ropey.hpp"
 #include <cstdio>
 #include <cstdlib>
@@ -10,7 +10,7 @@
 
 static ropey_rope global = ROPEY_NO_ROPE;
 
-template <typename Call> static ropey_status refusal_of(Call call) {
+template <typename Call> static ropey_status error_of(Call call) {
     try {
         call();
     } catch (const ropey::refused &refused) {
@@ -19,7 +19,7 @@ template <typename Call> static ropey_status refusal_of(Call call) {
     return ROPEY_OK;
 }
 
-/* Parts of a text that lies in several chunks. */
+/* Reads parts of a text of several chunks. */
 static void reads(const ropey::rope &rope, const std::string &all) {
     for (size_t from : {size_t(0), size_t(5), size_t(983), size_t(984), size_t(985), size_t(2500), all.size() - 1, all.size()}) {
         std::string shown;
@@ -34,8 +34,8 @@ static void reads(const ropey::rope &rope, const std::string &all) {
     size_t count = 0;
     rope.each_chunk(5, [&](std::string_view) { return ++count < 2; });
     CHECK(count == 2);
-    CHECK(refusal_of([&] { rope.each_chunk(all.size() + 1, [](std::string_view) {}); }) == ROPEY_BYTE_INDEX_OUT_OF_BOUNDS);
-    CHECK(refusal_of([&] { (void)rope.chunks(all.size() + 1); }) == ROPEY_BYTE_INDEX_OUT_OF_BOUNDS);
+    CHECK(error_of([&] { rope.each_chunk(all.size() + 1, [](std::string_view) {}); }) == ROPEY_BYTE_INDEX_OUT_OF_BOUNDS);
+    CHECK(error_of([&] { (void)rope.chunks(all.size() + 1); }) == ROPEY_BYTE_INDEX_OUT_OF_BOUNDS);
 
     std::string joined;
     size_t lines = 0, start = 0;
@@ -63,7 +63,7 @@ static void reads(const ropey::rope &rope, const std::string &all) {
     CHECK(out.str() == all && rope == all && all == rope && rope != "other" && rope != "\xFF");
 }
 
-/* Ropes of streams, builders and texts; positions and counts. */
+/* Makes ropes of streams, builders and texts; positions and counts. */
 static void makes() {
     std::string text(5000, 'x');
     text += "\r\n\xC3\xA9\xF0\x9F\x90\x88";
@@ -71,7 +71,7 @@ static void makes() {
     const ropey::rope rope = ropey::rope::read(in);
     CHECK(rope == text && !in.bad());
     std::istringstream broken("ab\xFF");
-    CHECK(refusal_of([&] { ropey::rope::read(broken); }) == ROPEY_INVALID_UTF8);
+    CHECK(error_of([&] { ropey::rope::read(broken); }) == ROPEY_INVALID_UTF8);
 
     ropey::builder builder;
     for (const char c : text) {
@@ -79,9 +79,9 @@ static void makes() {
     }
     const ropey::rope built = builder.finish();
     CHECK(built == rope && std::hash<ropey::rope>()(built) == std::hash<ropey::rope>()(rope));
-    CHECK(refusal_of([&] { builder.append("x"); }) == ROPEY_NO_BUILDER_HELD);
+    CHECK(error_of([&] { builder.append("x"); }) == ROPEY_NO_BUILDER_HELD);
     ropey::builder of_bytes = ropey::builder::start(ROPEY_LF);
-    CHECK(refusal_of([&] { of_bytes.append("ab\xFFxxx"); }) == ROPEY_INVALID_UTF8 && of_bytes.valid_bytes() == 2);
+    CHECK(error_of([&] { of_bytes.append("ab\xFFxxx"); }) == ROPEY_INVALID_UTF8 && of_bytes.valid_bytes() == 2);
     std::unordered_map<ropey::rope, int> by_text;
     by_text.emplace(rope.clone(), 7);
     CHECK(by_text.at(built) == 7);
@@ -100,10 +100,10 @@ static void makes() {
     edited.insert_char(0, U'\u00E9');
     edited.shrink_to_fit();
     CHECK(edited == "\xC3\xA9" "1 2");
-    CHECK(refusal_of([&] { edited.apply({{2, 1, ""}}); }) == ROPEY_CHAR_RANGE_INVALID);
+    CHECK(error_of([&] { edited.apply({{2, 1, ""}}); }) == ROPEY_CHAR_RANGE_INVALID);
 }
 
-/* What was moved from holds nothing. */
+/* A moved-from object is empty. */
 static void moves() {
     ropey::rope rope("abc");
     rope.append(std::move(rope));
@@ -113,7 +113,7 @@ static void moves() {
     CHECK(rope == "abcabc");
     ropey::rope other = std::move(rope);
     CHECK(other == "abcabc" && !rope.has_rope() && rope.len_bytes() == 0 && rope != other && rope != "" && rope.text().empty());
-    CHECK(refusal_of([&] { rope.insert(0, "x"); }) == ROPEY_NO_ROPE_HELD);
+    CHECK(error_of([&] { rope.insert(0, "x"); }) == ROPEY_NO_ROPE_HELD);
     rope = ropey::rope("again");
     other = std::move(rope);
     CHECK(other == "again" && !rope.has_rope());
@@ -121,7 +121,7 @@ static void moves() {
     CHECK(rope == "again");
 }
 
-/* Files in encodings, by their marks and as declared. */
+/* Files in encodings, by mark or by declaration. */
 static void files() {
     using ropey::file_encoding;
     const std::string little("\xFF\xFE" "a\0\x3D\xD8\x00\xDE", 8);
@@ -132,12 +132,12 @@ static void files() {
     CHECK(ropey::rope::from_bytes_as("\xE9\r\n", file_encoding::latin1, ROPEY_LF).rope == "\xC3\xA9\r\n");
 
     size_t at = 99;
-    CHECK(refusal_of([&] { ropey::rope::from_bytes_as(little.substr(0, 6), file_encoding::by_mark, ROPEY_LF, &at); }) == ROPEY_UNPAIRED_SURROGATE && at == 4);
-    CHECK(refusal_of([&] { ropey::rope::from_bytes_as(little.substr(0, 3), file_encoding::by_mark, ROPEY_LF, &at); }) == ROPEY_HALF_CODE_UNIT && at == 2);
-    CHECK(refusal_of([&] { ropey::rope::from_bytes_as("ab\xFF"); }) == ROPEY_INVALID_UTF8);
-    CHECK(refusal_of([&] { ropey::rope::from_bytes_as("ab", file_encoding::utf8_bom); }) == ROPEY_NO_MARK);
-    CHECK(refusal_of([&] { (void)read.rope.bytes_as(file_encoding::latin1, &at); }) == ROPEY_UNENCODABLE && at == 1);
-    CHECK(refusal_of([&] { (void)read.rope.bytes_as(file_encoding::by_mark); }) == ROPEY_UNKNOWN_ENCODING);
+    CHECK(error_of([&] { ropey::rope::from_bytes_as(little.substr(0, 6), file_encoding::by_mark, ROPEY_LF, &at); }) == ROPEY_UNPAIRED_SURROGATE && at == 4);
+    CHECK(error_of([&] { ropey::rope::from_bytes_as(little.substr(0, 3), file_encoding::by_mark, ROPEY_LF, &at); }) == ROPEY_HALF_CODE_UNIT && at == 2);
+    CHECK(error_of([&] { ropey::rope::from_bytes_as("ab\xFF"); }) == ROPEY_INVALID_UTF8);
+    CHECK(error_of([&] { ropey::rope::from_bytes_as("ab", file_encoding::utf8_bom); }) == ROPEY_NO_MARK);
+    CHECK(error_of([&] { (void)read.rope.bytes_as(file_encoding::latin1, &at); }) == ROPEY_UNENCODABLE && at == 1);
+    CHECK(error_of([&] { (void)read.rope.bytes_as(file_encoding::by_mark); }) == ROPEY_UNKNOWN_ENCODING);
 }
 
 int main() {
@@ -149,11 +149,11 @@ int main() {
     CHECK(rope.line(0) == "HELLO, you \xF0\x9F\x90\x88\r\n" && before.text(0, 6) == "hello ");
     CHECK(rope != before && before == before.clone() && before.compare(rope) > 0);
     CHECK(before.clone(6, 12).text() == before.text(6, 12));
-    CHECK(refusal_of([&] { before.clone(5, 4); }) == ROPEY_CHAR_RANGE_INVALID);
+    CHECK(error_of([&] { before.clone(5, 4); }) == ROPEY_CHAR_RANGE_INVALID);
     CHECK(rope.byte_to_char(11) == 11 && rope.char_to_utf16(12) == 13 && rope.line_to_char(1) == 14);
-    CHECK(refusal_of([&] { rope.insert(100, "x"); }) == ROPEY_CHAR_INDEX_OUT_OF_BOUNDS);
-    CHECK(refusal_of([&] { rope.remove_bytes(12, 13); }) == ROPEY_BYTE_RANGE_NOT_CHAR_BOUNDARY);
-    CHECK(refusal_of([&] { ropey::rope("\xFF"); }) == ROPEY_INVALID_UTF8);
+    CHECK(error_of([&] { rope.insert(100, "x"); }) == ROPEY_CHAR_INDEX_OUT_OF_BOUNDS);
+    CHECK(error_of([&] { rope.remove_bytes(12, 13); }) == ROPEY_BYTE_RANGE_NOT_CHAR_BOUNDARY);
+    CHECK(error_of([&] { ropey::rope("\xFF"); }) == ROPEY_INVALID_UTF8);
 
     ropey::rope tail = rope.split_off(14);
     CHECK(tail.text() == "world\n" && rope.len_chars() == 14);
@@ -189,8 +189,8 @@ int main() {
     ropey::changes undo = edits.invert(typed);
     edits.apply(typed);
     CHECK(typed.text() == "1 and two");
-    CHECK(refusal_of([&] { edits.apply(typed); }) == ROPEY_LENGTHS_DIFFER);
-    CHECK(refusal_of([&] { edits.replace(3, 5, "x"); }) == ROPEY_CHAR_RANGE_OUT_OF_ORDER);
+    CHECK(error_of([&] { edits.apply(typed); }) == ROPEY_LENGTHS_DIFFER);
+    CHECK(error_of([&] { edits.replace(3, 5, "x"); }) == ROPEY_CHAR_RANGE_OUT_OF_ORDER);
     ropey::changes twice = edits.compose(ropey::changes(9, {{9, 9, "!"}}));
     undo.apply(typed);
     twice.apply(typed);

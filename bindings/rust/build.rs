@@ -6,31 +6,33 @@ use std::{env, fs};
 const ARCHIVE: &str = "libropey.a";
 
 const ADVICE: &str =
-    "A release has it in the crate's folder. In the repository of the library scripts/build_c_library.sh \
-    makes it, and scripts/install_c_library.sh PREFIX installs it; PKG_CONFIG_PATH then has PREFIX/lib/pkgconfig. Or \
-    ROPEY_LIB_DIR names the folder that holds the archive.";
+    "A release has it in the crate's folder. In the library's repository scripts/build_c_library.sh builds it, and \
+    scripts/install_c_library.sh PREFIX installs it; then add PREFIX/lib/pkgconfig to PKG_CONFIG_PATH. Or set \
+    ROPEY_LIB_DIR to the folder of the archive.";
 
-/// The version of the library that this crate is for: of 1.6.1+1.0.0, what follows the +.
+/// Returns the version of the library that this crate is for: the part of the crate's version after
+/// the +.
 fn wanted() -> &'static str {
     env!("CARGO_PKG_VERSION").rsplit('+').next().unwrap_or_default()
 }
 
-/// The crate's own folder, which has the archive in a release; then the folder of this repository in which it is built, also
-/// where Cargo has unpacked the crate's package below the crate.
+/// Returns the folders to search: the crate's own, which has the archive in a release; the
+/// repository's build folder, also if Cargo has unpacked the crate's package below the crate; an
+/// installation.
 fn folders() -> impl Iterator<Item = PathBuf> {
     let own = Path::new(env!("CARGO_MANIFEST_DIR"));
     let built = own.ancestors().map(|folder| folder.join("crates/ropey_c/out"));
     [own.to_path_buf()].into_iter().chain(built).chain(installed())
 }
 
-/// The folder that `pkg-config` names, where the library is installed.
+/// Returns the folder of an installed library from `pkg-config`.
 fn installed() -> Option<PathBuf> {
     let output = Command::new("pkg-config").args(["--variable=libdir", "ropey"]).output().ok()?;
     let folder = String::from_utf8(output.stdout).ok().filter(|_| output.status.success())?;
     Some(PathBuf::from(folder.trim()))
 }
 
-/// The folder of the archive: the one that `ROPEY_LIB_DIR` names, or the first that has one.
+/// Returns the folder of the archive: `ROPEY_LIB_DIR`, or else the first folder that has one.
 fn found() -> PathBuf {
     let Some(named) = env::var_os("ROPEY_LIB_DIR").map(PathBuf::from) else {
         let first = folders().find(|folder| folder.join(ARCHIVE).is_file());
@@ -40,7 +42,7 @@ fn found() -> PathBuf {
     named
 }
 
-/// Stops where the archive is of another version than the crate: its calls and structs may be others.
+/// Panics if the archive has another version than the crate: its calls and structs may differ.
 fn check_version(folder: &Path) {
     let archive = folder.join(ARCHIVE);
     let sources = fs::read_to_string(folder.join("libropey.sources")).unwrap_or_default();

@@ -1,6 +1,6 @@
-//! Changes as values: made and applied, inverted and composed, and indices moved through them, as a
-//! user of the Rust crate writes it: a list of edits, in order, each a range of the text before and
-//! a new text.
+//! Changes as values: made, applied, inverted, composed, and mapped over indices. A user of the
+//! Rust crate would write them as a list of edits, in order, each a range of the text before and a
+//! new text.
 
 use crate::measure::{mix, timed, whole, Outcome};
 use crate::numbers::Numbers;
@@ -8,7 +8,7 @@ use crate::sample::Sample;
 use crate::workloads::Workload;
 use ropey::Rope;
 
-/// Those that are done on each text, in order.
+/// The workloads on each text, in order.
 pub const WORKLOADS: &[Workload] = &[
     ("changes_type", type_in_a_row),
     ("changes_carets", carets),
@@ -18,16 +18,16 @@ pub const WORKLOADS: &[Workload] = &[
     ("changes_indices", move_indices),
 ];
 
-/// How many replacements a change has, in full.
+/// The number of replacements of a change in full size.
 const REPLACEMENTS: usize = 1_000;
 
-/// How many changes are applied to a rope.
+/// The number of changes that are applied to a rope.
 const ROUNDS: usize = 10;
 
 /// The characters that a replacement deletes.
 const WORD: usize = 5;
 
-/// A range of the text before, in characters, and the text that takes its place.
+/// A range of characters of the text before, and the text that replaces it.
 struct Edit {
     start: usize,
     end: usize,
@@ -40,7 +40,7 @@ impl Edit {
     }
 }
 
-/// Returns replacements of `deleted` characters at each of `count` random places, in order.
+/// Returns replacements of `deleted` characters at `count` random indices, in order.
 fn edits_of(
     len: usize,
     count: usize,
@@ -61,7 +61,7 @@ fn edits_of(
         .collect()
 }
 
-/// Applies edits from the last to the first, so that each range is one of the text before.
+/// Applies edits from the last to the first, so that each range is in the text before.
 fn apply(rope: &mut Rope, edits: &[Edit]) {
     for edit in edits.iter().rev() {
         if edit.start < edit.end {
@@ -71,7 +71,7 @@ fn apply(rope: &mut Rope, edits: &[Edit]) {
     }
 }
 
-/// Returns the ranges and texts of edits in one number.
+/// Returns a checksum of edits.
 fn sum_of_edits(edits: &[Edit]) -> u64 {
     edits.iter().fold(0, |sum, edit| {
         mix(mix(mix(sum, edit.start), edit.end), edit.text.len())
@@ -124,13 +124,13 @@ fn words(sample: &Sample) -> Outcome {
     edit_in_rounds(sample, WORD, "words")
 }
 
-/// Returns the edits of many words that the workloads below are about.
+/// Returns the edits of many words that the workloads below use.
 fn many_words(sample: &Sample, len: usize, numbers: &mut Numbers) -> Vec<Edit> {
     let count = sample.operations(REPLACEMENTS);
     edits_of(len, count, WORD, "other", numbers)
 }
 
-/// Returns the edits that lead back, with slices of the text before.
+/// Returns the edits that undo these, with slices of the text before.
 fn inverse_of(rope: &Rope, edits: &[Edit]) -> Vec<Edit> {
     let mut grown = 0isize;
     edits
@@ -157,22 +157,22 @@ fn invert(sample: &Sample) -> Outcome {
     )
 }
 
-/// The part of an edit that is not composed yet.
-struct Left<'a> {
+/// The rest of an edit, which isn't composed yet.
+struct Rest<'a> {
     kept: usize,
     text: &'a str,
     deleted: usize,
 }
 
 /// Returns the edits, each with the number of characters kept before it.
-fn left_of(edits: &[Edit]) -> Vec<Left<'_>> {
+fn rest_of(edits: &[Edit]) -> Vec<Rest<'_>> {
     let mut end = 0;
     edits
         .iter()
         .map(|edit| {
             let kept = edit.start - end;
             end = edit.end;
-            Left {
+            Rest {
                 kept,
                 text: &edit.text,
                 deleted: edit.end - edit.start,
@@ -181,7 +181,7 @@ fn left_of(edits: &[Edit]) -> Vec<Left<'_>> {
         .collect()
 }
 
-/// Composed edits, by the characters of the text before that are passed.
+/// Composed edits, and the number of characters of the text before that they cover.
 #[derive(Default)]
 struct Composed {
     edits: Vec<Edit>,
@@ -189,7 +189,7 @@ struct Composed {
 }
 
 impl Composed {
-    /// The last edit, if it ends where the next begins; else a new one.
+    /// Returns the last edit if it ends at the current character, else a new one.
     fn open(&mut self) -> &mut Edit {
         let here = self.passed;
         if self.edits.last().map_or(true, |last| last.end != here) {
@@ -216,12 +216,12 @@ impl Composed {
     }
 }
 
-/// Returns the edits of two lists, the second one of the text after the first.
+/// Returns the composition of two lists of edits, the second one of the text after the first.
 fn composition_of(first: &[Edit], second: &[Edit]) -> Vec<Edit> {
     let mut made = Composed::default();
-    let mut earlier = left_of(first).into_iter();
+    let mut earlier = rest_of(first).into_iter();
     let mut now = earlier.next();
-    for later in left_of(second) {
+    for later in rest_of(second) {
         pass(&mut made, &mut now, &mut earlier, later.kept, false);
         made.insert(later.text);
         pass(&mut made, &mut now, &mut earlier, later.deleted, true);
@@ -235,11 +235,11 @@ fn composition_of(first: &[Edit], second: &[Edit]) -> Vec<Edit> {
     made.edits
 }
 
-/// Passes `count` characters of the text between, which are kept or deleted.
+/// Keeps or deletes `count` characters of the text between the two.
 fn pass<'a>(
     made: &mut Composed,
-    now: &mut Option<Left<'a>>,
-    earlier: &mut impl Iterator<Item = Left<'a>>,
+    now: &mut Option<Rest<'a>>,
+    earlier: &mut impl Iterator<Item = Rest<'a>>,
     mut count: usize,
     deletes: bool,
 ) {
@@ -302,8 +302,8 @@ fn sorted_indices(sample: &Sample, len: usize) -> Vec<usize> {
         .collect()
 }
 
-/// Moves indices in order, with one pass over the edits. One in a replaced range, or at its start,
-/// goes to the end of the new text.
+/// Maps sorted indices in one pass over the edits. An index in a replaced range, or at its start,
+/// maps to the end of the new text.
 fn moved(edits: &[Edit], indices: &mut [usize]) {
     let mut next = 0;
     let mut grown = 0isize;

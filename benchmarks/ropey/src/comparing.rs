@@ -1,6 +1,6 @@
 //! Ropes and slices compared and hashed.
 
-use crate::edits::cut_otherwise;
+use crate::edits::fragment;
 use crate::measure::{timed, timed_sum, Outcome};
 use crate::numbers::{Fnv, Numbers};
 use crate::sample::Sample;
@@ -9,7 +9,7 @@ use ropey::Rope;
 use std::cmp::Ordering;
 use std::hash::{Hash, Hasher};
 
-/// Those that are done on each text, in order.
+/// The workloads on each text, in order.
 pub const WORKLOADS: &[Workload] = &[
     ("eq_other_cutting", equal),
     ("cmp_other_cutting", order),
@@ -19,16 +19,16 @@ pub const WORKLOADS: &[Workload] = &[
     ("hash_lens", hash_lens),
 ];
 
-/// How many characters a slice has.
+/// The number of characters of a slice.
 const CHARS: usize = 1_000;
 
-/// How often lengths are hashed: once takes less than half a millisecond.
+/// The number of times that lengths are hashed: once takes less than half a millisecond.
 const PASSES: usize = 20;
 
-/// A rope of the same text whose chunks end elsewhere.
+/// Returns a rope of the same text with other chunk boundaries.
 fn other_of(sample: &Sample) -> Rope {
     let mut rope = sample.fresh();
-    cut_otherwise(&mut rope, sample.operations(20_000));
+    fragment(&mut rope, sample.operations(20_000));
     rope
 }
 

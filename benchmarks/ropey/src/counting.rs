@@ -1,4 +1,4 @@
-//! Counts over a plain text, ten times the sample's, by the crate that ropey counts with.
+//! Counts over a plain text, ten times the sample's, by the crate str_indices that ropey uses.
 
 use crate::measure::{timed_sum, Outcome};
 use crate::sample::Sample;
@@ -6,7 +6,7 @@ use crate::workloads::Workload;
 use ropey::RopeSlice;
 use str_indices::{chars, lines, lines_crlf, lines_lf, utf16};
 
-/// Those that are done on each text, in order.
+/// The workloads on each text, in order.
 pub const WORKLOADS: &[Workload] = &[
     ("count_chars_100MB", count_chars),
     ("count_breaks_100MB", count_breaks),
@@ -16,7 +16,7 @@ pub const WORKLOADS: &[Workload] = &[
     ("slice_from_str_100MB", slice),
 ];
 
-/// One count over the text.
+/// Times a count over the text.
 fn count(sample: &Sample, counted: impl FnOnce(&str) -> usize) -> Outcome {
     let text = sample.text.repeat(10);
     timed_sum(1, || counted(&text) as u64)
@@ -42,7 +42,7 @@ fn count_pairs(sample: &Sample) -> Outcome {
     count(sample, utf16::count_surrogates)
 }
 
-/// A slice of the text, which is read to be counted, and its lengths.
+/// Times a slice of the text, which counts it, and its lengths.
 fn slice(sample: &Sample) -> Outcome {
     count(sample, |text| {
         let slice = RopeSlice::from(text);

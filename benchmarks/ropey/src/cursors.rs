@@ -7,10 +7,10 @@ use crate::sample::Sample;
 use crate::workloads::Workload;
 use ropey::iter::{Bytes, Chars, Chunks, Lines};
 
-/// How many items are read at each place.
+/// The number of items read at each index.
 const STEPS: usize = 10;
 
-/// Those that are done on each text, in order.
+/// The workloads on each text, in order.
 pub const WORKLOADS: &[Workload] = &[
     ("iter_bytes", bytes),
     ("iter_bytes_back", bytes_back),
@@ -35,7 +35,7 @@ pub const WORKLOADS: &[Workload] = &[
     ("clone_lines", clone_lines),
 ];
 
-/// The sum of the bytes ahead.
+/// Adds up the bytes after a cursor.
 pub fn sum_of_bytes(bytes: Bytes<'_>) -> u64 {
     let mut sum: u64 = 0;
     for byte in bytes {
@@ -44,7 +44,7 @@ pub fn sum_of_bytes(bytes: Bytes<'_>) -> u64 {
     sum
 }
 
-/// The sum of the numbers of the characters ahead.
+/// Adds up the scalar values of the characters after a cursor.
 pub fn sum_of_chars(chars: Chars<'_>) -> u64 {
     let mut sum: u64 = 0;
     for c in chars {
@@ -53,7 +53,7 @@ pub fn sum_of_chars(chars: Chars<'_>) -> u64 {
     sum
 }
 
-/// The sum of the lengths of the chunks ahead.
+/// Adds up the lengths of the chunks after a cursor.
 pub fn len_of_chunks(chunks: Chunks<'_>) -> u64 {
     let mut sum: u64 = 0;
     for chunk in chunks {
@@ -62,7 +62,7 @@ pub fn len_of_chunks(chunks: Chunks<'_>) -> u64 {
     sum
 }
 
-/// The lengths of the lines ahead, mixed into a number.
+/// Mixes the lengths of the lines after a cursor into a checksum.
 pub fn mix_of_lines(before: u64, lines: Lines<'_>) -> u64 {
     let mut sum = before;
     for line in lines {
@@ -201,7 +201,7 @@ fn chars_at(sample: &Sample) -> Outcome {
     })
 }
 
-/// Whether two chunks ahead have text in them, mixed into a number.
+/// Mixes into a checksum whether the next two chunks are not empty.
 fn mix_of_two(before: u64, chunks: &mut Chunks<'_>) -> u64 {
     let mut sum = before;
     for _ in 0..2 {
@@ -212,7 +212,7 @@ fn mix_of_two(before: u64, chunks: &mut Chunks<'_>) -> u64 {
     sum
 }
 
-/// The bytes at random places, and two chunks behind each.
+/// Mixes the bytes at random indices, and two chunks after each.
 fn chunks_at_byte(sample: &Sample) -> Outcome {
     let count = sample.operations(100_000);
     timed_sum(count, || {
@@ -220,10 +220,10 @@ fn chunks_at_byte(sample: &Sample) -> Outcome {
         let most = sample.rope.len_bytes().saturating_sub(5_001);
         let mut sum = 0;
         for _ in 0..count {
-            let place = numbers.up_to(most);
-            let (mut chunks, before, _, _) = sample.rope.chunks_at_byte(place);
+            let index = numbers.up_to(most);
+            let (mut chunks, before, _, _) = sample.rope.chunks_at_byte(index);
             if let Some(chunk) = chunks.next() {
-                sum = mix(sum, byte_of(chunk, place.wrapping_sub(before)));
+                sum = mix(sum, byte_of(chunk, index.wrapping_sub(before)));
             }
             sum = mix_of_two(sum, &mut chunks);
         }
@@ -231,8 +231,7 @@ fn chunks_at_byte(sample: &Sample) -> Outcome {
     })
 }
 
-/// Whether chunks begin at the character that is asked for, or before it; and two chunks behind
-/// each.
+/// Mixes whether chunks begin at or before their index, and two chunks after each.
 fn chunks_at_char(sample: &Sample) -> Outcome {
     let count = sample.operations(100_000);
     timed_sum(count, || {
@@ -240,17 +239,16 @@ fn chunks_at_char(sample: &Sample) -> Outcome {
         let most = sample.rope.len_chars().saturating_sub(5_001);
         let mut sum = 0;
         for _ in 0..count {
-            let place = numbers.up_to(most);
-            let (mut chunks, _, before, _) = sample.rope.chunks_at_char(place);
+            let index = numbers.up_to(most);
+            let (mut chunks, _, before, _) = sample.rope.chunks_at_char(index);
             chunks.next();
-            sum = mix_of_two(mix(sum, usize::from(before <= place)), &mut chunks);
+            sum = mix_of_two(mix(sum, usize::from(before <= index)), &mut chunks);
         }
         sum
     })
 }
 
-/// Whether chunks have no more line breaks before them than are asked for; and two chunks behind
-/// each.
+/// Mixes whether chunks begin at or before their index, and two chunks after each.
 fn chunks_at_line_break(sample: &Sample) -> Outcome {
     let count = sample.operations(100_000);
     timed_sum(count, || {
@@ -258,10 +256,10 @@ fn chunks_at_line_break(sample: &Sample) -> Outcome {
         let most = sample.rope.len_lines().saturating_sub(501);
         let mut sum = 0;
         for _ in 0..count {
-            let place = numbers.up_to(most);
-            let (mut chunks, _, _, before) = sample.rope.chunks_at_line_break(place);
+            let index = numbers.up_to(most);
+            let (mut chunks, _, _, before) = sample.rope.chunks_at_line_break(index);
             chunks.next();
-            sum = mix_of_two(mix(sum, usize::from(before <= place)), &mut chunks);
+            sum = mix_of_two(mix(sum, usize::from(before <= index)), &mut chunks);
         }
         sum
     })
@@ -334,7 +332,7 @@ fn clone_lines(sample: &Sample) -> Outcome {
     })
 }
 
-/// The sum of what cursors at random indices from 0 to `most` give first, 0 where they give none.
+/// Adds up the first items of cursors at random indices from 0 to `most`, 0 if there is none.
 fn first_steps(count: usize, most: usize, first: impl Fn(usize) -> Option<usize>) -> Outcome {
     timed_sum(count, || {
         let mut numbers = Numbers::new();
@@ -370,7 +368,7 @@ pub fn first_chunks(sample: &Sample) -> Outcome {
     })
 }
 
-/// Returns how many lines to visit: about those of 20,000,000 bytes, at least 100.
+/// Returns the number of lines to visit: about those of 20,000,000 bytes, at least 100.
 fn lines_to_visit(sample: &Sample) -> usize {
     let lines = sample.rope.len_lines() * sample.operations(20_000_000) / sample.text.len();
     lines.min(sample.operations(20_000)).max(100)

@@ -1,4 +1,4 @@
-//! Edits of a rope that shares nothing with another.
+//! Edits of a rope that shares no nodes.
 
 use crate::edits::{
     append_all, insert_chars_at_random, insert_chars_in_a_row, insert_text_at_random,
@@ -12,13 +12,13 @@ use crate::texts::{first_lines, lines_of};
 use crate::workloads::Workload;
 use ropey::Rope;
 
-/// The bytes of a long text that is put in or taken out, about.
+/// The approximate length of a long insert or removal.
 const LONG: usize = 10_000;
 
 /// A text of two lines.
 const TWO_LINES: &str = "hello\nworld ";
 
-/// Those that are done on each text, in order.
+/// The workloads on each text, in order.
 pub const WORKLOADS: &[Workload] = &[
     ("insert_char_random", insert_char_random),
     ("insert_char_coherent", insert_char_coherent),
@@ -35,7 +35,7 @@ pub const WORKLOADS: &[Workload] = &[
     ("shrink_to_fit_100MB", shrink_to_fit_long),
 ];
 
-/// Edits this rope so many times.
+/// Times `count` edits of a rope.
 fn edited(mut rope: Rope, count: usize, edits: impl FnOnce(&mut Rope)) -> Outcome {
     timed(
         count,
@@ -140,7 +140,7 @@ pub fn shrink_to_fit(sample: &Sample) -> Outcome {
     edited(sample.fresh(), 1, Rope::shrink_to_fit)
 }
 
-/// The rope ten times, which shares its nodes with the sample's, re-chunked.
+/// Re-chunks a rope that shares all its nodes: the sample's rope, ten times.
 fn shrink_to_fit_long(sample: &Sample) -> Outcome {
     let mut rope = sample.rope.clone();
     for _ in 1..10 {
@@ -156,7 +156,7 @@ fn shrink_to_fit_long(sample: &Sample) -> Outcome {
     )
 }
 
-/// Inserts a portion of a text at random places.
+/// Inserts a portion of a text at random indices.
 pub fn insert_portion(sample: &Sample, portion: Portion) -> Outcome {
     let len = sample.text.len();
     let count = portion.count_in(len, sample.operations(10_000)).max(3);
@@ -166,7 +166,7 @@ pub fn insert_portion(sample: &Sample, portion: Portion) -> Outcome {
     })
 }
 
-/// Removes a portion of the text at random places.
+/// Removes a portion of the text at random indices.
 pub fn remove_portion(sample: &Sample, portion: Portion) -> Outcome {
     let len = sample.text.len();
     let count = (portion.count_in(len, sample.operations(10_000)) / 2).max(1);

@@ -1,18 +1,18 @@
-//! Edits of a rope, many in a row.
+//! Series of edits of a rope.
 
 use crate::numbers::Numbers;
 use ropey::Rope;
 
-/// Puts a character in at random places.
+/// Inserts a character at random indices.
 pub fn insert_chars_at_random(rope: &mut Rope, count: usize) {
     let mut numbers = Numbers::new();
     for _ in 0..count {
-        let place = numbers.up_to(rope.len_chars());
-        rope.insert_char(place, 'x');
+        let char_idx = numbers.up_to(rope.len_chars());
+        rope.insert_char(char_idx, 'x');
     }
 }
 
-/// Puts a character into the middle, and each next one behind it.
+/// Inserts a character in the middle, and each further one after the last.
 pub fn insert_chars_in_a_row(rope: &mut Rope, count: usize) {
     let middle = rope.len_chars() / 2;
     for k in 0..count {
@@ -20,23 +20,23 @@ pub fn insert_chars_in_a_row(rope: &mut Rope, count: usize) {
     }
 }
 
-/// Puts a text in at random places.
+/// Inserts a text at random indices.
 pub fn insert_text_at_random(rope: &mut Rope, text: &str, count: usize) {
     let mut numbers = Numbers::new();
     for _ in 0..count {
-        let place = numbers.up_to(rope.len_chars());
-        rope.insert(place, text);
+        let char_idx = numbers.up_to(rope.len_chars());
+        rope.insert(char_idx, text);
     }
 }
 
-/// Puts the first characters of a text in at the end, one after the other.
+/// Inserts the first characters of a text at the end, one by one.
 pub fn type_text(rope: &mut Rope, text: &str, count: usize) {
     for c in text.chars().take(count) {
         rope.insert_char(rope.len_chars(), c);
     }
 }
 
-/// Takes one to ten characters out at random places.
+/// Removes one to ten characters at random indices.
 pub fn remove_at_random(rope: &mut Rope, count: usize) {
     let mut numbers = Numbers::new();
     for _ in 0..count {
@@ -49,7 +49,7 @@ pub fn remove_at_random(rope: &mut Rope, count: usize) {
     }
 }
 
-/// Takes so many characters out at random places.
+/// Removes `chars` characters at random indices.
 pub fn remove_long_at_random(rope: &mut Rope, chars: usize, count: usize) {
     let mut numbers = Numbers::new();
     for _ in 0..count {
@@ -61,7 +61,7 @@ pub fn remove_long_at_random(rope: &mut Rope, chars: usize, count: usize) {
     }
 }
 
-/// Takes three characters out at random places, and puts others in there.
+/// Replaces three characters at random indices.
 pub fn replace_at_random(rope: &mut Rope, count: usize) {
     let mut numbers = Numbers::new();
     for _ in 0..count {
@@ -74,41 +74,41 @@ pub fn replace_at_random(rope: &mut Rope, count: usize) {
     }
 }
 
-/// Puts characters in at random places and takes them out again: the text stays, its chunks end
-/// elsewhere.
-pub fn cut_otherwise(rope: &mut Rope, count: usize) {
+/// Inserts characters at random indices and removes them again: the text stays the same, with other
+/// chunk boundaries.
+pub fn fragment(rope: &mut Rope, count: usize) {
     let mut numbers = Numbers::new();
     for _ in 0..count {
         let Some(last) = rope.len_chars().checked_sub(1) else {
             break;
         };
-        let place = numbers.up_to(last);
-        rope.insert_char(place, 'x');
-        rope.remove(place..place + 1);
+        let char_idx = numbers.up_to(last);
+        rope.insert_char(char_idx, 'x');
+        rope.remove(char_idx..char_idx + 1);
     }
 }
 
-/// Splits the rope near its middle, and joins the two parts again.
+/// Splits the rope near its middle, and rejoins the two parts.
 pub fn split_near_middle(rope: &mut Rope, count: usize) {
     let mut numbers = Numbers::new();
     let first = (rope.len_chars() / 2).saturating_sub(500);
     for _ in 0..count {
-        let back = rope.split_off(first + numbers.up_to(999));
-        rope.append(back);
+        let tail = rope.split_off(first + numbers.up_to(999));
+        rope.append(tail);
     }
 }
 
-/// Splits the rope at random places, and joins the two parts again.
+/// Splits the rope at random indices, and rejoins the two parts.
 pub fn split_at_random(rope: &mut Rope, count: usize) {
     let mut numbers = Numbers::new();
     for _ in 0..count {
-        let place = numbers.up_to(rope.len_chars());
-        let back = rope.split_off(place);
-        rope.append(back);
+        let char_idx = numbers.up_to(rope.len_chars());
+        let tail = rope.split_off(char_idx);
+        rope.append(tail);
     }
 }
 
-/// Puts other ropes behind it.
+/// Appends other ropes.
 pub fn append_all(rope: &mut Rope, others: Vec<Rope>) {
     for other in others {
         rope.append(other);

@@ -1,4 +1,4 @@
-//! Ropes of a million bytes to a thousand million.
+//! Ropes of 1 MB to 1 GB.
 
 use crate::edits::insert_chars_at_random;
 use crate::keeping::edit_and_keep;
@@ -6,10 +6,10 @@ use crate::measure::{lens, mix, timed, Outcome};
 use crate::texts::Text;
 use ropey::{Rope, RopeBuilder};
 
-/// The bytes of the prose of which longer texts are made.
+/// The length of the prose that longer texts repeat.
 const PROSE: usize = 10_000_000;
 
-/// How long a text is.
+/// The length of a text, in MB.
 #[derive(Clone, Copy)]
 pub enum Length {
     One,
@@ -22,7 +22,7 @@ pub enum Length {
 pub const LENGTHS: [Length; 4] = [Length::One, Length::Ten, Length::Hundred, Length::Thousand];
 
 impl Length {
-    /// How the names of the workloads on such a text end.
+    /// Returns the suffix of the names of workloads on such a text.
     pub fn ending(self) -> &'static str {
         match self {
             Length::One => "/1MB",
@@ -32,7 +32,7 @@ impl Length {
         }
     }
 
-    /// Prose of this length.
+    /// Returns prose of this length.
     pub fn text(self) -> String {
         match self {
             Length::One => Text::Prose.make(PROSE / 10),
@@ -43,23 +43,22 @@ impl Length {
     }
 }
 
-/// What is done to a rope of a hundred million bytes before the process ends, so that its memory
-/// can be seen.
+/// The edits of a rope of 100 MB, for measuring the memory of the process.
 #[derive(Clone, Copy, PartialEq, Eq)]
 pub enum Memory {
-    /// Nothing.
+    /// No edits.
     Made,
-    /// A million characters are put in at random places.
+    /// A million inserts of a character at random indices.
     Inserted,
-    /// Ten thousand clones are kept, and a character put in behind each.
+    /// Ten thousand clones that are kept, with an insert after each.
     Cloned,
 }
 
-/// All of them, in order.
+/// All kinds of edits, in order.
 pub const MEMORIES: [Memory; 3] = [Memory::Made, Memory::Inserted, Memory::Cloned];
 
 impl Memory {
-    /// Its name.
+    /// Returns the name of the workload.
     pub fn name(self) -> &'static str {
         match self {
             Memory::Made => "mem_made",
@@ -68,7 +67,7 @@ impl Memory {
         }
     }
 
-    /// How many edits are done.
+    /// Returns the number of edits.
     fn edits(self) -> usize {
         match self {
             Memory::Made => 0,
@@ -77,7 +76,7 @@ impl Memory {
         }
     }
 
-    /// Edits the rope, and gives the ropes that are kept.
+    /// Edits the rope, and returns the clones that are kept.
     fn edit(self, rope: &mut Rope) -> Vec<Rope> {
         if self == Memory::Cloned {
             return edit_and_keep(rope, self.edits());
@@ -87,21 +86,21 @@ impl Memory {
     }
 }
 
-/// Makes the rope and does it.
-pub fn fill(what: Memory) -> Outcome {
+/// Makes the rope and edits it.
+pub fn fill(memory: Memory) -> Outcome {
     timed(
-        what.edits().max(1),
+        memory.edits().max(1),
         || {
             let mut rope = long_rope();
-            let kept = what.edit(&mut rope);
+            let kept = memory.edit(&mut rope);
             (rope, kept)
         },
         |(rope, kept)| mix(lens(rope), kept.len()),
     )
 }
 
-/// A rope of a hundred million bytes. Its text is handed over in parts, so that it takes no memory
-/// of its own.
+/// Returns a rope of 100 MB. It is built from parts, so that the whole text is never in memory
+/// beside it.
 fn long_rope() -> Rope {
     let prose = Text::Prose.make(PROSE);
     let mut builder = RopeBuilder::new();

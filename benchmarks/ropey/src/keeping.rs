@@ -1,4 +1,4 @@
-//! Clones that are edited, and clones that are kept so that edits can be undone.
+//! Clones that are edited, and clones that are kept for undo.
 
 use crate::measure::{mix, timed, timed_sum, whole, Outcome};
 use crate::numbers::Numbers;
@@ -6,14 +6,14 @@ use crate::sample::Sample;
 use crate::workloads::Workload;
 use ropey::Rope;
 
-/// Those that are done on each text, in order.
+/// The workloads on each text, in order.
 pub const WORKLOADS: &[Workload] = &[
     ("clone_and_insert", clone_and_insert),
     ("undo_10000", undo),
     ("undo_drop", undo_drop),
 ];
 
-/// How many clones are made in full.
+/// The number of clones in full size.
 const CLONES: usize = 10_000;
 
 fn clone_and_insert(sample: &Sample) -> Outcome {
@@ -23,22 +23,22 @@ fn clone_and_insert(sample: &Sample) -> Outcome {
         let mut sum: u64 = 0;
         for _ in 0..count {
             let mut copy = sample.rope.clone();
-            let place = numbers.up_to(copy.len_chars());
-            copy.insert_char(place, 'x');
+            let char_idx = numbers.up_to(copy.len_chars());
+            copy.insert_char(char_idx, 'x');
             sum = sum.wrapping_add(copy.len_bytes() as u64);
         }
         sum
     })
 }
 
-/// Puts characters in at random places, and gives each rope that was before.
+/// Inserts characters at random indices, and returns a clone of the rope before each.
 pub fn edit_and_keep(rope: &mut Rope, count: usize) -> Vec<Rope> {
     let mut numbers = Numbers::new();
     let mut kept = Vec::new();
     for _ in 0..count {
         kept.push(rope.clone());
-        let place = numbers.up_to(rope.len_chars());
-        rope.insert_char(place, 'x');
+        let char_idx = numbers.up_to(rope.len_chars());
+        rope.insert_char(char_idx, 'x');
     }
     kept
 }

@@ -1,4 +1,4 @@
-//! Look-ups at random places of a rope.
+//! Lookups at random indices of a rope.
 
 use crate::measure::{mix, timed_sum, Outcome};
 use crate::numbers::Numbers;
@@ -6,7 +6,7 @@ use crate::sample::Sample;
 use crate::workloads::Workload;
 use ropey::Rope;
 
-/// Those that are done on each text, in order.
+/// The workloads on each text, in order.
 pub const WORKLOADS: &[Workload] = &[
     ("char_to_byte", char_to_byte),
     ("char_to_line", char_to_line),
@@ -26,17 +26,17 @@ pub const WORKLOADS: &[Workload] = &[
     ("chunk_at_line_break", chunk_at_line_break),
 ];
 
-/// How many look-ups are done in full.
-const LOOK_UPS: usize = 1_000_000;
+/// The number of lookups in full size.
+const LOOKUPS: usize = 1_000_000;
 
-/// The sum of the answers at random places from 0 to `most`.
-fn ask(sample: &Sample, most: usize, answer: impl Fn(usize) -> usize) -> Outcome {
-    let count = sample.operations(LOOK_UPS);
+/// Adds up the results of a lookup at random indices from 0 to `most`.
+fn sum_of(sample: &Sample, most: usize, lookup: impl Fn(usize) -> usize) -> Outcome {
+    let count = sample.operations(LOOKUPS);
     timed_sum(count, || {
         let mut numbers = Numbers::new();
         let mut sum: u64 = 0;
         for _ in 0..count {
-            sum = sum.wrapping_add(answer(numbers.up_to(most)) as u64);
+            sum = sum.wrapping_add(lookup(numbers.up_to(most)) as u64);
         }
         sum
     })
@@ -44,81 +44,82 @@ fn ask(sample: &Sample, most: usize, answer: impl Fn(usize) -> usize) -> Outcome
 
 pub fn char_to_byte(sample: &Sample) -> Outcome {
     let rope = &sample.rope;
-    ask(sample, rope.len_chars(), |i| rope.char_to_byte(i))
+    sum_of(sample, rope.len_chars(), |i| rope.char_to_byte(i))
 }
 
 pub fn char_to_line(sample: &Sample) -> Outcome {
     let rope = &sample.rope;
-    ask(sample, rope.len_chars(), |i| rope.char_to_line(i))
+    sum_of(sample, rope.len_chars(), |i| rope.char_to_line(i))
 }
 
 pub fn char_to_utf16_cu(sample: &Sample) -> Outcome {
     let rope = &sample.rope;
-    ask(sample, rope.len_chars(), |i| rope.char_to_utf16_cu(i))
+    sum_of(sample, rope.len_chars(), |i| rope.char_to_utf16_cu(i))
 }
 
 fn byte_to_char(sample: &Sample) -> Outcome {
     let rope = &sample.rope;
-    ask(sample, rope.len_bytes(), |i| rope.byte_to_char(i))
+    sum_of(sample, rope.len_bytes(), |i| rope.byte_to_char(i))
 }
 
 fn byte_to_line(sample: &Sample) -> Outcome {
     let rope = &sample.rope;
-    ask(sample, rope.len_bytes(), |i| rope.byte_to_line(i))
+    sum_of(sample, rope.len_bytes(), |i| rope.byte_to_line(i))
 }
 
 pub fn line_to_char(sample: &Sample) -> Outcome {
     let rope = &sample.rope;
-    ask(sample, rope.len_lines(), |i| rope.line_to_char(i))
+    sum_of(sample, rope.len_lines(), |i| rope.line_to_char(i))
 }
 
 fn line_to_byte(sample: &Sample) -> Outcome {
     let rope = &sample.rope;
-    ask(sample, rope.len_lines(), |i| rope.line_to_byte(i))
+    sum_of(sample, rope.len_lines(), |i| rope.line_to_byte(i))
 }
 
 fn utf16_cu_to_char(sample: &Sample) -> Outcome {
     let rope = &sample.rope;
-    ask(sample, rope.len_utf16_cu(), |i| rope.utf16_cu_to_char(i))
+    sum_of(sample, rope.len_utf16_cu(), |i| rope.utf16_cu_to_char(i))
 }
 
 pub fn byte(sample: &Sample) -> Outcome {
     let rope = &sample.rope;
-    ask(sample, rope.len_bytes() - 1, |i| usize::from(rope.byte(i)))
+    sum_of(sample, rope.len_bytes() - 1, |i| usize::from(rope.byte(i)))
 }
 
 pub fn char(sample: &Sample) -> Outcome {
     let rope = &sample.rope;
-    ask(sample, rope.len_chars() - 1, |i| rope.char(i) as usize)
+    sum_of(sample, rope.len_chars() - 1, |i| rope.char(i) as usize)
 }
 
-/// The byte of a chunk at a place, or 0.
-pub fn byte_of(chunk: &str, place: usize) -> usize {
-    usize::from(chunk.as_bytes().get(place).copied().unwrap_or(0))
+/// Returns the byte of a chunk at an index, or 0.
+pub fn byte_of(chunk: &str, index: usize) -> usize {
+    usize::from(chunk.as_bytes().get(index).copied().unwrap_or(0))
 }
 
 fn chunk_at_byte(sample: &Sample) -> Outcome {
     let rope = &sample.rope;
-    ask(sample, rope.len_bytes() - 1, |i| {
+    sum_of(sample, rope.len_bytes() - 1, |i| {
         let (chunk, before, _, _) = rope.chunk_at_byte(i);
         byte_of(chunk, i.wrapping_sub(before))
     })
 }
 
-/// Which chunk it is depends on where chunks end: it begins at the character or before it.
+/// Chunk boundaries differ, so the checksum has only whether the chunk begins at or before the
+/// index.
 fn chunk_at_char(sample: &Sample) -> Outcome {
     let rope = &sample.rope;
-    ask(sample, rope.len_chars(), |i| {
+    sum_of(sample, rope.len_chars(), |i| {
         let (_, _, before, _) = rope.chunk_at_char(i);
         usize::from(before <= i)
     })
 }
 
-/// Which chunk it is depends on where chunks end: it has no more line breaks before it than are
-/// asked for.
+/// Chunk boundaries differ, so the checksum has only whether the chunk begins at or before the
+/// index.
 pub fn chunk_at_line_break(sample: &Sample) -> Outcome {
     let rope = &sample.rope;
-    ask(sample, rope.len_lines() - 1, |i| {
+    sum_of(sample, rope.len_lines() - 1, |i| {
         let (_, _, _, before) = rope.chunk_at_line_break(i);
         usize::from(before <= i)
     })
@@ -137,7 +138,7 @@ pub fn line(sample: &Sample) -> Outcome {
     })
 }
 
-/// A line, and a column in code units of UTF-16.
+/// Returns a line, and a column in UTF-16 code units.
 fn position_of(rope: &Rope, char_idx: usize) -> (usize, usize) {
     let line = rope.char_to_line(char_idx);
     let start = rope.char_to_utf16_cu(rope.line_to_char(line));
@@ -145,7 +146,7 @@ fn position_of(rope: &Rope, char_idx: usize) -> (usize, usize) {
 }
 
 fn char_to_position(sample: &Sample) -> Outcome {
-    let count = sample.operations(LOOK_UPS);
+    let count = sample.operations(LOOKUPS);
     timed_sum(count, || {
         let mut numbers = Numbers::new();
         let most = sample.rope.len_chars();
@@ -158,10 +159,10 @@ fn char_to_position(sample: &Sample) -> Outcome {
     })
 }
 
-/// The characters at positions that were asked for before.
+/// Times only the conversions from positions, which are made before.
 fn position_to_char(sample: &Sample) -> Outcome {
     let rope = &sample.rope;
-    let count = sample.operations(LOOK_UPS);
+    let count = sample.operations(LOOKUPS);
     let mut numbers = Numbers::new();
     let positions: Vec<_> = (0..count)
         .map(|_| position_of(rope, numbers.up_to(rope.len_chars())))
@@ -170,8 +171,8 @@ fn position_to_char(sample: &Sample) -> Outcome {
         let mut sum = 0;
         for &(line, column) in &positions {
             let start = rope.char_to_utf16_cu(rope.line_to_char(line));
-            if let Ok(place) = rope.try_utf16_cu_to_char(start + column) {
-                sum = mix(sum, place);
+            if let Ok(char_idx) = rope.try_utf16_cu_to_char(start + column) {
+                sum = mix(sum, char_idx);
             }
         }
         sum

@@ -1,5 +1,5 @@
-//! The workloads of `crates/rope_bench`, done with the Rust crate ropey 1.6.1: the same names,
-//! operations and checksums, and the same lines of output.
+//! The workloads of `crates/rope_bench` with the Rust crate ropey 1.6.1: the same names,
+//! operations, checksums and lines of output.
 
 mod changing;
 mod comparing;

@@ -1,4 +1,4 @@
-//! Ropes that are made of texts and of slices.
+//! Ropes made of texts and of slices.
 
 use crate::measure::{lens, mix, timed, timed_sum, Outcome};
 use crate::numbers::Numbers;
@@ -7,7 +7,7 @@ use crate::texts::{lines_of, pieces_of};
 use crate::workloads::Workload;
 use ropey::{Rope, RopeBuilder};
 
-/// Those that are done on each text, in order.
+/// The workloads on each text, in order.
 pub const WORKLOADS: &[Workload] = &[
     ("from_str", from_str),
     ("builder_by_lines", builder_by_lines),
@@ -54,7 +54,7 @@ fn from_pieces(sample: &Sample) -> Outcome {
     })
 }
 
-/// The lengths of ropes of these texts, each of which is let go before the next.
+/// Adds up the lengths of ropes of these texts, each dropped before the next is made.
 fn sum_of_lens<'a>(texts: impl Iterator<Item = &'a str>) -> u64 {
     let mut sum: u64 = 0;
     for text in texts {

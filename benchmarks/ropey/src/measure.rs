@@ -1,20 +1,20 @@
-//! What is measured of a workload.
+//! Times and checksums of workloads.
 
 use crate::numbers::Fnv;
 use ropey::Rope;
 use std::hint::black_box;
 
-/// What a run of a workload took and gave.
+/// The outcome of a run of a workload.
 pub struct Outcome {
-    /// How many operations were done.
+    /// The number of operations.
     pub operations: usize,
     /// The processor time of all of them, in nanoseconds.
     pub nanos: u64,
-    /// What was read or made, in one number.
+    /// A checksum of the results.
     pub checksum: u64,
 }
 
-/// The processor time that this thread has used, in nanoseconds.
+/// Returns the processor time of this thread, in nanoseconds.
 fn now() -> u64 {
     #[repr(C)]
     struct Timespec {
@@ -29,13 +29,13 @@ fn now() -> u64 {
         seconds: 0,
         nanos: 0,
     };
-    // SAFETY: the call writes one `timespec` of Linux on 64 bits, which `time` is.
+    // SAFETY: the call writes a `timespec`, which `time` is on 64-bit Linux.
     let status = unsafe { clock_gettime(THREAD_CPU_TIME, &mut time) };
     assert_eq!(status, 0, "the clock failed");
     time.seconds as u64 * 1_000_000_000 + time.nanos as u64
 }
 
-/// Times the work. Neither the checksum of what it makes is timed, nor the drop.
+/// Times the work, but neither the checksum of its result nor the result's drop.
 pub fn timed<T>(
     operations: usize,
     work: impl FnOnce() -> T,
@@ -51,12 +51,12 @@ pub fn timed<T>(
     }
 }
 
-/// Times what gives a number, its checksum.
+/// Times a function that returns its checksum.
 pub fn timed_sum(operations: usize, sum: impl FnOnce() -> u64) -> Outcome {
     timed(operations, sum, |&sum| sum)
 }
 
-/// The four lengths of a rope in one number.
+/// Returns a checksum of the four lengths of a rope.
 pub fn lens(rope: &Rope) -> u64 {
     let bytes = rope.len_bytes() as u64;
     let chars = rope.len_chars() as u64;
@@ -65,7 +65,7 @@ pub fn lens(rope: &Rope) -> u64 {
     bytes ^ (chars << 1) ^ (lines << 2) ^ (units << 3)
 }
 
-/// The bytes and the lengths of a rope in one number.
+/// Returns a checksum of the bytes and the lengths of a rope.
 pub fn whole(rope: &Rope) -> u64 {
     let mut sum = Fnv::new();
     for chunk in rope.chunks() {
@@ -74,7 +74,7 @@ pub fn whole(rope: &Rope) -> u64 {
     sum.sum() ^ lens(rope)
 }
 
-/// A number put behind others.
+/// Mixes a number into a checksum.
 pub fn mix(sum: u64, number: usize) -> u64 {
     sum.wrapping_mul(31).wrapping_add(number as u64)
 }

@@ -1,15 +1,15 @@
-//! Numbers that look random, and sums of what was read.
+//! Random numbers and checksums.
 
-/// The row of numbers that all workloads draw from, each from its start: a xorshift of 64 bits.
+/// The generator of random numbers of all workloads: a 64-bit xorshift with a fixed seed.
 pub struct Numbers(u64);
 
 impl Numbers {
-    /// At the start of the row.
+    /// Returns the generator in its initial state.
     pub fn new() -> Numbers {
         Numbers(0x9E37_79B9_7F4A_7C15)
     }
 
-    /// The next number, brought into the range from 0 to `most` by its remainder.
+    /// Returns the next number, reduced to 0 to `most` by its remainder.
     pub fn up_to(&mut self, most: usize) -> usize {
         self.0 ^= self.0 << 13;
         self.0 ^= self.0 >> 7;
@@ -18,30 +18,30 @@ impl Numbers {
     }
 }
 
-/// A sum over bytes in their order, by FNV-1a.
+/// A checksum of bytes by FNV-1a.
 pub struct Fnv(u64);
 
 impl Fnv {
-    /// The sum of no bytes.
+    /// Returns the checksum of no bytes.
     pub fn new() -> Fnv {
         Fnv(0xCBF2_9CE4_8422_2325)
     }
 
-    /// The sum of these bytes.
+    /// Returns the checksum of some bytes.
     pub fn of(bytes: &[u8]) -> u64 {
         let mut sum = Fnv::new();
         sum.add(bytes);
         sum.sum()
     }
 
-    /// Takes bytes into the sum.
+    /// Adds bytes to the checksum.
     pub fn add(&mut self, bytes: &[u8]) {
         for byte in bytes {
             self.0 = (self.0 ^ u64::from(*byte)).wrapping_mul(0x0100_0000_01B3);
         }
     }
 
-    /// The sum.
+    /// Returns the checksum.
     pub fn sum(&self) -> u64 {
         self.0
     }

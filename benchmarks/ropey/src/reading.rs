@@ -1,4 +1,4 @@
-//! Ropes that are read from readers, and written to writers and strings.
+//! Ropes read from readers, and written to writers and strings.
 
 use crate::measure::{lens, timed, timed_sum, Outcome};
 use crate::numbers::Fnv;
@@ -7,7 +7,7 @@ use crate::texts::pieces_of;
 use crate::workloads::Workload;
 use ropey::Rope;
 
-/// Those that are done on each text, in order.
+/// The workloads on each text, in order.
 pub const WORKLOADS: &[Workload] = &[
     ("from_reader_10MB", from_reader),
     ("from_reader_100MB", from_reader_long),
@@ -18,7 +18,7 @@ pub const WORKLOADS: &[Workload] = &[
 ];
 
 fn rope_of_reader(text: &str) -> Rope {
-    Rope::from_reader(text.as_bytes()).expect("a text is UTF-8, and its reads do not fail")
+    Rope::from_reader(text.as_bytes()).expect("the text is UTF-8, and reads of it don't fail")
 }
 
 fn from_reader(sample: &Sample) -> Outcome {
@@ -49,7 +49,7 @@ fn write_to(sample: &Sample) -> Outcome {
             sample
                 .rope
                 .write_to(&mut bytes)
-                .expect("a list of bytes takes all that is written");
+                .expect("writes to a vector don't fail");
             bytes
         },
         |bytes| Fnv::of(bytes),

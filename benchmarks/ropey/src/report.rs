@@ -1,15 +1,15 @@
-//! Runs the workloads that are asked for, and prints a line for each.
+//! Runs the selected workloads, and prints a line for each.
 
 use crate::growing::{fill, LENGTHS, MEMORIES};
 use crate::measure::Outcome;
-use crate::sample::{Sample, Size, Wear};
+use crate::sample::{Sample, Size, State};
 use crate::scaling::{BYTES, EIGHTY, LINE_LENGTHS, OF_PORTIONS, PORTIONS, START};
 use crate::task::{Mode, Task};
 use crate::texts::{letters, Text, TEXTS};
 use crate::traces::{keystrokes, replay};
 use crate::workloads::{of_texts, OF_LENGTHS, OF_LINE_LENGTHS, OF_NONE};
 
-/// Does what the task names.
+/// Runs a task.
 pub fn run(task: &Task) {
     match task.mode {
         Mode::Small | Mode::Full => run_all(task),
@@ -18,21 +18,21 @@ pub fn run(task: &Task) {
     }
 }
 
-/// Runs the workloads on each text, on fragmented ropes, without a text, by length of lines and of
+/// Runs the workloads on each text, on edited ropes, without a text, by length of lines and of
 /// edits, and on a person's edits.
 fn run_all(task: &Task) {
-    // The memory of a text that is let go tells the allocator how much to keep when a rope goes,
-    // and so what a rope costs: it is to be the same for all workloads.
+    // After a large free the allocator keeps more memory at later frees, which makes ropes cheaper.
+    // It should do so for all workloads.
     drop(Text::Prose.make(task.size().bytes()));
     for text in TEXTS {
-        for (wear, start) in [(Wear::New, ""), (Wear::Worn, "worn_")] {
-            run_round(task, start, &of_texts(wear), text.ending(), || {
-                Sample::new(text.make(task.size().bytes()), task.size(), wear)
+        for (state, start) in [(State::New, ""), (State::Edited, "edited_")] {
+            run_round(task, start, &of_texts(state), text.ending(), || {
+                Sample::new(text.make(task.size().bytes()), task.size(), state)
             });
         }
     }
     run_round(task, "", OF_NONE, "", || {
-        Sample::new(String::new(), task.size(), Wear::New)
+        Sample::new(String::new(), task.size(), State::New)
     });
     run_scaled(task);
     run_trace(task);
@@ -42,7 +42,7 @@ fn run_all(task: &Task) {
 fn run_scaled(task: &Task) {
     let sample = |width| {
         let text = letters(width, task.size().of(BYTES));
-        Sample::new(text, task.size(), Wear::New)
+        Sample::new(text, task.size(), State::New)
     };
     for (width, ending) in LINE_LENGTHS {
         run_round(task, START, OF_LINE_LENGTHS, ending, || sample(width));
@@ -53,7 +53,7 @@ fn run_scaled(task: &Task) {
     }
 }
 
-/// Workloads on a sample, which is made only where one of them is asked for.
+/// Runs the selected workloads on a sample, which is made only if there are any.
 fn run_round<W: Fn(&Sample) -> Outcome>(
     task: &Task,
     start: &str,
@@ -61,21 +61,21 @@ fn run_round<W: Fn(&Sample) -> Outcome>(
     ending: &str,
     sample: impl FnOnce() -> Sample,
 ) {
-    let wanted: Vec<_> = workloads
+    let selected: Vec<_> = workloads
         .iter()
         .map(|(name, work)| (format!("{start}{name}{ending}"), work))
-        .filter(|(name, _)| task.wants(name))
+        .filter(|(name, _)| task.selects(name))
         .collect();
-    if wanted.is_empty() {
+    if selected.is_empty() {
         return;
     }
     let sample = sample();
-    for (name, work) in wanted {
+    for (name, work) in selected {
         show(task, &name, best_of(task.runs(), || work(&sample)));
     }
 }
 
-/// The fastest of so many runs, of one at the least.
+/// Returns the fastest of `runs` runs, at least one.
 fn best_of(runs: usize, run: impl Fn() -> Outcome) -> Outcome {
     let mut best = run();
     for _ in 1..runs {
@@ -84,9 +84,9 @@ fn best_of(runs: usize, run: impl Fn() -> Outcome) -> Outcome {
     best
 }
 
-/// The edits on standard input, which is read only where they are asked for.
+/// Replays the edits on standard input, which is read only if the workload is selected.
 fn run_trace(task: &Task) {
-    if !task.wants("trace") {
+    if !task.selects("trace") {
         return;
     }
     let edits = keystrokes().expect("standard input can be read");
@@ -95,25 +95,25 @@ fn run_trace(task: &Task) {
     }
 }
 
-/// Few workloads on prose of each length.
+/// Runs a few workloads on prose of each length.
 fn run_lengths(task: &Task) {
     for length in LENGTHS {
         run_round(task, "", OF_LENGTHS, length.ending(), || {
-            Sample::new(length.text(), Size::Full, Wear::New)
+            Sample::new(length.text(), Size::Full, State::New)
         });
     }
 }
 
-/// The ropes whose memory is asked for.
+/// Runs the selected workloads of memory.
 fn run_memories(task: &Task) {
     for memory in MEMORIES {
-        if task.wants(memory.name()) {
+        if task.selects(memory.name()) {
             show(task, memory.name(), fill(memory));
         }
     }
 }
 
-/// Prints name, operations, nanoseconds per operation where they are timed, and checksum.
+/// Prints the name, the operations, the nanoseconds per operation if timed, and the checksum.
 fn show(task: &Task, name: &str, outcome: Outcome) {
     let Outcome {
         operations,

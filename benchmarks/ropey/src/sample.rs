@@ -1,19 +1,19 @@
-//! The text and the rope that workloads are done on.
+//! The text and the rope of a workload.
 
 use crate::edits::insert_chars_at_random;
 use ropey::Rope;
 
-/// How much is done.
+/// The size of texts and workloads.
 #[derive(Clone, Copy)]
 pub enum Size {
-    /// As much as is timed.
+    /// The timed size.
     Full,
-    /// A hundredth of it, to compare checksums.
+    /// A hundredth of it, for comparing checksums.
     Small,
 }
 
 impl Size {
-    /// So many in full, or a hundredth of it.
+    /// Returns `full`, or a hundredth of it.
     pub fn of(self, full: usize) -> usize {
         match self {
             Size::Full => full,
@@ -21,53 +21,53 @@ impl Size {
         }
     }
 
-    /// The bytes of a text, at the least.
+    /// Returns the least number of bytes of a text.
     pub fn bytes(self) -> usize {
         self.of(10_000_000)
     }
 }
 
-/// What was done to a rope since it was made of its text.
+/// The state of a rope.
 #[derive(Clone, Copy, PartialEq, Eq)]
-pub enum Wear {
-    /// Nothing.
+pub enum State {
+    /// As made of its text.
     New,
-    /// Characters were put in at random places.
-    Worn,
+    /// Fragmented by inserts of characters at random indices.
+    Edited,
 }
 
 /// A text, and a rope of it.
 pub struct Sample {
-    /// The text, before any wear.
+    /// The text, before any edits.
     pub text: String,
     /// A rope of the text.
     pub rope: Rope,
     size: Size,
-    wear: Wear,
+    state: State,
 }
 
 impl Sample {
-    /// A text and its rope.
-    pub fn new(text: String, size: Size, wear: Wear) -> Sample {
+    /// Returns a text with its rope.
+    pub fn new(text: String, size: Size, state: State) -> Sample {
         Sample {
-            rope: rope_of(&text, size, wear),
+            rope: rope_of(&text, size, state),
             text,
             size,
-            wear,
+            state,
         }
     }
 
-    /// So many operations, or a hundredth of them.
+    /// Returns `full`, or a hundredth of it.
     pub fn operations(&self, full: usize) -> usize {
         self.size.of(full)
     }
 
-    /// Another rope as the sample's, which shares nothing.
+    /// Returns an equal rope that shares nothing with the sample's.
     pub fn fresh(&self) -> Rope {
-        rope_of(&self.text, self.size, self.wear)
+        rope_of(&self.text, self.size, self.state)
     }
 
-    /// About how many characters so many bytes of the text have.
+    /// Returns about the number of characters of `bytes` bytes of the text.
     pub fn chars_of_bytes(&self, bytes: usize) -> usize {
         (bytes * self.rope.len_chars())
             .checked_div(self.rope.len_bytes())
@@ -75,10 +75,10 @@ impl Sample {
     }
 }
 
-/// A rope of the text, as worn as is asked for.
-fn rope_of(text: &str, size: Size, wear: Wear) -> Rope {
+/// Returns a rope of the text in a state.
+fn rope_of(text: &str, size: Size, state: State) -> Rope {
     let mut rope = Rope::from_str(text);
-    if wear == Wear::Worn {
+    if state == State::Edited {
         insert_chars_at_random(&mut rope, size.of(200_000));
     }
     rope

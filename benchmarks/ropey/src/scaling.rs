@@ -1,21 +1,21 @@
-//! Texts by the length of their lines, and edits by how much they insert or remove.
+//! Texts by the length of their lines, and edits by their length.
 
 use crate::editing::{insert_portion, remove_portion};
 use crate::measure::Outcome;
 use crate::sample::Sample;
 use crate::texts::letters;
 
-/// The bytes of the text of each of these workloads.
+/// The length of the texts.
 pub const BYTES: usize = 3_000_000;
 
-/// How the names of these workloads begin.
+/// The prefix of the names of these workloads.
 pub const START: &str = "scale_";
 
-/// The length of lines of which edits are timed.
+/// The length of lines of the text that is edited.
 pub const EIGHTY: usize = 80;
 
-/// The lengths of lines in characters without the line break, each with the end of the workloads'
-/// names. The last is longer than any text.
+/// The lengths of lines in characters without the line break, each with the suffix of the
+/// workloads' names. The last is longer than any text.
 pub const LINE_LENGTHS: [(usize, &str); 7] = [
     (1, "/1"),
     (10, "/10"),
@@ -26,16 +26,16 @@ pub const LINE_LENGTHS: [(usize, &str); 7] = [
     (usize::MAX, "/whole"),
 ];
 
-/// How much of a text an edit inserts or removes.
+/// The length of an edit.
 #[derive(Clone, Copy)]
 pub enum Portion {
     /// A number of bytes.
     Bytes(usize),
-    /// The text's bytes divided by this.
+    /// The length of the text, divided by a number.
     Part(usize),
 }
 
-/// All portions, each with the end of the workloads' names.
+/// All portions, each with the suffix of the workloads' names.
 pub const PORTIONS: [(Portion, &str); 7] = [
     (Portion::Bytes(1), "/1B"),
     (Portion::Bytes(10), "/10B"),
@@ -49,7 +49,7 @@ pub const PORTIONS: [(Portion, &str); 7] = [
 /// An edit of a portion.
 pub type PortionEdit = fn(&Sample, Portion) -> Outcome;
 
-/// Those that are done of each portion, in order.
+/// The workloads of each portion, in order.
 pub const OF_PORTIONS: [(&str, PortionEdit); 2] =
     [("insert", insert_portion), ("remove", remove_portion)];
 
@@ -62,13 +62,13 @@ impl Portion {
         }
     }
 
-    /// Returns how many portions a text of `len` bytes has, at most `most`.
+    /// Returns the number of portions in a text of `len` bytes, at most `most`.
     pub fn count_in(self, len: usize, most: usize) -> usize {
         let count = len.checked_div(self.bytes_of(len));
         count.unwrap_or(0).min(most)
     }
 
-    /// Returns a text of this portion's bytes, to be inserted into a text of `len` bytes.
+    /// Returns a text of this portion's length, to be inserted into a text of `len` bytes.
     pub fn piece(self, len: usize) -> String {
         letters(EIGHTY, self.bytes_of(len))
     }

@@ -1,4 +1,4 @@
-//! Fifty lines from a random one on, as a screen shows them.
+//! Screens: fifty lines from a random one on.
 
 use crate::cursors::{len_of_chunks, sum_of_chars};
 use crate::measure::{timed_sum, Outcome};
@@ -8,7 +8,7 @@ use crate::workloads::Workload;
 use ropey::iter::Lines;
 use ropey::RopeSlice;
 
-/// Those that are done on each text, in order.
+/// The workloads on each text, in order.
 pub const WORKLOADS: &[Workload] = &[
     ("redraw_50_lines", bytes),
     ("redraw_50_lines_back", bytes_back),
@@ -17,7 +17,7 @@ pub const WORKLOADS: &[Workload] = &[
     ("redraw_50_lines_as_str", as_str),
 ];
 
-/// How many lines a screen has.
+/// The number of lines of a screen.
 const LINES: usize = 50;
 
 /// Draws many screens.
@@ -35,7 +35,7 @@ fn draw(sample: &Sample, screen: impl Fn(&mut Lines<'_>) -> u64) -> Outcome {
     })
 }
 
-/// The lines of a screen, in one number.
+/// Adds up the results for the lines of a screen.
 fn forward(lines: &mut Lines<'_>, read: impl Fn(RopeSlice<'_>) -> u64) -> u64 {
     let mut sum: u64 = 0;
     for _ in 0..LINES {
@@ -56,7 +56,7 @@ fn backward(lines: &mut Lines<'_>, read: impl Fn(RopeSlice<'_>) -> u64) -> u64 {
     sum
 }
 
-/// The sum of the bytes of a text.
+/// Adds up the bytes of a text.
 fn bytes_of_text(text: &str) -> u64 {
     let mut sum: u64 = 0;
     for byte in text.bytes() {
@@ -65,7 +65,7 @@ fn bytes_of_text(text: &str) -> u64 {
     sum
 }
 
-/// The sum of the bytes of a line, chunk by chunk.
+/// Adds up the bytes of a line, chunk by chunk.
 fn bytes_of_line(line: RopeSlice<'_>) -> u64 {
     let mut sum: u64 = 0;
     for chunk in line.chunks() {
@@ -94,7 +94,7 @@ fn chars(sample: &Sample) -> Outcome {
     })
 }
 
-/// The sum of the bytes of each line, at once where it lies in one piece.
+/// Adds up the bytes of each line by its `as_str`, or else chunk by chunk.
 fn as_str(sample: &Sample) -> Outcome {
     draw(sample, |lines| {
         forward(lines, |line| match line.as_str() {

@@ -1,4 +1,4 @@
-//! Slices of a thousand characters at random places.
+//! Slices of 1,000 characters at random indices.
 
 use crate::cursors::{mix_of_lines, sum_of_bytes, sum_of_chars};
 use crate::measure::{mix, timed_sum, Outcome};
@@ -8,10 +8,10 @@ use crate::workloads::Workload;
 use ropey::{Rope, RopeSlice};
 use std::borrow::Cow;
 
-/// Those that are done on each text, in order.
+/// The workloads on each text, in order.
 pub const WORKLOADS: &[Workload] = &[
     ("slice_and_line", line),
-    ("slice_lookups", look_ups),
+    ("slice_lookups", lookups),
     ("slice_conversions", conversions),
     ("slice_byte_and_char", byte_and_char),
     ("slice_chunk_at", chunks_at),
@@ -26,18 +26,18 @@ pub const WORKLOADS: &[Workload] = &[
     ("slice_to_cow", to_cow),
 ];
 
-/// How many slices are taken in full.
+/// The number of slices in full size.
 const SLICES: usize = 100_000;
 
-/// How many characters a slice has.
+/// The number of characters of a slice.
 const CHARS: usize = 1_000;
 
-/// The last place at which a slice begins.
+/// Returns the last start of a slice.
 fn most_of(rope: &Rope) -> usize {
     rope.len_chars().saturating_sub(CHARS + 1)
 }
 
-/// What is read of many slices, each put behind what was read of others.
+/// Folds many slices into a checksum.
 fn read(sample: &Sample, add: impl Fn(u64, RopeSlice<'_>, &mut Numbers) -> u64) -> Outcome {
     let count = sample.operations(SLICES);
     timed_sum(count, || {
@@ -61,7 +61,7 @@ fn line(sample: &Sample) -> Outcome {
     })
 }
 
-fn look_ups(sample: &Sample) -> Outcome {
+fn lookups(sample: &Sample) -> Outcome {
     read(sample, |sum, slice, numbers| {
         let first = slice.char_to_byte(numbers.up_to(slice.len_chars()));
         let second = slice.byte_to_line(numbers.up_to(slice.len_bytes()));
@@ -89,8 +89,8 @@ fn byte_and_char(sample: &Sample) -> Outcome {
     })
 }
 
-/// Whether each chunk begins at the place that is asked for, or before it: which chunk it is
-/// depends on where chunks end.
+/// Chunk boundaries differ, so the checksum has only whether each chunk begins at or before its
+/// index.
 fn chunks_at(sample: &Sample) -> Outcome {
     read(sample, |sum, slice, numbers| {
         let byte = numbers.up_to(slice.len_bytes());
@@ -142,7 +142,7 @@ fn of_slice(sample: &Sample) -> Outcome {
     })
 }
 
-/// Slices by bytes, whose places were asked for before.
+/// Times only the slices by bytes, not the conversions of their bounds.
 fn byte_slices(sample: &Sample) -> Outcome {
     let rope = &sample.rope;
     let count = sample.operations(SLICES);
@@ -166,7 +166,7 @@ fn byte_slices(sample: &Sample) -> Outcome {
     })
 }
 
-/// The length of a text and its last byte.
+/// Mixes the length of a text and its last byte into a checksum.
 fn mix_of_text(sum: u64, text: &str) -> u64 {
     let last = text.as_bytes().last().copied().unwrap_or(0);
     mix(mix(sum, text.len()), usize::from(last))

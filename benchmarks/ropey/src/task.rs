@@ -1,31 +1,30 @@
-//! What the command line asks for.
+//! The task of the command line.
 
 use crate::sample::Size;
 
-/// What is done, and how much of it.
+/// The workloads of a task and their size.
 #[derive(Clone, Copy, PartialEq, Eq)]
 pub enum Mode {
-    /// Every workload in small, without times: no argument.
+    /// No argument: every workload in small size, without times.
     Small,
-    /// Workloads in full, with times: `time`.
+    /// `time`: workloads in full size, with times.
     Full,
-    /// Few workloads on texts of a million bytes to a thousand million: `grow`.
+    /// `grow`: a few workloads on texts of 1 MB to 1 GB.
     Growth,
-    /// A rope that is made so that the process shows its memory: `mem`.
+    /// `mem`: a rope, whose memory the process shows.
     Memory,
 }
 
-/// What is to be done, and for which workloads.
+/// A mode, and the selected workloads.
 pub struct Task {
-    /// What is done, and whether times are printed.
+    /// The mode.
     pub mode: Mode,
-    /// A workload is done where its name has one of these in it, or where there is none. Behind a
-    /// `=` stands a whole name.
+    /// Parts of names of workloads, or whole names after a `=`. No words select all workloads.
     words: Vec<String>,
 }
 
 impl Task {
-    /// The task of the program's arguments, if there is one.
+    /// Returns the task of the program's arguments, or `None` if they are wrong.
     pub fn of_words(mut words: impl Iterator<Item = String>) -> Option<Task> {
         let mode = match words.next().as_deref() {
             None => Mode::Small,
@@ -40,12 +39,12 @@ impl Task {
         })
     }
 
-    /// Whether a workload of this name is asked for.
-    pub fn wants(&self, name: &str) -> bool {
+    /// Returns whether a workload is selected.
+    pub fn selects(&self, name: &str) -> bool {
         self.words.is_empty() || self.words.iter().any(|word| names(word, name))
     }
 
-    /// How much is done of a workload.
+    /// Returns the size of the workloads.
     pub fn size(&self) -> Size {
         match self.mode {
             Mode::Small => Size::Small,
@@ -53,7 +52,7 @@ impl Task {
         }
     }
 
-    /// How often a workload is timed; the least time counts.
+    /// Returns how often a workload is timed. The least time counts.
     pub fn runs(&self) -> usize {
         match self.mode {
             Mode::Full | Mode::Growth => 5,
@@ -62,7 +61,7 @@ impl Task {
     }
 }
 
-/// Whether a word of the command line names a workload.
+/// Returns whether a word of the command line selects a workload.
 fn names(word: &str, name: &str) -> bool {
     match word.strip_prefix('=') {
         Some(whole) => name == whole,

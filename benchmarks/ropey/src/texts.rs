@@ -1,21 +1,21 @@
-//! The texts that are worked on: the same on every run, and as in `crates/rope_bench`.
+//! The texts of the workloads: the same in every run and in `crates/rope_bench`.
 
 use crate::numbers::Numbers;
 
-/// After so many columns a line of prose or of the mixed text ends.
+/// The length of lines of prose and of mixed text.
 const COLUMNS: usize = 40;
 
-/// What stands behind a word of source code.
+/// The characters after words of source code.
 const MARKS: [char; 8] = [' ', ' ', ' ', '.', ',', ';', '(', ')'];
 
 /// A kind of text.
 #[derive(Clone, Copy)]
 pub enum Text {
-    /// Words of small letters, and lines that end in LF.
+    /// Words of lowercase letters, in lines that end in LF.
     Prose,
     /// Characters of one to four bytes, and several kinds of line breaks.
     Mixed,
-    /// Indented lines of words and marks, empty lines between them, all of which end in CR LF.
+    /// Indented lines of words and marks, and empty lines, that end in CR LF.
     Code,
 }
 
@@ -23,7 +23,7 @@ pub enum Text {
 pub const TEXTS: [Text; 3] = [Text::Prose, Text::Mixed, Text::Code];
 
 impl Text {
-    /// How the names of the workloads on it end.
+    /// Returns the suffix of the names of workloads on this text.
     pub fn ending(self) -> &'static str {
         match self {
             Text::Prose => "/P",
@@ -32,7 +32,7 @@ impl Text {
         }
     }
 
-    /// The text, of at least so many bytes.
+    /// Returns a text of at least `least` bytes.
     pub fn make(self, least: usize) -> String {
         match self {
             Text::Prose => prose(least),
@@ -67,13 +67,13 @@ fn push_word(text: &mut String, numbers: &mut Numbers, letters: usize) {
     }
 }
 
-/// One of so many characters from `first` on.
+/// Returns one of `count` characters from `first` on.
 fn letter(numbers: &mut Numbers, first: char, count: usize) -> char {
     let code = first as u32 + numbers.up_to(count - 1) as u32;
     char::from_u32(code).expect("the ranges have no surrogates")
 }
 
-/// Returns a text of `bytes` bytes, in lines of `width` small letters that end in LF.
+/// Returns a text of `bytes` bytes, in lines of `width` lowercase letters that end in LF.
 pub fn letters(width: usize, bytes: usize) -> String {
     let mut numbers = Numbers::new();
     let mut text = String::new();
@@ -136,7 +136,7 @@ fn code(least: usize) -> String {
     text
 }
 
-/// Tabs, and words with a mark behind each.
+/// Appends tabs, and words with a mark after each.
 fn push_statement(text: &mut String, numbers: &mut Numbers) {
     for _ in 0..numbers.up_to(4) {
         text.push('\t');
@@ -148,7 +148,7 @@ fn push_statement(text: &mut String, numbers: &mut Numbers) {
     }
 }
 
-/// Pieces of whole lines of at least so many bytes each. The rest is left out.
+/// Returns pieces of whole lines with at least `least` bytes each, without the rest.
 pub fn pieces_of(text: &str, least: usize) -> Vec<String> {
     let mut pieces = Vec::new();
     let mut piece = String::new();
@@ -161,7 +161,7 @@ pub fn pieces_of(text: &str, least: usize) -> Vec<String> {
     pieces
 }
 
-/// As many of the first lines as have so many bytes together.
+/// Returns the fewest first lines that have at least `least` bytes.
 pub fn first_lines(text: &str, least: usize) -> String {
     let mut piece = String::new();
     for line in text.split_inclusive('\n') {
@@ -173,7 +173,7 @@ pub fn first_lines(text: &str, least: usize) -> String {
     piece
 }
 
-/// The first lines of a text, each with its LF, which the last may lack.
+/// Returns the first `most` lines of a text, each with its LF, except perhaps the last.
 pub fn lines_of(text: &str, most: usize) -> Vec<&str> {
     text.split_inclusive('\n').take(most).collect()
 }

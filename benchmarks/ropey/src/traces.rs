@@ -1,37 +1,37 @@
-//! A person's own edits of a text, in order, on standard input.
+//! A person's edits of a text, in order, on standard input.
 //!
-//! A line is an edit: the character at which it is done, how many characters are taken out there,
-//! and in quotes the one that is put in, if any. A backslash stands before a quote and a backslash,
-//! and \n, \t and \r are written so.
+//! A line is an edit: the character index, the number of removed characters, and in quotes the
+//! inserted character, if any. Quotes and backslashes are escaped by a backslash, and LF, tab and
+//! CR as \n, \t and \r.
 
 use crate::measure::{timed, whole, Outcome};
 use ropey::Rope;
 
-/// Characters taken out, and one put in.
+/// A removal of characters, and an insert of one.
 pub struct Keystroke {
-    place: usize,
+    char_idx: usize,
     removed: usize,
     typed: Option<char>,
 }
 
-/// The edits on standard input. A line that is none is left out.
+/// Reads the edits on standard input. Other lines are ignored.
 pub fn keystrokes() -> std::io::Result<Vec<Keystroke>> {
     let text = std::io::read_to_string(std::io::stdin())?;
     Ok(text.split('\n').filter_map(keystroke_of).collect())
 }
 
-/// The edit on a line, if there is one.
+/// Parses a line, if it is an edit.
 fn keystroke_of(line: &str) -> Option<Keystroke> {
-    let (place, rest) = line.split_once(' ')?;
+    let (char_idx, rest) = line.split_once(' ')?;
     let (removed, quoted) = rest.split_once(' ')?;
     Some(Keystroke {
-        place: place.parse().ok()?,
+        char_idx: char_idx.parse().ok()?,
         removed: removed.parse().ok()?,
         typed: first_of(quoted),
     })
 }
 
-/// The first character of a text in quotes.
+/// Returns the first character of a text in quotes.
 fn first_of(quoted: &str) -> Option<char> {
     let mut chars = quoted.chars().skip(1);
     match chars.next() {
@@ -41,7 +41,7 @@ fn first_of(quoted: &str) -> Option<char> {
     }
 }
 
-/// What a character behind a backslash stands for.
+/// Returns the character that is escaped by a backslash and `c`.
 fn unescaped(c: char) -> char {
     match c {
         'n' => '\n',
@@ -51,7 +51,7 @@ fn unescaped(c: char) -> char {
     }
 }
 
-/// Does the edits to an empty rope.
+/// Applies the edits to an empty rope.
 pub fn replay(edits: &[Keystroke]) -> Outcome {
     let mut rope = Rope::new();
     timed(
@@ -67,12 +67,12 @@ pub fn replay(edits: &[Keystroke]) -> Outcome {
 fn apply(rope: &mut Rope, edits: &[Keystroke]) {
     for edit in edits {
         if edit.removed > 0 {
-            rope.try_remove(edit.place..edit.place.saturating_add(edit.removed))
-                .expect("a trace takes out what is there");
+            rope.try_remove(edit.char_idx..edit.char_idx.saturating_add(edit.removed))
+                .expect("a trace removes existing characters");
         }
         if let Some(c) = edit.typed {
-            rope.try_insert_char(edit.place, c)
-                .expect("a trace puts in where the text reaches");
+            rope.try_insert_char(edit.char_idx, c)
+                .expect("a trace inserts within the text");
         }
     }
 }

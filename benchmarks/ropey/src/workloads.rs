@@ -2,20 +2,20 @@
 
 use crate::measure::Outcome;
 use crate::numbers::Fnv;
-use crate::sample::{Sample, Wear};
+use crate::sample::{Sample, State};
 use crate::{
     changing, comparing, counting, cursors, editing, keeping, lookups, making, reading, screens,
     slicing,
 };
 
-/// A name, and what is timed.
+/// A name, and the function that runs the workload.
 pub type Workload = (&'static str, fn(&Sample) -> Outcome);
 
-/// Nothing is timed: the text itself in one number.
+/// The checksum of the text itself. Nothing is timed.
 const TEXT: &[Workload] = &[("text", text)];
 
-/// Those that are done on a worn rope of each of the texts, in order.
-const OF_WORN: &[Workload] = &[
+/// The workloads on an edited rope of each text, in order.
+const OF_EDITED: &[Workload] = &[
     ("insert_char_random", editing::insert_char_random),
     ("remove_random", editing::remove_random),
     ("shrink_to_fit", editing::shrink_to_fit),
@@ -32,10 +32,10 @@ const OF_WORN: &[Workload] = &[
     ("into_string", reading::into_string),
 ];
 
-/// That of no text.
+/// The workloads without a text.
 pub const OF_NONE: &[Workload] = &[("grow_from_empty", editing::grow_from_empty)];
 
-/// Those that are done on texts of several lengths, in order.
+/// The workloads on texts of several lengths, in order.
 pub const OF_LENGTHS: &[Workload] = &[
     ("from_str", making::from_str),
     ("byte", lookups::byte),
@@ -43,7 +43,7 @@ pub const OF_LENGTHS: &[Workload] = &[
     ("insert_char_random", editing::insert_char_random),
 ];
 
-/// Those that are done on lines of several lengths, in order.
+/// The workloads on lines of several lengths, in order.
 pub const OF_LINE_LENGTHS: &[Workload] = &[
     ("iter_lines", cursors::lines),
     ("iter_lines_back", cursors::lines_back),
@@ -58,10 +58,10 @@ pub const OF_LINE_LENGTHS: &[Workload] = &[
     ("chunks_at_byte", cursors::first_chunks),
 ];
 
-/// Those that are done on each of the texts, in order.
-pub fn of_texts(wear: Wear) -> Vec<Workload> {
-    match wear {
-        Wear::New => [
+/// Returns the workloads on each text, in order.
+pub fn of_texts(state: State) -> Vec<Workload> {
+    match state {
+        State::New => [
             TEXT,
             making::WORKLOADS,
             reading::WORKLOADS,
@@ -76,7 +76,7 @@ pub fn of_texts(wear: Wear) -> Vec<Workload> {
             counting::WORKLOADS,
         ]
         .concat(),
-        Wear::Worn => OF_WORN.to_vec(),
+        State::Edited => OF_EDITED.to_vec(),
     }
 }
 

@@ -1,14 +1,14 @@
-//! Ropes of texts that come in parts.
+//! Ropes built from consecutive parts of a text.
 use std::io::{self, ErrorKind};
 
 use crate::ffi::Root;
 use crate::rope::Rope;
 use crate::{LineBreaks, BLOCK};
 
-/// How many bytes are read first.
+/// The size of the first read.
 const READ: usize = 1 << 12;
 
-/// A rope in the making, of texts that come one after another.
+/// A builder of ropes that appends texts.
 ///
 /// ```
 /// use ropey::RopeBuilder;
@@ -22,7 +22,7 @@ const READ: usize = 1 << 12;
 #[derive(Clone, Debug, Default)]
 pub struct RopeBuilder {
     rope: Rope,
-    // The text that waits.
+    // The text that isn't in the rope yet.
     text: String,
 }
 
@@ -49,7 +49,7 @@ impl RopeBuilder {
         RopeBuilder { rope: Rope::new_with(breaks), text: String::new() }
     }
 
-    /// Appends the text that follows.
+    /// Appends a text.
     ///
     /// ```
     /// let mut builder = ropey::RopeBuilder::new();
@@ -61,11 +61,11 @@ impl RopeBuilder {
     pub fn append(&mut self, chunk: &str) {
         self.text.push_str(chunk);
         if self.text.len() >= BLOCK {
-            self.settle();
+            self.flush();
         }
     }
 
-    /// Returns the rope of all the texts that were appended.
+    /// Returns the rope of all appended texts.
     ///
     /// ```
     /// let mut builder = ropey::RopeBuilder::new();
@@ -73,17 +73,17 @@ impl RopeBuilder {
     /// assert_eq!(builder.finish().len_lines(), 2);
     /// ```
     pub fn finish(mut self) -> Rope {
-        self.settle();
+        self.flush();
         self.rope
     }
 
-    fn settle(&mut self) {
+    fn flush(&mut self) {
         self.rope.append(Rope::of(Root::of_text(&self.text, self.rope.line_breaks())));
         self.text.clear();
     }
 }
 
-/// The rope of all that a reader gives, which has to be UTF-8.
+/// Reads a rope to the end of a reader. The bytes must be UTF-8.
 pub(crate) fn read(reader: &mut impl io::Read, breaks: LineBreaks) -> io::Result<Rope> {
     let invalid = || io::Error::new(ErrorKind::InvalidData, "the bytes that were read are not UTF-8");
     let (mut rope, mut bytes, mut filled) = (Rope::new_with(breaks), vec![0; READ], 0);
@@ -92,7 +92,7 @@ pub(crate) fn read(reader: &mut impl io::Read, breaks: LineBreaks) -> io::Result
         filled += count;
         let whole = match count {
             0 => filled,
-            // The last character may not be whole yet, and waits for the next bytes.
+            // The last character may be incomplete, and waits for the next bytes.
             _ if filled >= BLOCK => {
                 let last = bytes[..filled].iter().rposition(|byte| !matches!(byte, 0x80..=0xbf));
                 last.filter(|&last| last > 0).ok_or_else(invalid)?

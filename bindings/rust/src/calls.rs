@@ -1,4 +1,5 @@
-//! Calls of ropes and slices that panic if the index is out of bounds, each over a variant that returns an error or `None`.
+//! Calls of ropes and slices that panic if the index is out of bounds, each over a variant that
+//! returns an error or `None`.
 use crate::Error;
 
 #[cold]
@@ -8,14 +9,14 @@ pub(crate) fn refuse(error: Error) -> ! {
     panic!("{error}")
 }
 
-/// An example: two values that are equal, of which the first is one of a short text.
+/// An example: a call on a short text, and its result.
 macro_rules! example {
     ($made:literal, $shown:expr) => {
         concat!("\n```\nlet text = ropey::", $made, "(\"né\\r\\ntwo\\n\");\nassert_eq!(text.", $shown, ");\n```")
     };
 }
 
-/// Over a `try_` variant, which returns an error, or a `get_` variant, which returns `None`.
+/// Calls over a `try_` variant, which returns an error, or a `get_` variant, which returns `None`.
 macro_rules! over {
     ($made:literal; $($(#[$doc:meta])* $name:ident($index:ident) by $variant:ident $(else $error:ident of $len:ident)? -> $result:ty,
         $shown:expr;)*) => {
@@ -37,27 +38,36 @@ macro_rules! over {
     };
 }
 
-/// The conversions and their `try_` variants. A row has the two names, the index with the length that bounds it, the units, the
-/// error, the call of a root or a plain text, and an example. The macro `$convert` writes the body of a `try_` variant.
+/// The conversions and their `try_` variants. A row has the two names, the index with the length
+/// that bounds it, the units, the error, the call of a root or a plain text, and an example. The
+/// macro `$convert` expands to the body of a `try_` variant.
 macro_rules! conversions {
     ($convert:ident, $made:literal) => {
         crate::calls::conversions! {
             $convert, $made;
-            /// Returns the character that holds a byte; for the length in bytes, the length in characters.
+            /// Returns the index of the character that contains a byte; for the length in bytes,
+            /// the length in characters.
             byte_to_char try_byte_to_char(byte_idx of len_bytes: bytes -> chars) else ByteIndexOutOfBounds by byte_to_char, 2 1;
-            /// Returns the line on which a byte lies; for the length in bytes, the last line.
+            /// Returns the index of the line that contains a byte; for the length in bytes, the
+            /// last line.
             byte_to_line try_byte_to_line(byte_idx of len_bytes: bytes -> line_breaks) else ByteIndexOutOfBounds by byte_to_line, 5 1;
-            /// Returns the byte at which a character starts; for the length in characters, the length in bytes.
+            /// Returns the byte index at which a character starts; for the length in characters,
+            /// the length in bytes.
             char_to_byte try_char_to_byte(char_idx of len_chars: chars -> bytes) else CharIndexOutOfBounds by char_to_byte, 2 3;
-            /// Returns the line on which a character lies; for the length in characters, the last line.
+            /// Returns the index of the line that contains a character; for the length in
+            /// characters, the last line.
             char_to_line try_char_to_line(char_idx of len_chars: chars -> line_breaks) else CharIndexOutOfBounds by char_to_line, 4 1;
-            /// Returns the UTF-16 code unit at which a character starts; for the length in characters, the length in code units.
+            /// Returns the UTF-16 code unit index at which a character starts; for the length in
+            /// characters, the length in code units.
             char_to_utf16_cu try_char_to_utf16_cu(char_idx of len_chars: chars -> utf16) else CharIndexOutOfBounds by char_to_utf16, 8 8;
-            /// Returns the character that holds a UTF-16 code unit; for the length in code units, the length in characters.
+            /// Returns the index of the character that contains a UTF-16 code unit; for the length
+            /// in code units, the length in characters.
             utf16_cu_to_char try_utf16_cu_to_char(utf16_cu_idx of len_utf16_cu: utf16 -> chars) else Utf16IndexOutOfBounds by utf16_to_char, 2 2;
-            /// Returns the byte at which a line starts; for the number of lines, the length in bytes.
+            /// Returns the byte index at which a line starts; for the number of lines, the length
+            /// in bytes.
             line_to_byte try_line_to_byte(line_idx of len_lines: line_breaks -> bytes) else LineIndexOutOfBounds by line_to_byte, 1 5;
-            /// Returns the character at which a line starts; for the number of lines, the length in characters.
+            /// Returns the character index at which a line starts; for the number of lines, the
+            /// length in characters.
             line_to_char try_line_to_char(line_idx of len_lines: line_breaks -> chars) else LineIndexOutOfBounds by line_to_char, 1 4;
         }
     };
@@ -78,7 +88,8 @@ macro_rules! conversions {
     };
 }
 
-/// All of them, and the cursors that stand at the start. The lifetime is that of the text which is lent.
+/// All panicking calls except conversions, and the cursors from the start. The lifetime is that of
+/// the borrowed text.
 macro_rules! panicking_calls {
     ($text:lifetime, $made:literal) => {
         crate::calls::over! {
@@ -92,37 +103,44 @@ macro_rules! panicking_calls {
             /// Returns a line, including its line break.
             line(line_idx) by get_line else LineIndexOutOfBounds of len_lines -> RopeSlice<$text>,
                 "line(1), \"two\\n\"";
-            /// Returns the chunk that holds a byte, and the first of its bytes, characters and line breaks, counted from the start of
-            /// the text. For the length it is the last chunk.
+            /// Returns the chunk that contains a byte, and the indices of the chunk's first byte,
+            /// character and line break in the text. For the length, returns the last chunk.
             chunk_at_byte(byte_idx) by get_chunk_at_byte else ByteIndexOutOfBounds of len_bytes -> (&$text str, usize, usize, usize),
                 "chunk_at_byte(5).1, 0";
-            /// Returns the chunk that holds a character, and the first of its bytes, characters and line breaks, counted from the
-            /// start of the text. For the length it is the last chunk.
+            /// Returns the chunk that contains a character, and the indices of the chunk's first
+            /// byte, character and line break in the text. For the length, returns the last chunk.
             chunk_at_char(char_idx) by get_chunk_at_char else CharIndexOutOfBounds of len_chars -> (&$text str, usize, usize, usize),
                 "chunk_at_char(4).0.len(), 9";
-            /// Returns the chunk that holds the line break before a line, and the first of its bytes, characters and line breaks,
-            /// counted from the start of the text. For the first line it is the first chunk, for the number of lines the last.
+            /// Returns the chunk that contains the line break before a line, and the indices of the
+            /// chunk's first byte, character and line break in the text. For the first line,
+            /// returns the first chunk, for the number of lines the last one.
             chunk_at_line_break(line_break_idx) by get_chunk_at_line_break else LineIndexOutOfBounds of len_lines -> (&$text str, usize, usize, usize),
                 "chunk_at_line_break(1).3, 0";
-            /// Returns a cursor over the bytes that stands before a byte, or at the end for the length.
+            /// Returns a cursor over the bytes, positioned before a byte, or at the end for the
+            /// length.
             bytes_at(byte_idx) by get_bytes_at else ByteIndexOutOfBounds of len_bytes -> Bytes<$text>,
                 "bytes_at(5).next(), Some(b't')";
-            /// Returns a cursor over the characters that stands before a character, or at the end for the length.
+            /// Returns a cursor over the characters, positioned before a character, or at the end
+            /// for the length.
             chars_at(char_idx) by get_chars_at else CharIndexOutOfBounds of len_chars -> Chars<$text>,
                 "chars_at(4).next(), Some('t')";
-            /// Returns a cursor over the lines that stands before a line, or at the end for the number of lines.
+            /// Returns a cursor over the lines, positioned before a line, or at the end for the
+            /// number of lines.
             lines_at(line_idx) by get_lines_at else LineIndexOutOfBounds of len_lines -> Lines<$text>,
                 "lines_at(1).next().unwrap(), \"two\\n\"";
-            /// Returns a cursor over the chunks that stands before the one that holds a byte, or at the end for the length; and the
-            /// byte, character and line break at which it stands.
+            /// Returns a cursor over the chunks, positioned before the chunk that contains a byte,
+            /// or at the end for the length; and the byte, character and line break index of that
+            /// position.
             chunks_at_byte(byte_idx) by get_chunks_at_byte else ByteIndexOutOfBounds of len_bytes -> (Chunks<$text>, usize, usize, usize),
                 "chunks_at_byte(5).0.count(), 1";
-            /// Returns a cursor over the chunks that stands before the one that holds a character, or at the end for the length; and
-            /// the byte, character and line break at which it stands.
+            /// Returns a cursor over the chunks, positioned before the chunk that contains a
+            /// character, or at the end for the length; and the byte, character and line break
+            /// index of that position.
             chunks_at_char(char_idx) by get_chunks_at_char else CharIndexOutOfBounds of len_chars -> (Chunks<$text>, usize, usize, usize),
                 "chunks_at_char(8).0.count(), 0";
-            /// Returns a cursor over the chunks that stands before the one that holds the line break before a line, or at the end for
-            /// the number of lines; and the byte, character and line break at which it stands.
+            /// Returns a cursor over the chunks, positioned before the chunk that contains the line
+            /// break before a line, or at the end for the number of lines; and the byte, character
+            /// and line break index of that position.
             chunks_at_line_break(line_break_idx) by get_chunks_at_line_break else LineIndexOutOfBounds of len_lines -> (Chunks<$text>, usize, usize, usize),
                 "chunks_at_line_break(3).1, 9";
         }
@@ -148,14 +166,15 @@ macro_rules! panicking_calls {
             self.lines_at(0)
         }
 
-        /// Returns a slice of a range of characters; none where it is not in range.
+        /// Returns a slice of a range of characters, or `None` if the range is out of bounds.
         #[doc = crate::calls::example!($made, "get_slice(0..9).is_none(), true")]
         #[inline]
         pub fn get_slice<R: RangeBounds<usize>>(&self, char_range: R) -> Option<RopeSlice<$text>> {
             self.slice_chars(Bounds::of(&char_range)).ok()
         }
 
-        /// Returns a slice of a range of bytes; none where it is not in range, or one of its bounds lies inside a character.
+        /// Returns a slice of a range of bytes, or `None` if the range is out of bounds or has a
+        /// bound inside a character.
         #[doc = crate::calls::example!($made, "get_byte_slice(0..2).is_none(), true")]
         #[inline]
         pub fn get_byte_slice<R: RangeBounds<usize>>(&self, byte_range: R) -> Option<RopeSlice<$text>> {
@@ -166,7 +185,7 @@ macro_rules! panicking_calls {
         ///
         /// # Panics
         ///
-        /// If the range starts past its end, or reaches past the text's.
+        /// If the range starts past its end, or ends past the text.
         #[doc = crate::calls::example!($made, "slice(4..7), \"two\"")]
         #[inline]
         #[track_caller]
@@ -178,7 +197,7 @@ macro_rules! panicking_calls {
         ///
         /// # Panics
         ///
-        /// If the range starts past its end, reaches past the text's, or has a bound inside a character.
+        /// If the range starts past its end, ends past the text, or has a bound inside a character.
         #[doc = crate::calls::example!($made, "byte_slice(5..8), \"two\"")]
         #[inline]
         #[track_caller]

@@ -1,7 +1,8 @@
-//! Changes of a text as values: applied whole or not at all, inverted, composed, and rebased.
+//! Changes of a text as values: applied atomically, inverted, composed, and rebased.
 //!
-//! A [`ChangeSet`] is a list of replacements of ranges of one text, in order and apart. An editor makes one for all its
-//! carets, applies it to a rope, keeps its inverse to undo, and moves its bookmarks through it.
+//! A [`ChangeSet`] is an ordered list of replacements of disjoint ranges of a text. An editor makes
+//! one for all its carets, applies it to a rope, keeps the inverse for undo, and moves its
+//! bookmarks through it.
 //!
 //! ```
 //! use ropey::changes::{ChangeSet, Edit, Side};
@@ -25,7 +26,7 @@ use std::fmt;
 use crate::ffi::changes::{Changes, LENGTHS_DIFFER, OUT_OF_ORDER, RANGE_INVALID, RANGE_OUT_OF_BOUNDS};
 use crate::Rope;
 
-/// On which side of inserted text an index stays.
+/// The side of inserted text on which an index stays.
 #[derive(Clone, Copy, Debug, PartialEq, Eq, Hash)]
 pub enum Side {
     /// Before the inserted text.
@@ -41,7 +42,7 @@ pub struct Edit<'a> {
     pub start: usize,
     /// The index after the last character that is replaced.
     pub end: usize,
-    /// The text in their place.
+    /// The text that replaces them.
     pub text: &'a str,
 }
 
@@ -60,17 +61,19 @@ pub struct EditRange<'a> {
     pub text: &'a str,
 }
 
-/// Why a call of a change set fails.
+/// An error of a call of a change set.
 #[derive(Clone, Copy, Debug, PartialEq, Eq, Hash)]
 #[non_exhaustive]
 pub enum ChangeError {
     /// A range whose start is past its end: its start and end.
     RangeInvalid(usize, usize),
-    /// A range that ends past the text before the changes: its end, and the length of that text in characters.
+    /// A range that ends past the text before the changes: its end, and the length of that text in
+    /// characters.
     RangeOutOfBounds(usize, usize),
     /// A range that starts before the end of the last replacement: its start, and that end.
     OutOfOrder(usize, usize),
-    /// A text of another length than the changes are for: the length that they are for, and the text's, in characters.
+    /// A text with the wrong length: the length that the changes are for, and the text's, in
+    /// characters.
     LengthDiffers(usize, usize),
     /// The text would have more than `isize::MAX` characters or bytes.
     TooLong,
@@ -98,7 +101,7 @@ impl fmt::Display for ChangeError {
     }
 }
 
-/// Returns the error of a call on a text of `len` characters where the changes are for `expected`.
+/// Returns the errors of a call on a text of `len` characters whose changes are for `expected`.
 fn for_lengths(expected: usize, len: usize) -> impl Fn(u32) -> ChangeError {
     move |status| match status {
         LENGTHS_DIFFER => ChangeError::LengthDiffers(expected, len),
@@ -106,16 +109,16 @@ fn for_lengths(expected: usize, len: usize) -> impl Fn(u32) -> ChangeError {
     }
 }
 
-/// Changes of a text of a given length: replacements of ranges, in order and apart.
+/// Changes of a text of a given length: ordered replacements of disjoint ranges.
 ///
-/// Changes take memory for their replacements and for the texts that they insert. Out of memory, a call ends the program as an
-/// edit of a `Vec` does.
+/// Changes allocate their replacements and the inserted texts. Out of memory, a call aborts as
+/// `Vec` does.
 pub struct ChangeSet {
     changes: Changes,
 }
 
 impl ChangeSet {
-    /// Creates changes that keep all of a text of `len` characters.
+    /// Creates changes of a text of `len` characters that replace nothing.
     ///
     /// # Errors
     ///
@@ -136,11 +139,13 @@ impl ChangeSet {
         ChangeSet { changes }
     }
 
-    /// Creates changes of a text of `len` characters from edits in order, as `new` and then `replace` for each of them do.
+    /// Creates changes of a text of `len` characters, and calls `replace` for each of the edits in
+    /// order.
     ///
     /// # Errors
     ///
-    /// `TooLong` if `len` is above `isize::MAX`; then the error of `replace` for the first edit that it refuses.
+    /// `TooLong` if `len` is above `isize::MAX`; then the error of `replace` for the first edit
+    /// that it refuses.
     ///
     /// ```
     /// use ropey::changes::{ChangeSet, Edit};
@@ -155,14 +160,15 @@ impl ChangeSet {
         Ok(made)
     }
 
-    /// Replaces the characters from `start` up to `end` by `text`. The indices are those of the text before the changes, and
-    /// the range comes after the last one that they replace. If it begins at the end of that one, the two become one
-    /// replacement.
+    /// Adds a replacement of the characters from `start` up to `end` by `text`. The indices are in
+    /// the text before the changes, and the range must come after the previous one. If it begins at
+    /// the end of that one, the two become one replacement.
     ///
     /// # Errors
     ///
-    /// First `RangeInvalid`, then `RangeOutOfBounds`, then `OutOfOrder`; then `TooLong` if the text after the changes would have
-    /// more than `isize::MAX` characters. A call that fails leaves the changes as they were.
+    /// First `RangeInvalid`, then `RangeOutOfBounds`, then `OutOfOrder`; then `TooLong` if the text
+    /// after the changes would have more than `isize::MAX` characters. A call that fails leaves the
+    /// changes unchanged.
     ///
     /// ```
     /// use ropey::changes::ChangeSet;
@@ -182,7 +188,7 @@ impl ChangeSet {
         })
     }
 
-    /// The number of characters of the text before the changes.
+    /// Returns the number of characters of the text before the changes.
     ///
     /// ```
     /// use ropey::changes::ChangeSet;
@@ -196,7 +202,7 @@ impl ChangeSet {
         self.changes.len_before()
     }
 
-    /// The number of characters of the text after the changes.
+    /// Returns the number of characters of the text after the changes.
     ///
     /// ```
     /// use ropey::changes::ChangeSet;
@@ -210,7 +216,7 @@ impl ChangeSet {
         self.changes.len_after()
     }
 
-    /// Whether the changes replace nothing.
+    /// Returns whether the changes replace nothing.
     ///
     /// ```
     /// use ropey::changes::ChangeSet;
@@ -222,7 +228,7 @@ impl ChangeSet {
         self.changes.count() == 0
     }
 
-    /// The replacements, in order.
+    /// Returns the replacements in order.
     ///
     /// ```
     /// use ropey::changes::ChangeSet;
@@ -241,8 +247,9 @@ impl ChangeSet {
     ///
     /// # Errors
     ///
-    /// `LengthDiffers` if the rope's length isn't `len_before()`; then `TooLong` if its text and the texts that the changes
-    /// insert have more than `isize::MAX` bytes together. A call that fails leaves the rope as it was.
+    /// `LengthDiffers` if the rope's length isn't `len_before()`; then `TooLong` if its text and
+    /// the inserted texts have more than `isize::MAX` bytes together. A call that fails leaves the
+    /// rope unchanged.
     ///
     /// ```
     /// use ropey::changes::ChangeSet;
@@ -259,7 +266,7 @@ impl ChangeSet {
         rope.apply(&self.changes).map_err(error)
     }
 
-    /// Returns the changes that lead from the text after these back to the text of `before`, which is the text before.
+    /// Returns the changes that undo these, where `before` is the text before these.
     ///
     /// # Errors
     ///
@@ -282,7 +289,7 @@ impl ChangeSet {
         self.changes.invert(&before.root).map(ChangeSet::of).map_err(error)
     }
 
-    /// Returns the changes that do what these and then `later` do.
+    /// Returns changes equivalent to these followed by `later`.
     ///
     /// # Errors
     ///
@@ -305,14 +312,15 @@ impl ChangeSet {
         self.changes.compose(&later.changes).map(ChangeSet::of).map_err(error)
     }
 
-    /// Returns these changes as changes of the text after `over`, where both are changes of one text. If both insert at one
-    /// index, the text of these comes first with `Side::Before`, and the text of `over` with `Side::After`. If `a` is rebased
-    /// over `b` with one side, and `b` over `a` with the other, both orders lead to the same text.
+    /// Returns these changes rebased over `over`, as changes of the text after `over`. Both must be
+    /// changes of the same text. If both insert at one index, `Side::Before` puts the text of these
+    /// first, and `Side::After` that of `over`. If `a` is rebased over `b` with one side, and `b`
+    /// over `a` with the other, both orders lead to the same text.
     ///
     /// # Errors
     ///
-    /// `LengthDiffers` if the two are for different lengths; then `TooLong` if the text after the result would have more than
-    /// `isize::MAX` characters.
+    /// `LengthDiffers` if the two are for different lengths; then `TooLong` if the text after the
+    /// result would have more than `isize::MAX` characters.
     ///
     /// ```
     /// use ropey::changes::{ChangeSet, Side};
@@ -332,9 +340,9 @@ impl ChangeSet {
         self.changes.rebase(&over.changes, side as u32).map(ChangeSet::of).map_err(error)
     }
 
-    /// The index in the text after the changes of a character, or of the end, of the text before. If text is inserted at the
-    /// index, the result is on the given side of that text. An index inside a replaced range, past its start, goes to the end
-    /// of the new text.
+    /// Maps a character index of the text before the changes, or its length, to the text after
+    /// them. If text is inserted at the index, the result is on the given side of that text. An
+    /// index inside a replaced range, past its start, maps to the end of the new text.
     ///
     /// # Panics
     ///
@@ -356,7 +364,8 @@ impl ChangeSet {
         }
     }
 
-    /// Moves each of the indices as [`map`](Self::map) does, in one pass over the replacements if they ascend.
+    /// Maps each of the indices as [`map`](Self::map) does, in one pass over the replacements if
+    /// they ascend.
     ///
     /// # Panics
     ///

@@ -1,12 +1,12 @@
-//! Why calls fail.
+//! Errors of ropes and slices.
 use std::fmt;
 
-/// What a call that may fail returns.
+/// The result of a call that may fail.
 pub type Result<T> = std::result::Result<T, Error>;
 
-/// Why a call failed, with the index or range that it was given and the length that it met.
+/// An error of a call, with its index or range, and the length if that is out of bounds.
 ///
-/// `Debug` prints what `Display` prints.
+/// `Debug` prints the same as `Display`.
 ///
 /// ```
 /// use ropey::{Error, Rope};
@@ -28,25 +28,25 @@ pub enum Error {
     CharIndexOutOfBounds(usize, usize),
     /// A line index past the last line: the index, and the number of lines.
     LineIndexOutOfBounds(usize, usize),
-    /// An index in UTF-16 past the end: the index, and the length in code units.
+    /// A UTF-16 code unit index past the end: the index, and the length in code units.
     Utf16IndexOutOfBounds(usize, usize),
     /// A byte index inside a character. No call returns it.
     ByteIndexNotCharBoundary(usize),
-    /// A range of bytes that starts or ends inside a character: its bounds as they were given.
+    /// A range of bytes with a bound inside a character: its given bounds.
     ByteRangeNotCharBoundary(Option<usize>, Option<usize>),
     /// A range of bytes whose start is past its end.
     ByteRangeInvalid(usize, usize),
     /// A range of characters whose start is past its end.
     CharRangeInvalid(usize, usize),
-    /// A range of bytes past the end: its bounds as they were given, and the length in bytes.
+    /// A range of bytes past the end: its given bounds, and the length in bytes.
     ByteRangeOutOfBounds(Option<usize>, Option<usize>, usize),
-    /// A range of characters past the end: its bounds as they were given, and the length in characters.
+    /// A range of characters past the end: its given bounds, and the length in characters.
     CharRangeOutOfBounds(Option<usize>, Option<usize>, usize),
 }
 
 impl std::error::Error for Error {}
 
-/// The bounds of a range as they were given, as Rust writes them.
+/// Formats the given bounds of a range as Rust does.
 fn range(start: Option<usize>, end: Option<usize>) -> String {
     let bound = |index: Option<usize>| index.map_or(String::new(), |index| index.to_string());
     format!("{}..{}", bound(start), bound(end))

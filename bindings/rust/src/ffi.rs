@@ -1,15 +1,16 @@
-//! The library for C: its calls, as its header has them, and what makes them safe. All of the crate's `unsafe` is here.
+//! The library for C: safe wrappers of the calls in its header. All of the crate's `unsafe` is
+//! here.
 //!
-//! What is relied on, and by what it holds:
+//! The wrappers rely on these facts:
 //!
-//! - A `Root` alone holds its handle, which the library alone writes. It is neither copied nor written here.
-//! - What a look-up lends of a rope's bytes stays where it is until the rope is edited or freed. The answers borrow the
-//!   `Root`, and edits borrow it mutably, so that none of them outlives an edit.
-//! - The bytes of a chunk, and of a piece, are UTF-8, and a character that is answered is a Unicode scalar value.
+//! - A handle belongs to one `Root`. Only the library writes it, and it is never copied here.
+//! - The bytes that a lookup borrows from a rope stay in place until the rope is edited or freed.
+//!   Results borrow the `Root`, and edits borrow it mutably, so no result outlives an edit.
+//! - The bytes of a chunk or piece are UTF-8, and a returned character is a Unicode scalar value.
 //! - A `&str` is UTF-8, and its length is at most `isize::MAX`.
-//! - What a call writes to is never read by it, so that a list is handed over as room that holds nothing yet.
-//! - Counts of owners are not atomic: whoever changes one holds the lock. With the feature `single_thread` there is no lock, and
-//!   nothing that holds a `Root` is `Send` or `Sync`.
+//! - A call never reads its output arguments, so a list may be passed as uninitialized capacity.
+//! - Reference counts are not atomic: whoever changes one holds the lock. With the feature
+//!   `single_thread` there is no lock, and nothing that holds a `Root` is `Send` or `Sync`.
 #![allow(unsafe_code)]
 
 use std::alloc::{handle_alloc_error, Layout};
@@ -71,7 +72,7 @@ struct Place {
     column: usize,
 }
 
-/// `ropey_counts`: how much a text holds.
+/// `ropey_counts`: the counts of a text.
 #[repr(C)]
 #[derive(Clone, Copy, Debug)]
 pub(crate) struct Counts {
@@ -89,10 +90,12 @@ struct RawSlice {
     counts: Counts,
 }
 
-/// A part of a rope's text: itself, where it lies in one chunk, and how much it holds.
+/// A part of a rope's text: the text if it lies in one chunk, and its counts.
 pub(crate) type Lent<'a> = (Option<&'a str>, Counts);
 
 impl RawSlice {
+    /// Returns the text, if it lies in one chunk, and its counts.
+    ///
     /// Safety: the rope is neither edited nor freed for `'a`.
     #[inline(always)]
     unsafe fn lent<'a>(self) -> Lent<'a> {
@@ -105,7 +108,7 @@ const OK: u32 = 0;
 const OUT_OF_MEMORY: u32 = 1;
 const TOO_LONG: u32 = 15;
 
-// Those that are alike are declared where they are called.
+// The macros below declare the other calls.
 extern "C" {
     fn ropey_from_text(text: *const u8, len: usize, break_set: u32, rope: *mut Handle) -> u32;
     fn ropey_from_text_unchecked(text: *const u8, len: usize, break_set: u32, rope: *mut Handle) -> u32;
@@ -129,7 +132,8 @@ extern "C" {
     fn ropey_text_counts_unchecked(text: *const u8, len: usize, break_set: u32, counts: *mut Counts) -> u32;
 }
 
-/// One lock for all ropes, around every call that may touch a count of owners: clones, edits, frees.
+/// One lock for all ropes, held by every call that may touch a reference count: clones, edits,
+/// frees.
 #[cfg(not(feature = "single_thread"))]
 mod owners {
     use std::sync::{Mutex, MutexGuard, PoisonError};
@@ -137,17 +141,17 @@ mod owners {
     static OWNERS: Mutex<()> = Mutex::new(());
 
     pub(super) fn lock() -> MutexGuard<'static, ()> {
-        // It guards no value, so that a panic under it leaves nothing broken.
+        // The lock guards no value, so a panic leaves nothing inconsistent.
         OWNERS.lock().unwrap_or_else(PoisonError::into_inner)
     }
 
-    // Safety: whoever changes a count of owners holds the lock. Look-ups touch no count, and what they read is written
-    // only by an edit that has found itself its one owner. Whoever let go of it before did so under the lock, after its
-    // last look-up.
+    // Safety: whoever changes a reference count holds the lock. Lookups touch no count, and an edit
+    // writes only nodes of which it is the sole owner. Earlier owners released them under the lock,
+    // after their last lookup.
     unsafe impl Send for super::Root {}
     unsafe impl Sync for super::Root {}
 
-    // Safety: a piece is a `&str`, and a slice has one.
+    // Safety: a piece is a `&str`.
     unsafe impl Send for super::Piece {}
     unsafe impl Sync for super::Piece {}
 }
@@ -159,7 +163,7 @@ mod owners {
 
 use owners::lock;
 
-/// Whether a call was done; a call that is not was refused for its arguments.
+/// Returns whether a call succeeded; otherwise its arguments were refused.
 #[inline(always)]
 fn done(status: u32) -> bool {
     if status == OUT_OF_MEMORY || status == TOO_LONG {
@@ -168,18 +172,18 @@ fn done(status: u32) -> bool {
     status == OK
 }
 
-/// For calls that are given nothing to refuse.
+/// Checks a call whose arguments are valid.
 #[inline(always)]
 fn must(status: u32) {
     assert!(done(status), "the library refused good arguments: status {status}");
 }
 
-/// What a call writes, which is not refused.
+/// Returns the value that a call writes, or `None` if the call fails.
 #[inline(always)]
 fn written<T>(call: impl FnOnce(*mut T) -> u32) -> Option<T> {
-    let mut answer = MaybeUninit::uninit();
-    // Safety: a call that is done has written its answer.
-    done(call(answer.as_mut_ptr())).then(|| unsafe { answer.assume_init() })
+    let mut value = MaybeUninit::uninit();
+    // Safety: a successful call has written the value.
+    done(call(value.as_mut_ptr())).then(|| unsafe { value.assume_init() })
 }
 
 #[cold]
@@ -191,7 +195,9 @@ fn cannot_grow(status: u32) -> ! {
     handle_alloc_error(Layout::new::<Handle>())
 }
 
-/// Safety: the piece leads to bytes of UTF-8 that nothing writes for `'a`.
+/// Returns the text of a piece.
+///
+/// Safety: the piece points to UTF-8 that nothing writes for `'a`.
 #[inline(always)]
 unsafe fn text_at<'a>(piece: Piece) -> &'a str {
     std::str::from_utf8_unchecked(std::slice::from_raw_parts(piece.text, piece.len))
@@ -216,7 +222,7 @@ impl Clone for Root {
     }
 }
 
-/// Edits answer whether the index or range was in range. Out of memory, they end as those of a `Vec` do.
+/// Edits return whether the index or range was in bounds. Out of memory, they abort as `Vec` does.
 impl Root {
     pub(crate) fn of_text(text: &str, breaks: LineBreaks) -> Root {
         let mut root = Root(NONE, breaks);
@@ -225,7 +231,7 @@ impl Root {
         root
     }
 
-    /// A rope of the bytes; none where they are not UTF-8.
+    /// Returns a rope of the bytes, or `None` if they are not UTF-8.
     pub(crate) fn of_bytes(bytes: &[u8], breaks: LineBreaks) -> Option<Root> {
         let mut root = Root(NONE, breaks);
         done(unsafe { ropey_from_text(bytes.as_ptr(), bytes.len(), breaks as u32, &mut root.0) }).then_some(root)
@@ -236,7 +242,7 @@ impl Root {
         self.1
     }
 
-    /// A rope of the characters from `start` up to `end`, which are in range.
+    /// Returns a rope of the characters from `start` up to `end`, which are in bounds.
     pub(crate) fn clone_chars(&self, start: usize, end: usize) -> Root {
         let mut copy = Root(NONE, self.1);
         let _lock = lock();
@@ -276,7 +282,7 @@ impl Root {
     pub(crate) fn append(&mut self, mut other: Root) {
         let _lock = lock();
         must(unsafe { ropey_append(&mut self.0, &mut other.0) });
-        // It holds no rope now, and its drop would wait for the lock.
+        // The handle is empty now, and a drop would wait for the lock.
         std::mem::forget(other);
     }
 }
@@ -305,26 +311,25 @@ lengths! {
     len_utf16: ropey_len_utf16;
 }
 
-/// Look-ups of one kind: what is written, and what is made of it. They answer none where the index is out
-/// of bounds.
-macro_rules! look_ups {
-    ($raw:ty => $answer:ty, $answered:expr; $($name:ident($($index:ident),+): $call:ident;)*) => {
+/// Lookups whose calls write a `$raw`. They return `None` if the index is out of bounds.
+macro_rules! lookups {
+    ($raw:ty => $result:ty, $convert:expr; $($name:ident($($index:ident),+): $call:ident;)*) => {
         extern "C" {
-            $(fn $call(rope: Held, $($index: usize,)+ answer: *mut $raw) -> u32;)*
+            $(fn $call(rope: Held, $($index: usize,)+ result: *mut $raw) -> u32;)*
         }
 
         impl Root {
             $(
                 #[inline]
-                pub(crate) fn $name(&self, $($index: usize),+) -> Option<$answer> {
-                    written(|answer| unsafe { $call(&self.0, $($index,)+ answer) }).map($answered)
+                pub(crate) fn $name(&self, $($index: usize),+) -> Option<$result> {
+                    written(|result| unsafe { $call(&self.0, $($index,)+ result) }).map($convert)
                 }
             )*
         }
     };
 }
 
-look_ups! {
+lookups! {
     usize => usize, |number| number;
     byte_to_char(byte_idx): ropey_byte_to_char;
     byte_to_line(byte_idx): ropey_byte_to_line;
@@ -336,17 +341,17 @@ look_ups! {
     line_to_char(line_idx): ropey_line_to_char;
 }
 
-look_ups! {
+lookups! {
     u8 => u8, |byte| byte;
     byte(byte_idx): ropey_byte;
 }
 
-look_ups! {
+lookups! {
     u32 => char, |c| unsafe { char::from_u32_unchecked(c) };
     char(char_idx): ropey_char;
 }
 
-look_ups! {
+lookups! {
     RawChunk => ChunkAt<'_>,
     |chunk: RawChunk| (unsafe { text_at(chunk.text) }, chunk.bytes_before, chunk.chars_before, chunk.line_breaks_before);
     chunk_at_byte(byte_idx): ropey_chunk_at_byte;
@@ -354,22 +359,22 @@ look_ups! {
     chunk_at_line_break(line_idx): ropey_chunk_at_line_break;
 }
 
-look_ups! {
+lookups! {
     RawSlice => Lent<'_>, |slice: RawSlice| unsafe { slice.lent() };
     line_slice(line_idx): ropey_line_slice;
 }
 
-/// Calls that show a range, and how much of the rope lies before it. They answer none where the range is refused.
+/// Lookups of a range, with the counts before it. They return `None` if the range is refused.
 macro_rules! ranges {
-    ($($name:ident: $call:ident -> $shown:ty;)*) => {
+    ($($name:ident: $call:ident -> $result:ty;)*) => {
         extern "C" {
-            $(fn $call(rope: Held, start: usize, end: usize, shown: *mut $shown, before: *mut Counts) -> u32;)*
+            $(fn $call(rope: Held, start: usize, end: usize, result: *mut $result, before: *mut Counts) -> u32;)*
         }
 
         impl Root {
             $(
                 #[inline]
-                fn $name(&self, start: usize, end: usize) -> Option<($shown, Counts)> {
+                fn $name(&self, start: usize, end: usize) -> Option<($result, Counts)> {
                     let mut before = Counts::NONE;
                     written(|it| unsafe { $call(&self.0, start, end, it, &mut before) }).map(|it| (it, before))
                 }
@@ -385,38 +390,40 @@ ranges! {
 }
 
 impl Root {
-    /// The characters from `start` up to `end`, which are in range, and how much lies before them.
+    /// Returns the characters from `start` up to `end`, which are in bounds, and the counts before.
     #[inline]
     pub(crate) fn char_slice(&self, start: usize, end: usize) -> (Lent<'_>, Counts) {
         let (slice, before) = known(self.chars_and_before(start, end));
         (unsafe { slice.lent() }, before)
     }
 
-    /// The bytes from `start` up to `end`, and how much lies before them; none where one of the two lies inside a character.
+    /// Returns the bytes from `start` up to `end`, which are in bounds, and the counts before, or
+    /// `None` if a bound is inside a character.
     #[inline]
     pub(crate) fn byte_slice(&self, start: usize, end: usize) -> Option<(Lent<'_>, Counts)> {
         let (slice, before) = self.bytes_and_before(start, end)?;
         Some((unsafe { slice.lent() }, before))
     }
 
-    /// How much the characters from `start` up to `end`, which are in range, hold, and how much lies before them.
+    /// Returns the counts of the characters from `start` up to `end`, which are in bounds, and the
+    /// counts before.
     #[inline]
     pub(crate) fn counts_in_chars(&self, start: usize, end: usize) -> (Counts, Counts) {
         known(self.counts_and_before(start, end))
     }
 
-    /// The line and column of a character; none where it is past the end.
+    /// Returns the line and column of a character, or `None` if the index is past the end.
     pub(crate) fn char_to_position(&self, char_idx: usize, encoding: Encoding) -> Option<(usize, usize)> {
         let place = written(|place| unsafe { ropey_char_to_position_in(&self.0, char_idx, encoding as u32, place) });
         place.map(|Place { line, column }| (line, column))
     }
 
-    /// The character at a line and column, each of them any number.
+    /// Returns the index of the character at a line and column, clamped to the text.
     pub(crate) fn clamped_position_to_char(&self, line: usize, column: usize, encoding: Encoding) -> usize {
         known(written(|i| unsafe { ropey_clamped_position_to_char(&self.0, line, column, encoding as u32, i) }))
     }
 
-    /// How much the rope holds.
+    /// Returns the counts of the whole text.
     #[inline]
     pub(crate) fn counts(&self) -> Counts {
         Counts {
@@ -428,11 +435,11 @@ impl Root {
     }
 }
 
-/// Calls that write a list from an index on, and more behind it.
+/// Calls that write a list of items from an index on, and then values of the types `$more`.
 macro_rules! lists {
-    ($($call:ident: $item:ty $(, $last:ty)*;)*) => {
+    ($($call:ident: $item:ty $(, $more:ty)*;)*) => {
         extern "C" {
-            $(fn $call(rope: Held, i: usize, list: *mut $item, room: usize, count: *mut usize $(, _: *mut $last)*) -> u32;)*
+            $(fn $call(rope: Held, i: usize, list: *mut $item, room: usize, count: *mut usize $(, _: *mut $more)*) -> u32;)*
         }
     };
 }
@@ -447,18 +454,18 @@ lists! {
     ropey_lines_before: RawSlice;
 }
 
-/// Has the library write as much of a list as there is room for. It reads nothing of what the list held.
+/// Replaces the list by at most `room` items that a call writes.
 #[inline(always)]
 fn fill<T>(list: &mut Vec<T>, room: usize, call: impl FnOnce(*mut T, usize, *mut usize) -> u32) {
     let mut count = 0;
     list.clear();
     list.reserve_exact(room);
     must(call(list.as_mut_ptr(), room, &mut count));
-    // Safety: the library wrote so many, for which there is room.
+    // Safety: the library wrote `count` items, at most `room`.
     unsafe { list.set_len(count) };
 }
 
-/// Has the processor fetch a byte that is read soon. Nothing is read here.
+/// Prefetches a byte.
 #[inline(always)]
 fn prefetch(byte: *const u8) {
     #[cfg(target_arch = "x86_64")]
@@ -470,11 +477,11 @@ fn prefetch(byte: *const u8) {
     let _ = byte;
 }
 
-/// How many pieces take no memory of their own.
+/// The number of pieces that are stored without an allocation.
 pub(crate) const FEW_PIECES: usize = 3;
 
-/// Some pieces of a rope that lie one after another: the first `len` of a few, or a list of more. The next time it is given
-/// at most `room`.
+/// Consecutive pieces of a rope: the first `len` of `few`, or a list of more. The next fetch writes
+/// at most `room` pieces.
 pub(crate) struct Pieces<'a> {
     few: [MaybeUninit<Piece>; FEW_PIECES],
     len: usize,
@@ -498,7 +505,7 @@ impl<'a> Pieces<'a> {
         pieces
     }
 
-    /// The same, where they are a few, and else none.
+    /// Returns a copy of the pieces if there are only a few, else no pieces.
     #[inline]
     pub(crate) fn few(&self) -> Pieces<'a> {
         Pieces { list: Vec::new(), room: FEW_PIECES, ..*self }
@@ -521,21 +528,22 @@ impl<'a> Pieces<'a> {
 
     #[inline(always)]
     pub(crate) fn get(&mut self, i: usize) -> Option<&'a str> {
-        // Safety: the piece was written by `of` or `keep`, or by the library as a part of a rope that is borrowed for `'a`.
+        // Safety: the piece was written by `of` or `keep`, or by the library as a part of a rope
+        // that is borrowed for `'a`.
         self.at(i).map(|piece| unsafe { text_at(*piece) })
     }
 
-    /// Has the processor fetch the text of the piece `i`, where there is one, which is read next.
+    /// Prefetches the text of the piece `i`, if there is one.
     #[inline(always)]
-    pub(crate) fn touch(&mut self, i: usize) {
+    pub(crate) fn prefetch(&mut self, i: usize) {
         let text = self.get(i).unwrap_or_default();
         for line in (0..text.len()).step_by(64) {
-            // Safety: the byte is one of the text.
+            // Safety: the offset is within the text.
             prefetch(unsafe { text.as_ptr().add(line) });
         }
     }
 
-    /// Cuts bytes off the front, and keeps so many of the others.
+    /// Cuts `front` bytes off the front, and keeps at most `left` of the others.
     pub(crate) fn cut(&mut self, front: usize, left: usize) {
         if let Some(text) = self.get(0).filter(|_| front > 0) {
             *self.at(0).expect("there is one") = Piece::of(&text[front..]);
@@ -543,7 +551,7 @@ impl<'a> Pieces<'a> {
         self.keep(left, |text, len| &text[..len]);
     }
 
-    /// Keeps pieces of so many bytes in all, and of the last of them what is in that.
+    /// Keeps pieces of at most `left` bytes in all; `part` shortens the last one.
     fn keep(&mut self, mut left: usize, part: impl Fn(&'a str, usize) -> &'a str) {
         if self.len() <= left / MAX_BYTES {
             return;
@@ -571,8 +579,8 @@ impl<'a> Pieces<'a> {
         }
     }
 
-    /// The chunks before the one that holds a byte, of so many bytes at most, and where the last of them ends. The index is at
-    /// most the length.
+    /// Fetches the chunks before the one that contains a byte, at most `left` bytes of them, and
+    /// returns the end of the last one. The index is at most the length.
     pub(crate) fn fetch_before(&mut self, root: &'a Root, byte_idx: usize, left: usize) -> usize {
         let mut end = 0;
         self.fill(|list, room, count| unsafe {
@@ -586,10 +594,10 @@ impl<'a> Pieces<'a> {
     }
 }
 
-/// The bytes, characters and line breaks before a place.
+/// The bytes, characters and line breaks before a position.
 pub(crate) type Before = (usize, usize, usize);
 
-/// Look-ups of the chunks from a place on, with what lies before them. The index is in bounds.
+/// Fetches of the chunks from an index on, with the counts before them. The index is in bounds.
 macro_rules! chunks_at {
     ($($name:ident: $call:ident;)*) => {
         impl<'a> Pieces<'a> {
@@ -613,20 +621,20 @@ chunks_at! {
     fetch_at_line_break: ropey_chunks_from_line_break_with_before;
 }
 
-/// Some lines of a rope, from the line `first` on, or from it back.
+/// Consecutive lines of a rope, from the line `first` forward or backward.
 pub(crate) struct Window<'a> {
     list: Vec<RawSlice>,
     first: usize,
     is_back: bool,
-    // How many are fetched the next time.
+    // The number of lines that the next fetch writes at most.
     room: usize,
-    // How much of the rope lies before the cursor, where that is known.
+    // The counts before the cursor, if they are known.
     pub before: Option<Counts>,
     text: PhantomData<&'a str>,
 }
 
 thread_local! {
-    // Room for lines that a cursor has let go, so that the next one takes none.
+    // The buffer of a dropped cursor, for the next one.
     static ROOM: Cell<Vec<RawSlice>> = const { Cell::new(Vec::new()) };
 }
 
@@ -635,7 +643,7 @@ impl Drop for Window<'_> {
     fn drop(&mut self) {
         if self.list.capacity() >= LINES {
             let list = std::mem::take(&mut self.list);
-            // A thread that ends may have let its room go before.
+            // The buffer may already be dropped if the thread ends.
             let _ = ROOM.try_with(|room| room.set(list));
         }
     }
@@ -647,11 +655,12 @@ impl<'a> Window<'a> {
         Window { list: Vec::new(), first: 0, is_back: false, room: 1, before, text: PhantomData }
     }
 
-    /// Where among the lines one of the rope is, which has one of this number; it is fetched with those that a cursor will pass
-    /// next, at most `left`. With many lines ahead of the cursor it is looked up how much lies before them.
+    /// Returns the position in the list of a line, whose index is in bounds. Fetches it if it isn't
+    /// there, and with it the lines that the cursor passes next, at most `left` in all. A fetch of
+    /// several lines forward also sets `before`.
     #[inline(always)]
     pub(crate) fn find(&mut self, root: &'a Root, line_idx: usize, is_back: bool, left: usize) -> usize {
-        let at = self.place(line_idx);
+        let at = self.position(line_idx);
         if at < self.list.len() {
             return at;
         }
@@ -659,34 +668,34 @@ impl<'a> Window<'a> {
         0
     }
 
-    /// A line's text, where it lies in one chunk.
+    /// Returns a line's text if it lies in one chunk.
     #[inline(always)]
     pub(crate) fn text(&self, at: usize) -> Option<&'a str> {
         let line = &self.list[at];
-        // Safety: the library wrote it, as a part of a rope that is borrowed for `'a`.
+        // Safety: the library wrote the piece, as a part of a rope that is borrowed for `'a`.
         (line.text.len == line.counts.bytes).then(|| unsafe { text_at(line.text) })
     }
 
-    /// How much a line holds.
+    /// Returns the counts of a line.
     #[inline(always)]
     pub(crate) fn counts(&self, at: usize) -> Counts {
         self.list[at].counts
     }
 
-    fn place(&self, line_idx: usize) -> usize {
+    fn position(&self, line_idx: usize) -> usize {
         let (low, high) = if self.is_back { (line_idx, self.first) } else { (self.first, line_idx) };
         high.wrapping_sub(low)
     }
 
-    /// The same lines from one on, but not many, for a cursor that may soon be dropped.
+    /// Returns a copy of at most two lines from one on, for a clone that may soon be dropped.
     pub(crate) fn few(&self, line_idx: usize) -> Window<'a> {
-        let list = self.list.iter().skip(self.place(line_idx)).take(2).copied().collect();
+        let list = self.list.iter().skip(self.position(line_idx)).take(2).copied().collect();
         Window { list, first: line_idx, room: 1, ..*self }
     }
 
     #[inline(never)]
     fn fetch(&mut self, root: &'a Root, line_idx: usize, is_back: bool, left: usize) {
-        // One line for a fresh cursor and for one that has turned: either may soon be dropped or turned again.
+        // A new cursor may soon be dropped, and one that has turned may turn again.
         let room = if is_back == self.is_back { self.room } else { 1 };
         if self.list.capacity() < LINES {
             self.list = ROOM.try_with(Cell::take).unwrap_or_default();
@@ -716,11 +725,11 @@ impl<'a> Window<'a> {
     }
 }
 
-/// The largest number of lines fetched at once: the lines of a screen. A cursor begins with one line, and fetches four
-/// times as many each time that it goes on in the same direction.
+/// The largest number of lines fetched at once: the lines of a screen. A cursor first fetches one
+/// line, and each further fetch in the same direction has four times as many.
 const LINES: usize = 50;
 
-/// A plain text, and the set of line breaks by which its lines are counted.
+/// A plain text, and its set of line breaks.
 #[derive(Clone, Copy)]
 pub(crate) struct Plain<'a> {
     pub text: &'a str,
@@ -728,25 +737,26 @@ pub(crate) struct Plain<'a> {
 }
 
 impl<'a> Plain<'a> {
-    /// How much the text holds.
+    /// Returns the counts of the text.
     pub(crate) fn counts(self) -> Counts {
         let (text, len) = (self.text.as_ptr(), self.text.len());
         // Safety: a `&str` is UTF-8.
         known(written(|counts| unsafe { ropey_text_counts_unchecked(text, len, self.breaks as u32, counts) }))
     }
 
-    /// Another text with the same set of line breaks.
+    /// Returns another text with the same set of line breaks.
     #[inline]
     pub(crate) fn with(self, text: &'a str) -> Plain<'a> {
         Plain { text, ..self }
     }
 }
 
-/// Conversions in a text, by its set of line breaks where `breaks` stands. An index past the end stands for the end.
+/// Conversions in a text; those with `breaks` depend on its set of line breaks. An index past the
+/// end counts as the end.
 macro_rules! text_conversions {
     ($($name:ident: $call:ident($($breaks:ident)?);)*) => {
         extern "C" {
-            $(fn $call(text: *const u8, len: usize, $($breaks: u32,)? index: usize, answer: *mut usize) -> u32;)*
+            $(fn $call(text: *const u8, len: usize, $($breaks: u32,)? index: usize, result: *mut usize) -> u32;)*
         }
 
         impl Plain<'_> {
@@ -754,7 +764,7 @@ macro_rules! text_conversions {
                 #[inline]
                 pub(crate) fn $name(self, index: usize) -> usize {
                     let (text, len) = (self.text.as_ptr(), self.text.len());
-                    known(written(|answer| unsafe { $call(text, len, $(self.$breaks as u32,)? index, answer) }))
+                    known(written(|result| unsafe { $call(text, len, $(self.$breaks as u32,)? index, result) }))
                 }
             )*
         }
@@ -785,13 +795,13 @@ impl Counts {
         }
     }
 
-    /// With what a text behind this one holds.
+    /// Returns the counts of this text followed by another.
     #[inline(always)]
-    pub(crate) fn plus(self, behind: Counts) -> Counts {
-        self.with(behind, |a, b| a + b)
+    pub(crate) fn plus(self, next: Counts) -> Counts {
+        self.with(next, |a, b| a + b)
     }
 
-    /// Without what a part of the text holds.
+    /// Returns the counts of this text without a part of it.
     #[inline(always)]
     pub(crate) fn minus(self, part: Counts) -> Counts {
         self.with(part, |a, b| a - b)

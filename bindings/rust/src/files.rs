@@ -1,4 +1,4 @@
-//! Files in the encodings that editors meet: read into ropes, and written back as they were.
+//! Files in UTF-8, UTF-16 and Latin-1, read into ropes and written from them.
 //!
 //! ```
 //! use ropey::files::Encoding;
@@ -18,7 +18,7 @@ use crate::ffi::files::BY_MARK;
 use crate::ffi::Root;
 use crate::{LineBreaks, Rope};
 
-/// How the bytes of a file stand for its text. `Bom` is said of files that begin with a byte order mark, which is no part of
+/// An encoding of files. `Bom` is for files that begin with a byte order mark, which isn't part of
 /// the text.
 #[derive(Clone, Copy, Debug, PartialEq, Eq, Hash)]
 pub enum Encoding {
@@ -38,16 +38,17 @@ pub enum Encoding {
     Latin1,
 }
 
-/// The encodings, by their numbers in the library.
+/// The encodings in the order of their numbers in the library.
 const ENCODINGS: [Encoding; 7] = {
     use Encoding::{Latin1, Utf16Be, Utf16BeBom, Utf16Le, Utf16LeBom, Utf8, Utf8Bom};
     [Utf8, Utf8Bom, Utf16Le, Utf16LeBom, Utf16Be, Utf16BeBom, Latin1]
 };
 
-/// What a call that reads or writes a file returns.
+/// The result of reading or writing a file.
 pub type FileResult<T> = Result<T, FileError>;
 
-/// Why a file was not read or written. Offsets count the bytes of the file from its start, with its mark.
+/// An error of reading or writing a file. Offsets are in bytes from the start of the file,
+/// including its mark.
 ///
 /// ```
 /// use ropey::files::{Encoding, FileError};
@@ -60,15 +61,15 @@ pub type FileResult<T> = Result<T, FileError>;
 #[derive(Clone, Copy, Debug, PartialEq, Eq)]
 #[non_exhaustive]
 pub enum FileError {
-    /// The encoding has a mark, and the file begins otherwise.
+    /// The file doesn't begin with the mark of its encoding.
     NoMark,
-    /// The bytes from this offset on begin with no character of UTF-8.
+    /// No UTF-8 character starts at this offset.
     InvalidUtf8(usize),
-    /// The code unit of UTF-16 at this offset is half of a pair and stands alone.
+    /// The UTF-16 code unit at this offset is an unpaired surrogate.
     UnpairedSurrogate(usize),
-    /// The file ends after half of the code unit of UTF-16 at this offset.
+    /// The file ends in the middle of the UTF-16 code unit at this offset.
     HalfCodeUnit(usize),
-    /// The encoding has no bytes for the character of this index, the first of its kind.
+    /// The encoding has no bytes for the character at this index, the first such character.
     Unencodable(usize),
 }
 
@@ -88,12 +89,12 @@ impl std::error::Error for FileError {}
 
 /// Files.
 impl Rope {
-    /// Returns a rope of the bytes of a file, and its encoding: the given one or, if none is given, the one whose mark the
-    /// bytes begin with, and UTF-8 without a mark.
+    /// Decodes the bytes of a file, and returns its rope and its encoding: the given one or, by
+    /// default, the one whose mark the bytes begin with, or UTF-8 if there is no mark.
     ///
     /// # Errors
     ///
-    /// Every `FileError` but `Unencodable`.
+    /// Every `FileError` except `Unencodable`.
     ///
     /// ```
     /// use ropey::files::{Encoding, FileError};
@@ -106,12 +107,12 @@ impl Rope {
         Rope::from_bytes_as_with(bytes, given, LineBreaks::CHOSEN)
     }
 
-    /// Returns a rope of the bytes of a file, with a set of line breaks, and its encoding, as
-    /// [`from_bytes_as`](Self::from_bytes_as) does.
+    /// Decodes the bytes of a file as [`from_bytes_as`](Self::from_bytes_as) does, into a rope with
+    /// a set of line breaks.
     ///
     /// # Errors
     ///
-    /// Every `FileError` but `Unencodable`.
+    /// Every `FileError` except `Unencodable`.
     ///
     /// ```
     /// use ropey::{LineBreaks, Rope};
@@ -130,7 +131,7 @@ impl Rope {
         Ok((Rope::of(root), ENCODINGS[found as usize]))
     }
 
-    /// Returns the bytes of a file of the text in an encoding, after the encoding's mark.
+    /// Encodes the text as the bytes of a file, which begins with the encoding's mark.
     ///
     /// # Errors
     ///

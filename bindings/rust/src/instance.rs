@@ -1,15 +1,15 @@
-//! Which ropes are clones of each other that were not edited since.
+//! Identification of clones that were not edited since.
 use std::sync::atomic::{AtomicU64, Ordering::Relaxed};
 
 static LAST: AtomicU64 = AtomicU64::new(0);
 
-/// A number that a rope shares with its clones, and 0 as long as it has none. It is drawn by the first clone, so that an
-/// edit costs no more than setting it to 0.
+/// A number that a rope shares with its clones, or 0 as long as it has none. The first clone draws
+/// the number, so an edit only sets it to 0.
 #[derive(Default)]
 pub(crate) struct Instance(AtomicU64);
 
 impl Instance {
-    /// The rope is edited: from here on it is no clone.
+    /// Separates an edited rope from its clones.
     pub(crate) fn forget(&mut self) {
         *self.0.get_mut() = 0;
     }

@@ -2,7 +2,7 @@
 
 /// A set of line breaks: the characters that end a line.
 ///
-/// A rope has one from its start on, and its slices and tails have the same.
+/// A rope has one set for its whole life, and its slices and split-off parts have the same.
 ///
 /// ```
 /// use ropey::{LineBreaks, Rope};
@@ -16,7 +16,7 @@
 pub enum LineBreaks {
     /// LF alone.
     Lf,
-    /// LF, CR, and CR LF as one break: those of the Language Server Protocol.
+    /// LF, CR, and CR LF as one break, as in the Language Server Protocol.
     CrLf,
     /// LF, VT, FF, CR, NEL, LS, PS, and CR LF as one break.
     Unicode,
@@ -30,7 +30,7 @@ impl LineBreaks {
         (_, true) => LineBreaks::Unicode,
     };
 
-    /// Returns whether a line ends after the character, if no LF follows.
+    /// Returns whether a line ends after the character when no LF follows.
     ///
     /// ```
     /// use ropey::LineBreaks;
@@ -49,7 +49,7 @@ impl LineBreaks {
 }
 
 impl Default for LineBreaks {
-    /// Returns the set that the crate's features choose: all of Unicode's, if they aren't set.
+    /// Returns the set that the crate's features choose, by default Unicode's.
     fn default() -> LineBreaks {
         LineBreaks::CHOSEN
     }

@@ -12,7 +12,7 @@
 use crate::calls::refuse;
 use crate::{Error, Result, Rope};
 
-/// What a position's column counts, as `PositionEncodingKind` of the Language Server Protocol.
+/// The unit of a position's column: `PositionEncodingKind` of the Language Server Protocol.
 #[derive(Clone, Copy, Debug, PartialEq, Eq, Hash)]
 pub enum Encoding {
     /// The bytes of UTF-8, `utf-8` in the protocol.
@@ -32,9 +32,10 @@ pub struct Position {
     pub column: usize,
 }
 
-/// Positions. No call takes memory.
+/// Positions. The calls allocate nothing.
 impl Rope {
-    /// Returns the position of a character, or of the end of the text, with its column in an encoding.
+    /// Returns the position of a character, or of the end of the text, with its column in an
+    /// encoding.
     ///
     /// # Panics
     ///
@@ -52,7 +53,8 @@ impl Rope {
         self.try_char_to_position_in(char_idx, encoding).unwrap_or_else(|error| refuse(error))
     }
 
-    /// Returns the position of a character, or of the end of the text, with its column in an encoding.
+    /// Returns the position of a character, or of the end of the text, with its column in an
+    /// encoding.
     ///
     /// # Errors
     ///
@@ -67,14 +69,15 @@ impl Rope {
     /// assert!(rope.try_char_to_position_in(8, Encoding::Utf16).is_err());
     /// ```
     pub fn try_char_to_position_in(&self, char_idx: usize, encoding: Encoding) -> Result<Position> {
-        let place = self.root.char_to_position(char_idx, encoding);
-        let (line, column) = place.ok_or_else(|| Error::CharIndexOutOfBounds(char_idx, self.len_chars()))?;
+        let position = self.root.char_to_position(char_idx, encoding);
+        let (line, column) = position.ok_or_else(|| Error::CharIndexOutOfBounds(char_idx, self.len_chars()))?;
         Ok(Position { line, column })
     }
 
-    /// Returns the character at any position, as the Language Server Protocol reads it: a column past the end of its line is
-    /// the line's end before its break, and a line past the last one is the end of the text. A column inside a character is
-    /// that character.
+    /// Returns the index of the character at any position, with the clamping of the Language Server
+    /// Protocol: a column past the end of its line is the end of the line before its break, and a
+    /// line past the last one is the end of the text. A column inside a character is that
+    /// character.
     ///
     /// ```
     /// use ropey::positions::{Encoding, Position};

@@ -1,10 +1,10 @@
-//! Ranges as calls are given them.
+//! Ranges as arguments of calls.
 use std::ops::{Bound, RangeBounds};
 
 use crate::{Error, Result};
 
-/// The bounds of a range as numbers, its end past the last index; none where a bound is left open. A bound that is past
-/// the greatest number is given as that number, which is past every text.
+/// The bounds of a half-open range, `None` for an open bound. A bound past `usize::MAX` saturates,
+/// which is still past every text.
 #[derive(Clone, Copy)]
 pub(crate) struct Bounds {
     start: Option<usize>,
@@ -27,12 +27,12 @@ impl Bounds {
         }
     }
 
-    /// Start and end within a text of `len` units, whatever they are.
+    /// Returns start and end in a text of `len` units, unchecked.
     pub(crate) fn within(self, len: usize) -> (usize, usize) {
         (self.start.unwrap_or(0), self.end.unwrap_or(len))
     }
 
-    /// Start and end of a range of bytes.
+    /// Returns start and end of a range of bytes.
     pub(crate) fn of_bytes(self, len: usize) -> Result<(usize, usize)> {
         match (self.start, self.end) {
             (Some(start), Some(end)) if start > end => Err(Error::ByteRangeInvalid(start, end)),
@@ -41,7 +41,7 @@ impl Bounds {
         }
     }
 
-    /// Start and end of a range of characters.
+    /// Returns start and end of a range of characters.
     pub(crate) fn of_chars(self, len: usize) -> Result<(usize, usize)> {
         match self.within(len) {
             _ if self.is_past(len) => Err(Error::CharRangeOutOfBounds(self.start, self.end, len)),

@@ -12,12 +12,14 @@ use crate::range::Bounds;
 use crate::slice::{ChunksAt, RopeSlice};
 use crate::{Error, LineBreaks, Result, MAX_BYTES};
 
-/// A long text that is edited anywhere.
+/// A text buffer with fast edits anywhere in long texts.
 ///
-/// Indices count from 0, in bytes, characters (Unicode scalar values), UTF-16 code units or lines. A line ends after a line
-/// break; CR LF is one. A text has one line more than it has line breaks, and its last line may be empty.
+/// Indices count from 0, in bytes, characters (Unicode scalar values), UTF-16 code units or lines.
+/// A line ends after a line break; CR LF is one. A text has one more line than line breaks, and its
+/// last line may be empty.
 ///
-/// A clone shares all of its text with its original and takes constant time. An edit of one leaves the other as it was.
+/// A clone shares its text with the original and takes constant time. Edits of one don't affect the
+/// other.
 ///
 /// ```
 /// use ropey::Rope;
@@ -42,14 +44,14 @@ macro_rules! convert {
     };
 }
 
-/// Calls of the root, or of the slice of all of the rope. Those with an index answer none where it is past the end.
-macro_rules! asked {
-    ($($(#[$doc:meta])* $name:ident($($index:ident)?) -> $answer:ty [$($call:tt)+], $shown:literal;)*) => {
+/// Calls that delegate to the root or to a slice of the whole rope.
+macro_rules! delegated {
+    ($($(#[$doc:meta])* $name:ident($($index:ident)?) -> $result:ty [$($call:tt)+], $shown:literal;)*) => {
         $(
             $(#[$doc])*
             #[doc = example!("Rope::from_str", $shown)]
             #[inline]
-            pub fn $name(&self, $($index: usize)?) -> $answer {
+            pub fn $name(&self, $($index: usize)?) -> $result {
                 self.$($call)+($($index)?)
             }
         )*
@@ -106,11 +108,11 @@ impl Rope {
         Rope { root, instance: Instance::default() }
     }
 
-    /// Returns a rope of all that the reader gives, which has to be UTF-8.
+    /// Reads a rope to the end of the reader. The bytes must be UTF-8.
     ///
     /// # Errors
     ///
-    /// The reader's first error, an interruption among them, and `InvalidData` if the bytes are not UTF-8.
+    /// The reader's first error, even `Interrupted`, and `InvalidData` if the bytes are not UTF-8.
     ///
     /// ```
     /// let rope = ropey::Rope::from_reader(&b"one\ntwo"[..])?;
@@ -121,11 +123,11 @@ impl Rope {
         Rope::from_reader_with(reader, LineBreaks::CHOSEN)
     }
 
-    /// Returns a rope of all that the reader gives, which has to be UTF-8, with a set of line breaks.
+    /// Reads a rope with a set of line breaks to the end of the reader. The bytes must be UTF-8.
     ///
     /// # Errors
     ///
-    /// The reader's first error, an interruption among them, and `InvalidData` if the bytes are not UTF-8.
+    /// The reader's first error, even `Interrupted`, and `InvalidData` if the bytes are not UTF-8.
     ///
     /// ```
     /// use ropey::{LineBreaks, Rope};
@@ -142,7 +144,7 @@ impl Rope {
     ///
     /// # Errors
     ///
-    /// The writer's first error. A beginning of the text is written then.
+    /// The writer's first error. A prefix of the text is written then.
     ///
     /// ```
     /// let mut written = Vec::new();
@@ -157,22 +159,22 @@ impl Rope {
 
 /// Lengths and memory.
 impl Rope {
-    asked! {
+    delegated! {
         /// Returns the length in bytes, in constant time.
         len_bytes() -> usize [root.len_bytes], "len_bytes(), 9";
         /// Returns the length in characters, in constant time.
         len_chars() -> usize [root.len_chars], "len_chars(), 8";
-        /// Returns the number of lines, in constant time: one more than there are line breaks.
+        /// Returns the number of lines, in constant time: the number of line breaks, plus one.
         len_lines() -> usize [root.len_lines], "len_lines(), 3";
         /// Returns the length in UTF-16 code units, in constant time.
         len_utf16_cu() -> usize [root.len_utf16], "len_utf16_cu(), 8";
         /// Returns a cursor over the chunks.
-        chunks() -> Chunks<'_> [part().chunks], "chunks().count(), 1";
+        chunks() -> Chunks<'_> [whole().chunks], "chunks().count(), 1";
         /// Returns the set of line breaks.
         line_breaks() -> LineBreaks [root.breaks], "line_breaks(), ropey::LineBreaks::default()";
     }
 
-    /// Returns how many bytes of text the rope's chunks have room for, including those that it shares.
+    /// Returns the capacity of the rope's chunks in bytes of text, including shared chunks.
     ///
     /// ```
     /// assert!(ropey::Rope::from_str("one").capacity() >= 3);
@@ -181,7 +183,8 @@ impl Rope {
         self.chunks().count() * MAX_BYTES
     }
 
-    /// Cuts the text into as few chunks as possible. The rope then shares none of them with its clones.
+    /// Rebuilds the rope with as few chunks as possible. The rope then shares none of them with its
+    /// clones.
     ///
     /// ```
     /// let mut rope = ropey::Rope::from_str(&"one ".repeat(1000));
@@ -194,8 +197,8 @@ impl Rope {
         self.root.shrink_to_fit();
     }
 
-    /// Returns whether one of the two is a clone of the other, or both are clones of a third, and neither was edited since. Then
-    /// their texts are equal. Takes constant time.
+    /// Returns whether one rope is a clone of the other, or both are clones of a third, and neither
+    /// was edited since. Then their texts are equal. Takes constant time.
     ///
     /// ```
     /// use ropey::Rope;
@@ -247,7 +250,7 @@ impl Rope {
     ///
     /// # Panics
     ///
-    /// If the range starts past its end, or reaches past the text's.
+    /// If the range starts past its end, or ends past the text.
     ///
     /// ```
     /// let mut rope = ropey::Rope::from_str("one two");
@@ -259,7 +262,8 @@ impl Rope {
         self.try_remove(char_range).unwrap_or_else(|error| refuse(error))
     }
 
-    /// Splits the text at an index: keeps the characters before it, and returns a rope of the others.
+    /// Splits the rope at an index: keeps the characters before it, and returns a rope of the
+    /// others.
     ///
     /// # Panics
     ///
@@ -279,7 +283,7 @@ impl Rope {
     ///
     /// # Panics
     ///
-    /// If the ropes have different sets of line breaks. Ropes that were given none have one set.
+    /// If the ropes have different sets of line breaks.
     ///
     /// ```
     /// use ropey::Rope;
@@ -299,7 +303,8 @@ impl Rope {
         }
     }
 
-    /// Does what [`insert`](Self::insert) does, or returns an error if the index is past the end. The rope is then as it was.
+    /// Inserts a text before a character, or at the end for the length. Returns an error, leaving the
+    /// rope unchanged, if the index is past the end.
     ///
     /// ```
     /// let mut rope = ropey::Rope::from_str("one");
@@ -317,7 +322,8 @@ impl Rope {
         Ok(())
     }
 
-    /// Does what [`insert_char`](Self::insert_char) does, or returns an error if the index is past the end. The rope is then as it was.
+    /// Inserts a character before another, or at the end for the length. Returns an error, leaving the
+    /// rope unchanged, if the index is past the end.
     ///
     /// ```
     /// let mut rope = ropey::Rope::from_str("one");
@@ -332,7 +338,8 @@ impl Rope {
         Ok(())
     }
 
-    /// Does what [`remove`](Self::remove) does, or returns an error if the range is out of bounds. The rope is then as it was.
+    /// Removes a range of characters. Returns an error, leaving the rope unchanged, if the range is out
+    /// of bounds.
     ///
     /// ```
     /// let mut rope = ropey::Rope::from_str("one");
@@ -346,7 +353,7 @@ impl Rope {
         Ok(())
     }
 
-    /// Applies changes, or returns the status of the call that failed. Then the rope is as it was.
+    /// Applies changes, or returns the status of the call that failed, leaving the rope unchanged.
     pub(crate) fn apply(&mut self, changes: &Changes) -> std::result::Result<(), u32> {
         changes.apply(&mut self.root)?;
         if changes.count() > 0 {
@@ -355,7 +362,8 @@ impl Rope {
         Ok(())
     }
 
-    /// Does what [`split_off`](Self::split_off) does, or returns an error if the index is past the end. The rope is then as it was.
+    /// Splits the rope at an index: keeps the characters before it, and returns a rope of the others.
+    /// Returns an error, leaving the rope unchanged, if the index is past the end.
     ///
     /// ```
     /// let mut rope = ropey::Rope::from_str("one");
@@ -376,41 +384,50 @@ impl Rope {
     }
 }
 
-/// Look-ups. They take no memory.
+/// Lookups. They allocate nothing.
 impl Rope {
     panicking_calls!('_, "Rope::from_str");
     conversions!(convert, "Rope::from_str");
 
-    asked! {
+    delegated! {
         /// Returns a byte, or `None` if the index is past the last one.
         get_byte(byte_idx) -> Option<u8> [root.byte], "get_byte(9), None";
         /// Returns a character, or `None` if the index is past the last one.
         get_char(char_idx) -> Option<char> [root.char], "get_char(1), Some('é')";
-        /// Returns a line, its line break among it, or `None` if the index is past the last one.
+        /// Returns a line, including its line break, or `None` if the index is past the last one.
         get_line(line_idx) -> Option<RopeSlice<'_>> [root.line], "get_line(3).is_none(), true";
-        /// Returns what [`chunk_at_byte`](Self::chunk_at_byte) does, or `None` if the index is past the end.
+        /// Returns what [`chunk_at_byte`](Self::chunk_at_byte) does, or `None` if the index is past
+        /// the end.
         get_chunk_at_byte(byte_idx) -> Option<ChunkAt<'_>> [root.chunk_at_byte], "get_chunk_at_byte(10).is_none(), true";
-        /// Returns what [`chunk_at_char`](Self::chunk_at_char) does, or `None` if the index is past the end.
+        /// Returns what [`chunk_at_char`](Self::chunk_at_char) does, or `None` if the index is past
+        /// the end.
         get_chunk_at_char(char_idx) -> Option<ChunkAt<'_>> [root.chunk_at_char], "get_chunk_at_char(4).is_some(), true";
-        /// Returns what [`chunk_at_line_break`](Self::chunk_at_line_break) does, or `None` if the index is past the number of lines.
+        /// Returns what [`chunk_at_line_break`](Self::chunk_at_line_break) does, or `None` if the
+        /// index is past the number of lines.
         get_chunk_at_line_break(line_break_idx) -> Option<ChunkAt<'_>> [root.chunk_at_line_break], "get_chunk_at_line_break(4).is_none(), true";
-        /// Returns a cursor over the bytes that stands before a byte, or `None` if the index is past the end.
-        get_bytes_at(byte_idx) -> Option<Bytes<'_>> [part().get_bytes_at], "get_bytes_at(9).unwrap().next(), None";
-        /// Returns a cursor over the characters that stands before a character, or `None` if the index is past the end.
-        get_chars_at(char_idx) -> Option<Chars<'_>> [part().get_chars_at], "get_chars_at(9).is_none(), true";
-        /// Returns a cursor over the lines that stands before a line, or `None` if the index is past the number of lines.
-        get_lines_at(line_idx) -> Option<Lines<'_>> [part().get_lines_at], "get_lines_at(3).unwrap().next().is_none(), true";
-        /// Returns what [`chunks_at_byte`](Self::chunks_at_byte) does, or `None` if the index is past the end.
-        get_chunks_at_byte(byte_idx) -> Option<ChunksAt<'_>> [part().get_chunks_at_byte], "get_chunks_at_byte(10).is_none(), true";
-        /// Returns what [`chunks_at_char`](Self::chunks_at_char) does, or `None` if the index is past the end.
-        get_chunks_at_char(char_idx) -> Option<ChunksAt<'_>> [part().get_chunks_at_char], "get_chunks_at_char(0).unwrap().1, 0";
-        /// Returns what [`chunks_at_line_break`](Self::chunks_at_line_break) does, or `None` if the index is past the number of lines.
-        get_chunks_at_line_break(line_break_idx) -> Option<ChunksAt<'_>> [part().get_chunks_at_line_break], "get_chunks_at_line_break(4).is_none(), true";
+        /// Returns a cursor over the bytes, positioned before a byte, or `None` if the index is
+        /// past the end.
+        get_bytes_at(byte_idx) -> Option<Bytes<'_>> [whole().get_bytes_at], "get_bytes_at(9).unwrap().next(), None";
+        /// Returns a cursor over the characters, positioned before a character, or `None` if the
+        /// index is past the end.
+        get_chars_at(char_idx) -> Option<Chars<'_>> [whole().get_chars_at], "get_chars_at(9).is_none(), true";
+        /// Returns a cursor over the lines, positioned before a line, or `None` if the index is
+        /// past the number of lines.
+        get_lines_at(line_idx) -> Option<Lines<'_>> [whole().get_lines_at], "get_lines_at(3).unwrap().next().is_none(), true";
+        /// Returns what [`chunks_at_byte`](Self::chunks_at_byte) does, or `None` if the index is
+        /// past the end.
+        get_chunks_at_byte(byte_idx) -> Option<ChunksAt<'_>> [whole().get_chunks_at_byte], "get_chunks_at_byte(10).is_none(), true";
+        /// Returns what [`chunks_at_char`](Self::chunks_at_char) does, or `None` if the index is
+        /// past the end.
+        get_chunks_at_char(char_idx) -> Option<ChunksAt<'_>> [whole().get_chunks_at_char], "get_chunks_at_char(0).unwrap().1, 0";
+        /// Returns what [`chunks_at_line_break`](Self::chunks_at_line_break) does, or `None` if the
+        /// index is past the number of lines.
+        get_chunks_at_line_break(line_break_idx) -> Option<ChunksAt<'_>> [whole().get_chunks_at_line_break], "get_chunks_at_line_break(4).is_none(), true";
     }
 
-    /// The slice of all of the text, as a range, though it may lie in one chunk.
+    /// Returns the whole rope as a range, even if it has only one chunk.
     #[inline]
-    fn part(&self) -> RopeSlice<'_> {
+    fn whole(&self) -> RopeSlice<'_> {
         RopeSlice::of_range(&self.root, Counts::NONE, self.root.counts())
     }
 

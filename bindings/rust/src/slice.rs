@@ -1,4 +1,4 @@
-//! Slices: ranges of a rope's text, or of a plain one.
+//! Slices: ranges of a rope, or plain texts.
 use std::ops::RangeBounds;
 
 use crate::calls::{conversions, example, panicking_calls};
@@ -8,10 +8,10 @@ use crate::range::Bounds;
 use crate::str_utils::first_line;
 use crate::{Error, LineBreaks, Result, MAX_BYTES};
 
-/// A part of a text: of a rope's, which stays where it is, or of a plain `&str`.
+/// A part of a rope's text, or of a plain `&str`. The text isn't copied.
 ///
-/// A slice is a text of its own, whose indices count from its start. It has all look-ups that a rope has. A line break that
-/// is cut counts in the slice as it stands there: of a CR LF, a CR or an LF alone.
+/// A slice is a text of its own: its indices count from its start. It has all lookups that a rope
+/// has. A CR LF that is cut at an end of the slice leaves a lone CR or LF, which counts as such.
 ///
 /// ```
 /// use ropey::{Rope, RopeSlice};
@@ -31,40 +31,40 @@ pub struct RopeSlice<'a> {
 
 #[derive(Clone, Copy)]
 pub(crate) enum Part<'a> {
-    /// A range of a rope, which begins behind so much of its text.
+    /// A range of a rope, with the counts of the text before it.
     Range { root: &'a Root, start: Counts },
-    /// A text in one piece.
+    /// A plain text.
     Text(Plain<'a>),
 }
 
-/// A cursor over chunks, and the byte, character and line break at which it stands.
+/// A cursor over chunks, and the byte, character and line break index of its position.
 pub(crate) type ChunksAt<'a> = (Chunks<'a>, usize, usize, usize);
 
-/// What the library answers for an index that was compared with the length.
-pub(crate) fn known<T>(answer: Option<T>) -> T {
-    answer.expect("an index in range has an answer")
+/// Returns the result of a lookup whose index was compared with the length.
+pub(crate) fn known<T>(result: Option<T>) -> T {
+    result.expect("the index is in bounds")
 }
 
-/// A chunk's text as far as it lies in a range, and the byte of the rope at which that begins.
+/// Returns the part of a chunk's text that lies in a range, and that part's byte index in the rope.
 pub(crate) fn cut(text: &str, bytes: usize, start: Counts, counts: Counts) -> (&str, usize) {
     let skipped = start.bytes.saturating_sub(bytes);
     (&text[skipped..text.len().min(start.bytes + counts.bytes - bytes)], bytes + skipped)
 }
 
 impl Root {
-    /// Returns a line, its line break among it, or `None` if the index is past the last one.
+    /// Returns a line, including its line break, or `None` if the index is past the last one.
     pub(crate) fn line(&self, line_idx: usize) -> Option<RopeSlice<'_>> {
         Some(RopeSlice::of_lent(self, self.line_slice(line_idx)?, || RopeSlice::before_line(self, line_idx)))
     }
 }
 
-/// How slices are made.
+/// Constructors and parts.
 impl<'a> RopeSlice<'a> {
     pub(crate) fn empty(breaks: LineBreaks) -> RopeSlice<'static> {
         RopeSlice::of_text(Plain { text: "", breaks }, Counts::NONE)
     }
 
-    /// A range of a rope.
+    /// Returns a range of a rope.
     #[inline]
     pub(crate) fn of_range(root: &'a Root, start: Counts, counts: Counts) -> RopeSlice<'a> {
         match counts.bytes {
@@ -73,19 +73,19 @@ impl<'a> RopeSlice<'a> {
         }
     }
 
-    /// A text whose counts are known.
+    /// Returns a slice of a text with known counts.
     #[inline]
     pub(crate) fn of_text(plain: Plain<'a>, counts: Counts) -> RopeSlice<'a> {
         RopeSlice { counts, part: Part::Text(plain) }
     }
 
-    /// A text, which is counted here.
+    /// Returns a slice of a text, after counting it.
     #[inline]
     pub(crate) fn counted(plain: Plain<'a>) -> RopeSlice<'a> {
         RopeSlice::of_text(plain, plain.counts())
     }
 
-    /// What a rope lends: the text, where it lies in one chunk, and else a range.
+    /// Returns the text that a lookup found, if it lies in one chunk, else a range of the rope.
     #[inline]
     pub(crate) fn of_lent(root: &'a Root, lent: Lent<'a>, before: impl FnOnce() -> Counts) -> RopeSlice<'a> {
         match lent {
@@ -94,10 +94,10 @@ impl<'a> RopeSlice<'a> {
         }
     }
 
-    /// The characters of a rope from `start` up to `end`, which are in range.
+    /// Returns the characters of a rope from `start` up to `end`, which are in bounds.
     #[inline]
     pub(crate) fn of_chars(root: &'a Root, start: usize, end: usize) -> RopeSlice<'a> {
-        // One chunk may have so few of them.
+        // They may lie in one chunk.
         if end - start <= MAX_BYTES {
             let (lent, before) = root.char_slice(start, end);
             return RopeSlice::of_lent(root, lent, || before);
@@ -106,7 +106,8 @@ impl<'a> RopeSlice<'a> {
         RopeSlice::of_range(root, before, counts)
     }
 
-    /// The bytes of a rope from `start` up to `end`, which are in range; none where one of them lies inside a character.
+    /// Returns the bytes of a rope from `start` up to `end`, which are in bounds, or `None` if a
+    /// bound is inside a character.
     pub(crate) fn of_bytes(root: &'a Root, start: usize, end: usize) -> Option<RopeSlice<'a>> {
         if root.len_chars() == root.len_bytes() {
             return Some(RopeSlice::of_chars(root, start, end));
@@ -115,30 +116,31 @@ impl<'a> RopeSlice<'a> {
         Some(RopeSlice::of_lent(root, lent, || before))
     }
 
-    /// How much lies before a line of a rope.
+    /// Returns the counts before a line of a rope.
     pub(crate) fn before_line(root: &'a Root, line_idx: usize) -> Counts {
         let start = known(root.line_to_char(line_idx));
         root.counts_in_chars(start, start).1
     }
 
-    /// How much of the rope lies before the slice.
+    /// Returns the counts before the slice in its rope.
     pub(crate) fn start(&self) -> Counts {
         let Part::Range { start, .. } = self.part else { return Counts::NONE };
         start
     }
 
-    /// Whether the slice is all of a rope.
+    /// Returns whether the slice is all of a rope.
     pub(crate) fn is_whole(&self) -> bool {
         matches!(self.part, Part::Range { root, .. } if root.len_bytes() == self.counts.bytes)
     }
 
-    /// Whether the slice is a range that may be a text in one piece.
+    /// Returns whether the slice is a range that may lie in one chunk.
     fn may_be_one_chunk(&self) -> bool {
         self.counts.bytes <= MAX_BYTES && matches!(self.part, Part::Range { .. })
     }
 
-    /// Returns the line of a rope that the slice's line is, where it is no less; else none. In a slice that isn't whole, those at its
-    /// ends may be cut; at the end also the one before the last, where the LF of a CR LF is cut off.
+    /// Returns the rope and its line index of a line of the slice, or `None` if the slice may cut
+    /// the line: if the slice isn't whole, its first line, its last, and the one before that, whose
+    /// CR LF may lose its LF.
     #[inline]
     pub(crate) fn line_of_rope(&self, line_idx: usize, is_whole: bool) -> Option<(&'a Root, usize)> {
         match self.part {
@@ -157,7 +159,7 @@ macro_rules! convert {
             _ if $index > len => return Err(Error::$error($index, len)),
             _ if $index == len => all,
             _ if $index == 0 => 0,
-            // The line after a CR whose LF is cut off starts past the range.
+            // The line after a CR starts past the range if the range cuts off the LF.
             Part::Range { root, start } => all.min(known(root.$call(start.$from + $index)) - start.$to),
             Part::Text(plain) => plain.$call($index),
         })
@@ -180,7 +182,7 @@ impl<'a> RopeSlice<'a> {
         self.counts.chars
     }
 
-    /// Returns the number of lines: one more than there are line breaks.
+    /// Returns the number of lines: the number of line breaks, plus one.
     #[doc = example!("RopeSlice::from", "len_lines(), 3")]
     #[inline]
     pub fn len_lines(&self) -> usize {
@@ -194,7 +196,7 @@ impl<'a> RopeSlice<'a> {
         self.counts.utf16
     }
 
-    /// Returns the set of line breaks, which is that of the rope.
+    /// Returns the set of line breaks: that of the rope.
     ///
     /// ```
     /// use ropey::{LineBreaks, Rope};
@@ -210,7 +212,7 @@ impl<'a> RopeSlice<'a> {
         }
     }
 
-    /// The text, where it lies in one piece, as it always does in a slice of one chunk.
+    /// Returns the text if it is contiguous, as in a slice of one chunk.
     #[doc = example!("RopeSlice::from", "as_str(), Some(\"né\\r\\ntwo\\n\")")]
     #[inline]
     pub fn as_str(&self) -> Option<&'a str> {
@@ -221,7 +223,7 @@ impl<'a> RopeSlice<'a> {
     }
 }
 
-/// Look-ups. They take no memory.
+/// Lookups. They allocate nothing.
 impl<'a> RopeSlice<'a> {
     panicking_calls!('a, "RopeSlice::from");
     conversions!(convert, "RopeSlice::from");
@@ -248,7 +250,7 @@ impl<'a> RopeSlice<'a> {
         }
     }
 
-    /// Returns a line, its line break among it, or `None` if the index is past the last one.
+    /// Returns a line, including its line break, or `None` if the index is past the last one.
     #[doc = example!("RopeSlice::from", "get_line(3).is_none(), true")]
     pub fn get_line(&self, line_idx: usize) -> Option<RopeSlice<'a>> {
         if line_idx > self.counts.line_breaks {
@@ -265,28 +267,31 @@ impl<'a> RopeSlice<'a> {
         self.get_slice(from..to)
     }
 
-    /// Returns what [`chunk_at_byte`](Self::chunk_at_byte) does, refused where the index is past the end.
+    /// Returns what [`chunk_at_byte`](Self::chunk_at_byte) does, or an error if the index is past
+    /// the end.
     #[doc = example!("RopeSlice::from", "try_chunk_at_byte(10).is_err(), true")]
     pub fn try_chunk_at_byte(&self, byte_idx: usize) -> Result<ChunkAt<'a>> {
         let len = self.len_bytes();
         self.get_chunk_at_byte(byte_idx).ok_or(Error::ByteIndexOutOfBounds(byte_idx, len))
     }
 
-    /// The chunk that holds a byte, or the last chunk for the length, or `None` if the index is past that.
+    /// Returns what [`chunk_at_byte`](Self::chunk_at_byte) does, or `None` if the index is past the
+    /// end.
     pub(crate) fn get_chunk_at_byte(&self, byte_idx: usize) -> Option<ChunkAt<'a>> {
         let last = self.counts.bytes.wrapping_sub(1);
         self.chunk_by(byte_idx, self.counts.bytes, |root, start| root.chunk_at_byte(start.bytes + byte_idx.min(last)))
     }
 
-    /// The chunk that holds a character, or the last chunk for the length, or `None` if the index is past that.
+    /// Returns what [`chunk_at_char`](Self::chunk_at_char) does, or `None` if the index is past the
+    /// end.
     #[doc = example!("RopeSlice::from", "get_chunk_at_char(4).is_some(), true")]
     pub fn get_chunk_at_char(&self, char_idx: usize) -> Option<ChunkAt<'a>> {
         let last = self.counts.chars.wrapping_sub(1);
         self.chunk_by(char_idx, self.counts.chars, |root, start| root.chunk_at_char(start.chars + char_idx.min(last)))
     }
 
-    /// The chunk that holds the line break before a line: the first chunk for the first line, the last chunk for the
-    /// number of lines, or `None` if the index is past that.
+    /// Returns what [`chunk_at_line_break`](Self::chunk_at_line_break) does, or `None` if the index
+    /// is past the number of lines.
     #[doc = example!("RopeSlice::from", "get_chunk_at_line_break(4).is_none(), true")]
     pub fn get_chunk_at_line_break(&self, line_break_idx: usize) -> Option<ChunkAt<'a>> {
         let lines = self.len_lines();
@@ -297,8 +302,8 @@ impl<'a> RopeSlice<'a> {
         })
     }
 
-    /// A chunk of the range that a look-up finds, cut to the range and counted from its start, or `None` if the index is past
-    /// the length.
+    /// Returns the chunk that a lookup finds, cut to the slice and with counts from its start, or
+    /// `None` if the index is past the length.
     #[inline]
     fn chunk_by(
         &self,
@@ -349,7 +354,7 @@ impl<'a> RopeSlice<'a> {
 
 /// Line breaks.
 impl<'a> RopeSlice<'a> {
-    /// Returns the slice without the line break that ends it, or all of it if none does.
+    /// Returns the slice without the line break that ends it, or the whole slice if there is none.
     ///
     /// ```
     /// use ropey::Rope;
@@ -362,7 +367,7 @@ impl<'a> RopeSlice<'a> {
         self.slice(..self.len_chars() - self.last_break_len())
     }
 
-    /// Returns the line break that ends the slice: an empty slice if none does.
+    /// Returns the line break that ends the slice, or an empty slice if there is none.
     ///
     /// ```
     /// use ropey::Rope;
@@ -375,7 +380,8 @@ impl<'a> RopeSlice<'a> {
         self.slice(self.len_chars() - self.last_break_len()..)
     }
 
-    /// Returns the number of characters of the line break that ends the slice: 2 for CR LF, unless LF alone breaks lines.
+    /// Returns the number of characters of the line break that ends the slice: 2 for CR LF, unless
+    /// LF alone breaks lines.
     fn last_break_len(&self) -> usize {
         let (len, breaks) = (self.len_chars(), self.line_breaks());
         let is_ended = len > 0 && breaks.is_break(self.char(len - 1));
@@ -386,31 +392,33 @@ impl<'a> RopeSlice<'a> {
 
 /// Cursors, or `None` if the index is past the end.
 impl<'a> RopeSlice<'a> {
-    /// Returns a cursor over the bytes that stands before a byte, or `None` if the index is past the end.
+    /// Returns a cursor over the bytes, positioned before a byte, or `None` if the index is past
+    /// the end.
     #[doc = example!("RopeSlice::from", "get_bytes_at(9).unwrap().next(), None")]
     #[inline]
     pub fn get_bytes_at(&self, byte_idx: usize) -> Option<Bytes<'a>> {
-        (byte_idx <= self.counts.bytes).then(|| Bytes::at(self.behind(byte_idx), byte_idx, self.counts.bytes))
+        (byte_idx <= self.counts.bytes).then(|| Bytes::at(self.in_chunk(byte_idx), byte_idx, self.counts.bytes))
     }
 
-    /// Returns a cursor over the characters that stands before a character, or `None` if the index is past the end.
+    /// Returns a cursor over the characters, positioned before a character, or `None` if the index
+    /// is past the end.
     #[doc = example!("RopeSlice::from", "get_chars_at(9).is_none(), true")]
     #[inline]
     pub fn get_chars_at(&self, char_idx: usize) -> Option<Chars<'a>> {
         let byte_idx = self.try_char_to_byte(char_idx).ok()?;
-        Some(Chars::at(self.behind(byte_idx), char_idx, self.counts.chars))
+        Some(Chars::at(self.in_chunk(byte_idx), char_idx, self.counts.chars))
     }
 
     #[inline]
-    fn behind(&self, byte_idx: usize) -> InChunk<'a> {
+    fn in_chunk(&self, byte_idx: usize) -> InChunk<'a> {
         match self.part {
-            Part::Range { root, start } => self.chunks().behind(root, start, self.counts, byte_idx),
+            Part::Range { root, start } => self.chunks().in_chunk(root, start, self.counts, byte_idx),
             Part::Text(plain) => (self.chunks().at_end(), plain.text, byte_idx),
         }
     }
 
-    /// Returns a cursor over the lines that stands before a line, or at the end for the number of lines, or `None` if the index is
-    /// past that.
+    /// Returns a cursor over the lines, positioned before a line, or at the end for the number of
+    /// lines, or `None` if the index is past that.
     #[doc = example!("RopeSlice::from", "get_lines_at(3).unwrap().next().is_none(), true")]
     #[inline]
     pub fn get_lines_at(&self, line_idx: usize) -> Option<Lines<'a>> {
@@ -418,21 +426,24 @@ impl<'a> RopeSlice<'a> {
         is_inside.then(|| Lines::of(*self, line_idx))
     }
 
-    /// Returns what [`chunks_at_byte`](Self::chunks_at_byte) does, or `None` if the index is past the end.
+    /// Returns what [`chunks_at_byte`](Self::chunks_at_byte) does, or `None` if the index is past
+    /// the end.
     #[doc = example!("RopeSlice::from", "get_chunks_at_byte(10).is_none(), true")]
     #[inline]
     pub fn get_chunks_at_byte(&self, byte_idx: usize) -> Option<ChunksAt<'a>> {
         self.chunks_by(byte_idx, self.len_bytes(), |root, start, list| list.fetch_at_byte(root, start.bytes + byte_idx))
     }
 
-    /// Returns what [`chunks_at_char`](Self::chunks_at_char) does, or `None` if the index is past the end.
+    /// Returns what [`chunks_at_char`](Self::chunks_at_char) does, or `None` if the index is past
+    /// the end.
     #[doc = example!("RopeSlice::from", "get_chunks_at_char(0).unwrap().1, 0")]
     #[inline]
     pub fn get_chunks_at_char(&self, char_idx: usize) -> Option<ChunksAt<'a>> {
         self.chunks_by(char_idx, self.len_chars(), |root, start, list| list.fetch_at_char(root, start.chars + char_idx))
     }
 
-    /// Returns what [`chunks_at_line_break`](Self::chunks_at_line_break) does, or `None` if the index is past the number of lines.
+    /// Returns what [`chunks_at_line_break`](Self::chunks_at_line_break) does, or `None` if the
+    /// index is past the number of lines.
     #[doc = example!("RopeSlice::from", "get_chunks_at_line_break(4).is_none(), true")]
     #[inline]
     pub fn get_chunks_at_line_break(&self, line_break_idx: usize) -> Option<ChunksAt<'a>> {
@@ -442,7 +453,8 @@ impl<'a> RopeSlice<'a> {
         })
     }
 
-    /// Returns a cursor before the chunk that a look-up finds, or at the end for the length, or `None` if the index is past that.
+    /// Returns a cursor before the chunk that a lookup finds, or at the end for the length, or
+    /// `None` if the index is past that.
     #[inline]
     fn chunks_by(
         &self,
@@ -489,7 +501,7 @@ impl<'a> RopeSlice<'a> {
 }
 
 impl<'a> From<&'a str> for RopeSlice<'a> {
-    /// A slice of a plain text, which is counted once.
+    /// Returns a slice of a plain text. The text is counted once.
     #[inline]
     fn from(text: &'a str) -> RopeSlice<'a> {
         RopeSlice::from_str_with(text, LineBreaks::CHOSEN)

@@ -1,7 +1,8 @@
 //! Conversions between the indices of a plain text.
 //!
-//! They count by the set of line breaks that the crate's features choose. An index past the end stands for the end, and a byte inside a character for
-//! that character. Each call reads the text up to the index, or all of it; none takes memory.
+//! Lines end by the set of line breaks that the crate's features choose. An index past the end
+//! counts as the end, and a byte inside a character as that character. A call reads the text up to
+//! the index, or all of it, and allocates nothing.
 //!
 //! ```
 //! use ropey::str_utils::{byte_to_char_idx, char_to_line_idx, line_to_byte_idx};
@@ -31,30 +32,30 @@ macro_rules! conversions {
 }
 
 conversions! {
-    /// Returns the character that holds a byte.
+    /// Returns the index of the character that contains a byte.
     byte_to_char_idx by byte_to_char, 1 => 0;
-    /// Returns the line on which a byte lies.
+    /// Returns the index of the line that contains a byte.
     byte_to_line_idx by byte_to_line, 3 => 1;
-    /// Returns the byte at which a character starts.
+    /// Returns the byte index at which a character starts.
     char_to_byte_idx by char_to_byte, 1 => 2;
-    /// Returns the line on which a character lies.
+    /// Returns the index of the line that contains a character.
     char_to_line_idx by char_to_line, 2 => 1;
-    /// Returns the byte at which a line starts.
+    /// Returns the byte index at which a line starts.
     line_to_byte_idx by line_to_byte, 1 => 3;
-    /// Returns the character at which a line starts.
+    /// Returns the character index at which a line starts.
     line_to_char_idx by line_to_char, 1 => 2;
 }
 
-// A line is sought in a window of the text that grows, since a call of the library reads all that it is given.
+// A line is searched in a growing window, since a call of the library reads its whole argument.
 const WINDOW: usize = 128;
 
-/// The first bytes of a text, at least some, as far as whole characters go.
+/// Returns at least the first `len` bytes of a text, extended to whole characters.
 fn front(text: &str, len: usize) -> &str {
     let end = (len..text.len()).find(|&i| text.is_char_boundary(i));
     &text[..end.unwrap_or(text.len())]
 }
 
-/// The last bytes of a text, at least some, as far as whole characters go, and no LF without the CR before it.
+/// Returns at least the last `len` bytes of a text, extended to whole characters and a whole CR LF.
 fn back(text: &str, len: usize) -> &str {
     let mut start = text.len().saturating_sub(len);
     while !text.is_char_boundary(start) || text[start..].starts_with('\n') && text[..start].ends_with('\r') {
@@ -63,7 +64,7 @@ fn back(text: &str, len: usize) -> &str {
     &text[start..]
 }
 
-/// The first line of a text, its line break among it, and how much it holds.
+/// Returns the first line of a text, including its line break, and its counts.
 pub(crate) fn first_line(plain: Plain<'_>) -> (&str, Counts) {
     let (text, mut len) = (plain.text, WINDOW);
     loop {
@@ -78,7 +79,8 @@ pub(crate) fn first_line(plain: Plain<'_>) -> (&str, Counts) {
     }
 }
 
-/// The first byte of the last line of a text, and whether a line break ends it: one at the end of the text is this line's own.
+/// Returns the first byte of the last line of a text, and whether a line break ends that line: a
+/// line break at the end of the text belongs to it.
 pub(crate) fn last_line(plain: Plain<'_>) -> (usize, bool) {
     let (text, mut len) = (plain.text, WINDOW);
     loop {

@@ -21,7 +21,7 @@ macro_rules! rope_of_texts {
             }
 
             impl<$($life)?> FromIterator<$text> for Rope {
-                /// Returns a rope of the texts, one after another.
+                /// Returns a rope of the concatenated texts.
                 fn from_iter<T: IntoIterator<Item = $text>>(texts: T) -> Rope {
                     let mut builder = RopeBuilder::new();
                     texts.into_iter().for_each(|text| builder.append(&text));
@@ -38,11 +38,12 @@ rope_of_texts! {
     <> String;
 }
 
-/// Up to so many bytes a copy costs less than to cut a tree twice.
+/// The largest number of bytes that are copied faster than a tree is split twice.
 const COPIED: usize = 1 << 13;
 
 impl<'a> From<RopeSlice<'a>> for Rope {
-    /// A rope of the slice's text. Of a long text it shares what it can with the slice's rope.
+    /// Returns a rope of the slice's text. If the text is long, it shares chunks with the slice's
+    /// rope.
     fn from(slice: RopeSlice<'a>) -> Rope {
         match slice.part {
             Part::Range { root, start } if slice.len_bytes() > COPIED => {
@@ -86,13 +87,13 @@ texts_of! {
     <> Rope => String: |rope| String::from(&rope);
     <'a> &'a Rope => String: |rope| rope.slice(..).into();
     <'a> Rope => Cow<'a, str>: |rope| Cow::Owned(rope.into());
-    /// The text itself where it lies in one piece, and else a copy of it.
+    /// Borrows the text if it lies in one chunk, else copies it.
     <'a> &'a Rope => Cow<'a, str>: |rope| rope.slice(..).into();
-    /// The text itself where it lies in one piece, and else a copy of it.
+    /// Borrows the text if it lies in one chunk, else copies it.
     <'a> RopeSlice<'a> => Cow<'a, str>: |slice| slice.as_str().map_or_else(|| Cow::Owned(slice.into()), Cow::Borrowed);
 }
 
-// Comparisons, of texts by their bytes.
+// Comparisons of texts by their bytes.
 
 fn order(left: RopeSlice<'_>, right: RopeSlice<'_>) -> Ordering {
     let (mut left_chunks, mut right_chunks) = (left.chunks().read(), right.chunks().read());
@@ -109,7 +110,7 @@ fn order(left: RopeSlice<'_>, right: RopeSlice<'_>) -> Ordering {
         (left_part, left) = left.split_at(len);
         (right_part, right) = right.split_at(len);
         match left_part.cmp(right_part) {
-            // One of the texts is at its end.
+            // At least one text has ended.
             Ordering::Equal if len == 0 => return left.len().cmp(&right.len()),
             Ordering::Equal => {}
             unequal => return unequal,
@@ -131,7 +132,7 @@ impl PartialEq for Rope {
 impl Eq for Rope {}
 
 impl Ord for Rope {
-    /// The order of the texts' bytes, which is that of their characters.
+    /// Compares the texts by their bytes, which is also the order of their characters.
     fn cmp(&self, other: &Rope) -> Ordering {
         if self.is_instance(other) {
             return Ordering::Equal;
@@ -155,7 +156,7 @@ impl<'b> PartialEq<RopeSlice<'b>> for RopeSlice<'_> {
 impl Eq for RopeSlice<'_> {}
 
 impl Ord for RopeSlice<'_> {
-    /// The order of the texts' bytes, which is that of their characters.
+    /// Compares the texts by their bytes, which is also the order of their characters.
     fn cmp(&self, other: &Self) -> Ordering {
         order(*self, *other)
     }
@@ -205,8 +206,8 @@ equal! {
 // Hashes.
 
 impl Hash for RopeSlice<'_> {
-    /// Equal texts hash alike, however they are cut: the hasher is given all of the text in blocks of one size, of which only
-    /// those are copied that lie in two chunks.
+    /// Hashes the text in blocks of one size, so that equal texts have equal hashes whatever their
+    /// chunks are. Only blocks that span two chunks are copied.
     fn hash<H: Hasher>(&self, state: &mut H) {
         const BLOCK: usize = 256;
         let mut block = [0; BLOCK];
@@ -230,7 +231,7 @@ impl Hash for RopeSlice<'_> {
         if filled > 0 {
             state.write(&block[..filled]);
         }
-        // An end that is no byte of UTF-8, so that two texts one after another hash by where they are parted.
+        // A terminator that is no byte of UTF-8, so that ("ab", "c") and ("a", "bc") differ.
         state.write_u8(0xff);
     }
 }
@@ -253,7 +254,7 @@ macro_rules! shown {
             }
 
             impl fmt::Debug for $text {
-                /// The list of the chunks.
+                /// Formats the list of the chunks.
                 fn fmt(&self, f: &mut fmt::Formatter<'_>) -> fmt::Result {
                     f.debug_list().entries(self.chunks()).finish()
                 }

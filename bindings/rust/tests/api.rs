@@ -1,4 +1,5 @@
-//! The names and signatures of ropey 1.6.1's public calls, so that a program which uses them is compiled as it stands.
+//! The names and signatures of ropey 1.6.1's public calls, so that programs that use them compile
+//! unchanged.
 use std::borrow::Cow;
 use std::cmp::Ordering;
 use std::fmt::{Debug, Display};
@@ -11,7 +12,7 @@ use ropey::{Error, Result, Rope, RopeBuilder, RopeSlice};
 type ChunkAt<'a> = (&'a str, usize, usize, usize);
 type ChunksAt<'a> = (Chunks<'a>, usize, usize, usize);
 
-/// That each call has the type.
+/// Checks that each call has the type.
 macro_rules! are {
     ($type:ty; $($call:expr),* $(,)?) => {
         $(let _: $type = $call;)*
@@ -39,8 +40,8 @@ fn calls_of_ropes() {
     are!(fn(&Rope) -> Rope; Rope::clone);
 }
 
-/// The look-ups that ropes and slices have alike, with the lifetime of what they lend.
-macro_rules! look_ups {
+/// Checks the lookups of ropes or slices, with the lifetime of the borrowed text.
+macro_rules! lookups {
     ($text:ty, $lent:lifetime, $this:ty) => {
         are!(fn($this, usize) -> usize; <$text>::byte_to_char, <$text>::byte_to_line, <$text>::char_to_byte,
             <$text>::char_to_line, <$text>::char_to_utf16_cu, <$text>::utf16_cu_to_char, <$text>::line_to_byte,
@@ -80,14 +81,14 @@ macro_rules! look_ups {
 }
 
 #[test]
-fn look_ups_of_ropes_and_slices() {
+fn lookups_of_ropes_and_slices() {
     fn of_ropes<'a>() {
-        look_ups!(Rope, 'a, &'a Rope);
+        lookups!(Rope, 'a, &'a Rope);
         are!(fn(&'a Rope, usize) -> Option<ChunkAt<'a>>; Rope::get_chunk_at_byte);
     }
-    // What a slice lends outlives the slice.
+    // Text borrowed from a slice outlives the slice.
     fn of_slices<'a>() {
-        look_ups!(RopeSlice<'a>, 'a, &RopeSlice<'a>);
+        lookups!(RopeSlice<'a>, 'a, &RopeSlice<'a>);
         are!(fn(&RopeSlice<'a>, usize) -> Result<ChunkAt<'a>>; RopeSlice::try_chunk_at_byte);
         are!(fn(&RopeSlice<'a>) -> Option<&'a str>; RopeSlice::as_str);
         are!(fn(&RopeSlice<'a>) -> usize; RopeSlice::len_bytes, RopeSlice::len_chars, RopeSlice::len_lines,
@@ -132,7 +133,7 @@ fn cursors_and_builders() {
     is::<RopeBuilder>();
 }
 
-/// What a rope and a slice are compared with, from both sides.
+/// Checks the comparisons of ropes and slices, from both sides.
 fn compares<'b, T>()
 where
     T: PartialEq<str> + PartialEq<&'b str> + PartialEq<String> + PartialEq<Cow<'b, str>>,

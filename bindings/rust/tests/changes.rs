@@ -6,8 +6,8 @@ mod common;
 
 use common::Random;
 
-/// Edits in order of a text of `len` characters.
-fn drawn(random: &mut Random, len: usize) -> Vec<(usize, usize, String)> {
+/// Returns random edits, in order, of a text of `len` characters.
+fn random_edits(random: &mut Random, len: usize) -> Vec<(usize, usize, String)> {
     let mut at = 0;
     let mut edits = Vec::new();
     for _ in 0..random.below(6) {
@@ -45,7 +45,7 @@ fn changes_do_what_their_edits_do() {
     for _ in 0..500 {
         let before = "one\r\ntwo \u{e9}\u{4e2d} three";
         let len = before.chars().count();
-        let edits = drawn(&mut random, len);
+        let edits = random_edits(&mut random, len);
         let changes = made(len, &edits);
         let after = edited(before, &edits);
         let mut rope = applied(&changes, before);
@@ -54,11 +54,11 @@ fn changes_do_what_their_edits_do() {
         changes.invert(&Rope::from_str(before)).unwrap().apply(&mut rope).unwrap();
         assert_eq!(rope, before);
 
-        let more = drawn(&mut random, changes.len_after());
+        let more = random_edits(&mut random, changes.len_after());
         let later = made(changes.len_after(), &more);
         assert_eq!(applied(&changes.compose(&later).unwrap(), before), edited(&after, &more).as_str());
 
-        let other = made(len, &drawn(&mut random, len));
+        let other = made(len, &random_edits(&mut random, len));
         let (mut first, mut second) = (applied(&changes, before), applied(&other, before));
         other.rebase(&changes, Side::After).unwrap().apply(&mut first).unwrap();
         changes.rebase(&other, Side::Before).unwrap().apply(&mut second).unwrap();
@@ -79,7 +79,7 @@ fn changes_do_what_their_edits_do() {
 }
 
 #[test]
-fn refusals_name_what_was_given() {
+fn errors_name_the_arguments() {
     let mut changes = ChangeSet::new(7).unwrap();
     changes.replace(2, 5, "x").unwrap();
     assert_eq!(changes.replace(6, 5, ""), Err(ChangeError::RangeInvalid(6, 5)));
@@ -104,7 +104,7 @@ fn an_index_past_the_end_panics() {
 }
 
 #[test]
-fn a_rope_that_was_changed_is_no_instance_of_its_clone() {
+fn a_changed_rope_is_no_instance_of_its_clone() {
     let mut rope = Rope::from_str("one");
     let copy = rope.clone();
     ChangeSet::new(3).unwrap().apply(&mut rope).unwrap();
@@ -114,7 +114,7 @@ fn a_rope_that_was_changed_is_no_instance_of_its_clone() {
 }
 
 #[test]
-fn changes_may_be_handed_to_threads() {
+fn changes_may_be_shared_between_threads() {
     let changes = made(3, &[(0, 1, "O".to_owned())]);
     std::thread::scope(|scope| {
         for _ in 0..3 {

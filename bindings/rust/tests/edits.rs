@@ -11,7 +11,7 @@ fn is(rope: &Rope, text: &str) {
     assert_eq!((rope.len_bytes(), rope.len_chars(), rope.len_lines(), rope.len_utf16_cu()), counts(text));
 }
 
-/// One random edit of a rope and of its text.
+/// Applies a random edit to a rope and to its text.
 fn edit(rope: &mut Rope, text: &mut String, random: &mut Random) {
     let starts = char_starts(text);
     let len = starts.len() - 1;
@@ -37,12 +37,12 @@ fn edit(rope: &mut Rope, text: &mut String, random: &mut Random) {
         }
         7 => {
             let at = random.below(len + 1);
-            let (tail, behind) = (rope.split_off(at), text.split_off(starts[at]));
-            is(&tail, &behind);
+            let (tail, tail_text) = (rope.split_off(at), text.split_off(starts[at]));
+            is(&tail, &tail_text);
             is(rope, text);
             if random.below(2) == 0 {
                 rope.append(tail);
-                text.push_str(&behind);
+                text.push_str(&tail_text);
             }
         }
         _ => {

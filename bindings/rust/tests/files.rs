@@ -1,4 +1,4 @@
-//! Files in encodings against what std says of UTF-8 and UTF-16.
+//! Files in encodings, compared with std's UTF-8 and UTF-16.
 use ropey::files::{Encoding, FileError};
 use ropey::Rope;
 
@@ -16,7 +16,7 @@ const ENCODINGS: [(Encoding, &[u8]); 7] = [
     (Encoding::Latin1, b""),
 ];
 
-/// The bytes of a text after the mark; none where Latin-1 lacks a character.
+/// Returns the bytes of a text without a mark, or `None` if Latin-1 lacks a character.
 fn bytes_of(text: &str, encoding: Encoding) -> Option<Vec<u8>> {
     match encoding {
         Encoding::Utf8 | Encoding::Utf8Bom => Some(text.as_bytes().to_vec()),
@@ -54,7 +54,7 @@ fn files_keep_their_texts() {
 }
 
 #[test]
-fn faults_have_their_offsets() {
+fn errors_have_their_offsets() {
     let refused = |bytes, declared| Rope::from_bytes_as(bytes, declared).unwrap_err();
     let big = Some(Encoding::Utf16Be);
     assert_eq!(refused(b"\xEF\xBB", Some(Encoding::Utf8Bom)), FileError::NoMark);

@@ -1,4 +1,4 @@
-//! Ropes with a set of line breaks of their own, positions, and lines without their break, against a plain text.
+//! Ropes with a set of line breaks, positions, and lines without their break, against a plain text.
 use ropey::positions::{Encoding, Position};
 use ropey::{LineBreaks, Rope, RopeBuilder, RopeSlice};
 
@@ -8,7 +8,7 @@ use common::Random;
 
 const SETS: [LineBreaks; 3] = [LineBreaks::Lf, LineBreaks::CrLf, LineBreaks::Unicode];
 
-/// The lines of a text, each with its line break.
+/// Returns the lines of a text, each with its line break.
 fn lines(text: &str, breaks: LineBreaks) -> Vec<&str> {
     let mut lines = Vec::new();
     let mut start = 0;
@@ -29,7 +29,7 @@ fn lines(text: &str, breaks: LineBreaks) -> Vec<&str> {
     lines
 }
 
-/// A line without its line break.
+/// Returns a line without its line break.
 fn bare(line: &str, breaks: LineBreaks) -> &str {
     let without = match breaks {
         LineBreaks::Lf => line.strip_suffix('\n'),
@@ -41,7 +41,7 @@ fn bare(line: &str, breaks: LineBreaks) -> &str {
     without.unwrap_or(line)
 }
 
-/// All that counts lines agrees with the plain text.
+/// Compares all calls that count lines with the plain text.
 fn check(slice: RopeSlice<'_>, text: &str, breaks: LineBreaks, random: &mut Random) {
     let expected = lines(text, breaks);
     assert_eq!((slice.line_breaks(), slice.len_lines()), (breaks, expected.len()));

@@ -1,4 +1,5 @@
-//! Every look-up of ropes and slices, at every index of short texts and at some of long ones, compared with plain texts.
+//! Every lookup of ropes and slices, at every index of short texts and at random indices of long
+//! ones, compared with plain texts.
 mod common;
 
 use std::panic::{catch_unwind, AssertUnwindSafe};
@@ -10,7 +11,8 @@ fn panics<T>(call: impl FnOnce() -> T) -> bool {
     catch_unwind(AssertUnwindSafe(call)).is_err()
 }
 
-/// Compares a rope or a slice with its text at the indices that are drawn, and past its end.
+/// Compares a rope or a slice with its text at the indices that `$indices` chooses, and past its
+/// end.
 macro_rules! compare {
     ($text:expr, $with:expr, $indices:expr) => {{
         let (subject, text, indices): (_, &str, &mut dyn FnMut(usize) -> Vec<usize>) = ($with, $text, $indices);
@@ -71,7 +73,7 @@ macro_rules! compare {
     }};
 }
 
-/// Whatever is past the end is refused, and by the calls without a twin with a panic.
+/// Checks that indices past the end are refused.
 macro_rules! refusals {
     ($subject:ident, $bytes:ident, $chars:ident, $lines:ident, $units:ident) => {
         for past in [1, 2, usize::MAX / 2] {
@@ -148,7 +150,7 @@ fn long_texts_at_some_indices() {
     }
 }
 
-/// Cursors walk both ways at random.
+/// Moves a cursor back and forth at random, and compares its items with a list.
 macro_rules! walk {
     ($cursor:expr, $at:expr, $items:expr, $random:expr) => {{
         let (mut cursor, mut at, items, random) = ($cursor, $at, &$items, $random);
@@ -174,7 +176,7 @@ macro_rules! walk {
 }
 
 #[test]
-fn cursors_walk_both_ways() {
+fn cursors_move_back_and_forth() {
     let mut random = Random::new(3);
     for round in 0..30 {
         let chars = [0, 1, 30, 200, 3000][round % 5];
@@ -198,7 +200,7 @@ fn cursors_walk_both_ways() {
     }
 }
 
-/// The first line of a slice is as much as the slice has of it, also where the cursor comes to it again.
+/// The first line of a slice stays cut to the slice when a cursor returns to it.
 #[test]
 fn a_first_line_stays_cut() {
     let rope = Rope::from_str(&"one line\n".repeat(300));
@@ -214,9 +216,10 @@ fn a_first_line_stays_cut() {
     }
 }
 
-/// What a cursor answers knows its place in the rope, on whichever way the cursor came there.
+/// Lookups in a line that a cursor returns are those of the line's text, whatever the cursor's
+/// steps.
 #[test]
-fn passed_lines_are_texts_of_their_own() {
+fn lines_of_cursors_are_texts_of_their_own() {
     for seed in 0..12 {
         let mut random = Random::new(seed);
         let text = random.lines(80);
@@ -250,7 +253,7 @@ fn cursors_know_what_is_left() {
 }
 
 #[test]
-fn look_ups_panic_past_the_end_alone() {
+fn lookups_panic_only_past_the_end() {
     let text = "ab\ncé";
     let rope = Rope::from_str(text);
     let slice = rope.slice(..);
@@ -289,12 +292,12 @@ fn a_cut_cr_lf_is_a_break_on_either_side() {
     let rope = Rope::from_str(&text);
     for at in [2, 1001 * 3 / 3 * 2, 2999] {
         let at = at / 3 * 3 + 2;
-        let (front, behind) = (rope.slice(..at), rope.slice(at..));
+        let (front, tail) = (rope.slice(..at), rope.slice(at..));
         let lines_of = |text: &str| break_ends(text).len() + 1;
         assert_eq!(front.len_lines(), lines_of(&text[..at]));
-        assert_eq!(behind.len_lines(), lines_of(&text[at..]));
+        assert_eq!(tail.len_lines(), lines_of(&text[at..]));
         assert_eq!(rope.byte_slice(..at).len_lines(), lines_of(&text[..at]));
         assert!(front.lines().map(String::from).eq(lines(&text[..at])));
-        assert!(behind.lines().map(String::from).eq(lines(&text[at..])));
+        assert!(tail.lines().map(String::from).eq(lines(&text[at..])));
     }
 }

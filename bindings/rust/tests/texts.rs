@@ -1,4 +1,4 @@
-//! Ropes and slices as texts: made of others, made into others, compared, hashed, read and written.
+//! Ropes and slices as texts: converted, compared, hashed, read and written.
 #![allow(clippy::op_ref)]
 mod common;
 
@@ -17,8 +17,8 @@ fn hash(value: &impl Hash) -> u64 {
     hasher.finish()
 }
 
-/// A rope of the text whose chunks lie elsewhere than in a rope just made.
-fn cut_otherwise(text: &str, random: &mut Random) -> Rope {
+/// Returns a rope of the text with other chunk boundaries than those of `from_str`.
+fn fragmented(text: &str, random: &mut Random) -> Rope {
     let mut rope = Rope::from_str(text);
     for _ in 0..6 {
         let at = random.below(rope.len_chars() + 1);
@@ -32,11 +32,11 @@ fn cut_otherwise(text: &str, random: &mut Random) -> Rope {
 }
 
 #[test]
-fn equal_texts_are_equal_however_they_are_cut() {
+fn equal_texts_are_equal_whatever_their_chunks() {
     let mut random = Random::new(5);
     for round in 0..40 {
         let text = random.text(round * round * 2);
-        let (rope, other) = (Rope::from_str(&text), cut_otherwise(&text, &mut random));
+        let (rope, other) = (Rope::from_str(&text), fragmented(&text, &mut random));
         let (slice, other_slice) = (rope.slice(..), other.slice(..));
         assert!(rope == other && slice == other_slice && slice == other && rope == other_slice);
         assert!(
@@ -107,7 +107,7 @@ fn texts_become_ropes_and_ropes_become_texts() {
 }
 
 #[test]
-fn builders_join_what_they_are_given() {
+fn builders_join_their_texts() {
     let mut random = Random::new(8);
     let (mut builder, mut text) = (RopeBuilder::new(), String::new());
     for _ in 0..3000 {
@@ -117,13 +117,13 @@ fn builders_join_what_they_are_given() {
         text.push_str(&part);
     }
     let other = builder.clone();
-    builder.append("behind");
+    builder.append("after");
     assert_eq!(other.finish(), text);
-    assert_eq!(builder.finish(), text + "behind");
+    assert_eq!(builder.finish(), text + "after");
     assert_eq!(RopeBuilder::default().finish(), "");
 }
 
-/// Gives its bytes in parts of random lengths, and fails where it is told to.
+/// A reader of bytes in parts of random lengths, which fails when `fails_at` bytes are left.
 struct Device<'a> {
     bytes: &'a [u8],
     random: Random,
@@ -168,7 +168,7 @@ fn readers_are_read_to_their_end() {
     }
 }
 
-/// Takes so many bytes, and then none.
+/// A writer that accepts a limited number of bytes.
 struct Small(Vec<u8>, usize);
 
 impl Write for Small {
@@ -184,7 +184,7 @@ impl Write for Small {
 }
 
 #[test]
-fn writers_are_given_the_text() {
+fn writers_receive_the_text() {
     let text = Random::new(10).text(5000);
     let rope = Rope::from_str(&text);
     let mut written = Vec::new();

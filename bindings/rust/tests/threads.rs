@@ -1,4 +1,4 @@
-//! Ropes in eight threads at once.
+//! Ropes in eight concurrent threads.
 #![cfg(not(feature = "single_thread"))]
 mod common;
 
@@ -29,7 +29,8 @@ fn numbered(lines: usize) -> String {
     (0..lines).map(|i| format!("line {i} é\r\n")).collect()
 }
 
-/// Each thread edits clones of one rope that all of them read, and sends some on to be dropped elsewhere.
+/// Each thread edits clones of a rope that all threads read, and sends some to a thread that drops
+/// them.
 #[test]
 fn clones_are_edited_while_all_threads_read() {
     let lines = 5000;
@@ -80,9 +81,10 @@ fn edit_a_clone(rope: &Rope, base: &str, random: &mut Random) {
     assert!(mine.chars().eq(text));
 }
 
-/// One clone goes from thread to thread, is edited by each, and every state of it is kept and read by others.
+/// A rope is moved from thread to thread and edited by each, while clones of all its states are
+/// read.
 #[test]
-fn a_rope_goes_from_thread_to_thread() {
+fn a_rope_moves_from_thread_to_thread() {
     let mut rope = Rope::from_str(&numbered(300));
     let mut kept = Vec::new();
     for round in 0..THREADS {
@@ -104,7 +106,7 @@ fn a_rope_goes_from_thread_to_thread() {
     assert_eq!(rope.len_chars(), numbered(300).chars().count() + 700 * THREADS as usize);
 }
 
-/// The number that tells clones is drawn once, though many threads clone at once.
+/// Clones of concurrent threads get the same number.
 #[test]
 fn clones_of_many_threads_are_instances_of_one_rope() {
     let rope = Rope::from_str("one");

@@ -4,7 +4,7 @@
 //! a write failed. Standard error has the reason.
 #![tactic(auto)]
 
-use rope_language::{Ended, serve};
+use rope_protocol::{Ended, serve};
 use std::io;
 use std::process::ExitCode;
 

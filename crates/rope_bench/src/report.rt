@@ -3,12 +3,12 @@ use crate::editing::Edit;
 use crate::fault::Fault;
 use crate::growing::{LENGTHS, MEMORIES, Memory, fill};
 use crate::measure::Outcome;
-use crate::sample::{Sample, Size, Wear};
+use crate::sample::{Sample, Size, State};
 use crate::scaling::{BYTES, LINE_LENGTHS, LineLength, PORTIONS, START};
 use crate::task::{Mode, Task};
 use crate::texts::{TEXTS, Text};
 use crate::traces::{Keystroke, keystrokes, replay};
-use crate::workloads::{OF_LENGTHS, OF_LINE_LENGTHS, OF_NONE, OF_TEXTS, OF_WORN, Workload};
+use crate::workloads::{OF_EDITED, OF_LENGTHS, OF_LINE_LENGTHS, OF_NONE, OF_TEXTS, Workload};
 use std::alloc::Global;
 use std::time::CpuClock;
 
@@ -40,8 +40,8 @@ fn run_all<R: CpuClock + Print + Input + AllocGlobal>(
 ) -> Result<(), Fault> {
     warm_up(alloc, task)?;
     for text in &TEXTS {
-        run_on_text(rt, alloc, task, *text, Wear::New)?;
-        run_on_text(rt, alloc, task, *text, Wear::Worn)?;
+        run_on_text(rt, alloc, task, *text, State::New)?;
+        run_on_text(rt, alloc, task, *text, State::Edited)?;
     }
     run_on_none(rt, alloc, task)?;
     run_line_lengths(rt, alloc, task)?;
@@ -109,13 +109,13 @@ fn run_on_text<R: CpuClock + Print>(
     alloc: Global,
     task: &Task,
     text: Text,
-    wear: Wear,
+    state: State,
 ) -> Result<(), Fault> {
     let round = Round {
-        start: wear.start(),
-        workloads: match wear {
-            Wear::New => &OF_TEXTS,
-            Wear::Worn => &OF_WORN,
+        start: state.start(),
+        workloads: match state {
+            State::New => &OF_TEXTS,
+            State::Edited => &OF_EDITED,
         },
         ending: text.ending(),
     };
@@ -123,7 +123,7 @@ fn run_on_text<R: CpuClock + Print>(
         return Ok(());
     }
     let text = text.make(alloc, task.size().bytes())?;
-    let sample = Sample::new(alloc, text, task.size(), wear)?;
+    let sample = Sample::new(alloc, text, task.size(), state)?;
     round.run(rt, task, &sample)
 }
 
@@ -133,7 +133,7 @@ fn run_on_none<R: CpuClock + Print>(rt: &R, alloc: Global, task: &Task) -> Resul
         workloads: &OF_NONE,
         ending: "",
     };
-    let sample = Sample::new(alloc, String::new(alloc), task.size(), Wear::New)?;
+    let sample = Sample::new(alloc, String::new(alloc), task.size(), State::New)?;
     round.run(rt, task, &sample)
 }
 
@@ -178,7 +178,7 @@ fn run_scaled<R: CpuClock + Print>(
         return Ok(());
     }
     let text = length.text(alloc, task.size().of(BYTES))?;
-    let sample = Sample::new(alloc, text, task.size(), Wear::New)?;
+    let sample = Sample::new(alloc, text, task.size(), State::New)?;
     round.run(rt, task, &sample)
 }
 
@@ -223,7 +223,7 @@ fn run_lengths<R: CpuClock + Print>(rt: &R, alloc: Global, task: &Task) -> Resul
             ending: length.ending(),
         };
         if round.is_wanted(alloc, task)? {
-            let sample = Sample::new(alloc, length.text(alloc)?, Size::Full, Wear::New)?;
+            let sample = Sample::new(alloc, length.text(alloc)?, Size::Full, State::New)?;
             round.run(rt, task, &sample)?;
         }
     }

@@ -37,21 +37,21 @@ impl Size {
     }
 }
 
-/// The treatment of a rope since it was made of its text.
+/// The state of a rope.
 #[derive(Clone, Copy)]
-pub enum Wear {
-    /// Nothing.
+pub enum State {
+    /// As made of its text.
     New,
-    /// Characters were inserted at random indices.
-    Worn,
+    /// Fragmented by inserts of characters at random indices.
+    Edited,
 }
 
-impl Wear {
+impl State {
     /// Returns the beginning of the names of the workloads on such a rope.
     pub fn start(self) -> &'static str {
         match self {
-            Wear::New => "",
-            Wear::Worn => "worn_",
+            State::New => "",
+            State::Edited => "edited_",
         }
     }
 }
@@ -66,19 +66,19 @@ pub struct Sample {
     /// A rope of the text.
     pub rope: Rope,
     size: Size,
-    wear: Wear,
+    state: State,
 }
 
 impl Sample {
     /// Returns a text and its rope.
-    pub fn new(alloc: Global, text: String, size: Size, wear: Wear) -> Result<Sample, Fault> {
-        let rope = rope_of(alloc, text.as_str(), size, wear)?;
+    pub fn new(alloc: Global, text: String, size: Size, state: State) -> Result<Sample, Fault> {
+        let rope = rope_of(alloc, text.as_str(), size, state)?;
         Ok(Sample {
             alloc,
             text,
             rope,
             size,
-            wear,
+            state,
         })
     }
 
@@ -89,7 +89,7 @@ impl Sample {
 
     /// Returns another rope like the sample's, without shared nodes.
     pub fn fresh(&self) -> Result<Rope, Fault> {
-        rope_of(self.alloc, self.text.as_str(), self.size, self.wear)
+        rope_of(self.alloc, self.text.as_str(), self.size, self.state)
     }
 
     /// Returns the approximate number of characters of `bytes` bytes of the text.
@@ -102,9 +102,9 @@ impl Sample {
 }
 
 /// Returns a rope of the text, fragmented if requested.
-fn rope_of(alloc: Global, text: &str, size: Size, wear: Wear) -> Result<Rope, Fault> {
+fn rope_of(alloc: Global, text: &str, size: Size, state: State) -> Result<Rope, Fault> {
     let mut rope = Rope::from_str(alloc, text)?;
-    if let Wear::Worn = wear {
+    if let State::Edited = state {
         insert_chars_at_random(&mut rope, size.of(WEAR))?;
     }
     Ok(rope)

@@ -144,7 +144,7 @@ pub const OF_TEXTS: [Workload; 104] = [
 ];
 
 /// The workloads on a fragmented rope of each of the texts, in order.
-pub const OF_WORN: [Workload; 14] = [
+pub const OF_EDITED: [Workload; 14] = [
     Workload::Edit(Edit::InsertCharRandom),
     Workload::Edit(Edit::RemoveRandom),
     Workload::Edit(Edit::ShrinkToFit),

@@ -1,9 +1,10 @@
 //! Examples: small callers of ropes. Each but the first has a contract, and all are proved from
-//! public contracts alone. docs/CALLING.md shows them. `rope_tests` runs them, and the tests here
-//! run those of `changes`.
+//! public contracts alone. docs/CALLING.md shows them. `rope_tests` and `rope_change_tests` run
+//! them.
 #![tactic(auto)]
 
 pub mod changes;
+pub mod checked;
 pub mod copies;
 pub mod edits;
 pub mod encodings;
@@ -14,6 +15,3 @@ pub mod lines;
 pub mod places;
 pub mod positions;
 pub mod search;
-#[cfg(test)]
-mod tests;
-pub mod twins;

@@ -15,7 +15,8 @@ pub deleting_before : (n : ℕ) (ops : List Op) → len_before (deleting n ops) 
 deleting_before zero ops = omega arith
 deleting_before (suc n) ops = omega (arith, deleting_before n ops)
 
-pub inserting_before : (text : List ℕ) (ops : List Op) → len_before (inserting text ops) ≡ len_before ops
+pub inserting_before : (text : List ℕ) (ops : List Op)
+    → len_before (inserting text ops) ≡ len_before ops
 inserting_before [] ops = refl
 inserting_before (c ∷ text) ops = inserting_before text ops
 
@@ -27,7 +28,8 @@ pub deleting_after : (n : ℕ) (ops : List Op) → len_after (deleting n ops) �
 deleting_after zero ops = refl
 deleting_after (suc n) ops = deleting_after n ops
 
-pub inserting_after : (text : List ℕ) (ops : List Op) → len_after (inserting text ops) ≡ length text + len_after ops
+pub inserting_after : (text : List ℕ) (ops : List Op)
+    → len_after (inserting text ops) ≡ length text + len_after ops
 inserting_after [] ops = omega arith
 inserting_after (c ∷ text) ops = omega (arith, inserting_after text ops)
 
@@ -39,29 +41,40 @@ kept_stays After (suc n) zero ops le = refl
 kept_stays Before (suc n) (suc i) ops le = ap suc (kept_stays Before n i ops (omega arith))
 kept_stays After (suc n) (suc i) ops le = ap suc (kept_stays After n i ops (omega arith))
 
-pub kept_passed : (side : Side) (n i : ℕ) (ops : List Op) → n ≤ i → moved side (keeping n ops) i ≡ n + moved side ops (i - n)
+pub kept_passed : (side : Side) (n i : ℕ) (ops : List Op) → n ≤ i
+    → moved side (keeping n ops) i ≡ n + moved side ops (i - n)
 kept_passed Before zero i ops le = let e : i - 0 ≡ i = omega arith in rw e (omega arith)
 kept_passed After zero i ops le = let e : i - 0 ≡ i = omega arith in rw e (omega arith)
 kept_passed side (suc n) zero ops le = absurd (omega arith)
-kept_passed Before (suc n) (suc i) ops le = let e : suc i - suc n ≡ i - n = omega arith in rw e (omega (arith, kept_passed Before n i ops (omega arith)))
-kept_passed After (suc n) (suc i) ops le = let e : suc i - suc n ≡ i - n = omega arith in rw e (omega (arith, kept_passed After n i ops (omega arith)))
+kept_passed Before (suc n) (suc i) ops le = let e : suc i - suc n ≡ i - n = omega arith in
+    rw e (omega (arith, kept_passed Before n i ops (omega arith)))
+kept_passed After (suc n) (suc i) ops le = let e : suc i - suc n ≡ i - n = omega arith in
+    rw e (omega (arith, kept_passed After n i ops (omega arith)))
 
-pub inserted_passed_after : (text : List ℕ) (i : ℕ) (ops : List Op) → moved After (inserting text ops) i ≡ length text + moved After ops i
+pub inserted_passed_after : (text : List ℕ) (i : ℕ) (ops : List Op)
+    → moved After (inserting text ops) i ≡ length text + moved After ops i
 inserted_passed_after [] i ops = omega arith
 inserted_passed_after (c ∷ text) i ops = omega (arith, inserted_passed_after text i ops)
 
-pub inserted_passed : (side : Side) (text : List ℕ) (i : ℕ) (ops : List Op) → 1 ≤ i → moved side (inserting text ops) i ≡ length text + moved side ops i
+pub inserted_passed : (side : Side) (text : List ℕ) (i : ℕ) (ops : List Op) → 1 ≤ i
+    → moved side (inserting text ops) i ≡ length text + moved side ops i
 inserted_passed After text i ops some = inserted_passed_after text i ops
 inserted_passed Before [] i ops some = omega arith
 inserted_passed Before (c ∷ text) zero ops some = absurd (omega arith)
-inserted_passed Before (c ∷ text) (suc i) ops some = omega (arith, inserted_passed Before text (suc i) ops some)
+inserted_passed Before (c ∷ text) (suc i) ops some =
+    omega (arith, inserted_passed Before text (suc i) ops some)
 
-pub deleted_passed : (side : Side) (n i : ℕ) (ops : List Op) → moved side (deleting n ops) i ≡ moved side ops (i - n)
+pub deleted_passed : (side : Side) (n i : ℕ) (ops : List Op)
+    → moved side (deleting n ops) i ≡ moved side ops (i - n)
 deleted_passed side zero i ops = let e : i - 0 ≡ i = omega arith in rw e refl
-deleted_passed Before (suc n) zero ops = let e : 0 - suc n ≡ 0 = omega arith in rw e (sym (moved_zero ops))
-deleted_passed After (suc n) zero ops = let e : 0 - suc n ≡ 0 - n = omega arith in rw e (deleted_passed After n zero ops)
-deleted_passed Before (suc n) (suc i) ops = let e : suc i - suc n ≡ i - n = omega arith in rw e (deleted_passed Before n i ops)
-deleted_passed After (suc n) (suc i) ops = let e : suc i - suc n ≡ i - n = omega arith in rw e (deleted_passed After n i ops)
+deleted_passed Before (suc n) zero ops = let e : 0 - suc n ≡ 0 = omega arith in
+    rw e (sym (moved_zero ops))
+deleted_passed After (suc n) zero ops = let e : 0 - suc n ≡ 0 - n = omega arith in
+    rw e (deleted_passed After n zero ops)
+deleted_passed Before (suc n) (suc i) ops = let e : suc i - suc n ≡ i - n = omega arith in
+    rw e (deleted_passed Before n i ops)
+deleted_passed After (suc n) (suc i) ops = let e : suc i - suc n ≡ i - n = omega arith in
+    rw e (deleted_passed After n i ops)
 
 -- an index among the last characters, or at the end
 pub rest_stays : (side : Side) (n i : ℕ) → i ≤ n → moved side (keeping n []) i ≡ i

@@ -11,13 +11,32 @@ module _ (kept : ℕ) (text : List ℕ) (deleted : ℕ) (ops : List Op) where
   step = keeping kept (inserting text (deleting deleted ops))
 
   pub step_before : len_before step ≡ kept + deleted + len_before ops
-  step_before = omega (arith, keeping_before kept (inserting text (deleting deleted ops)), inserting_before text (deleting deleted ops), deleting_before deleted ops)
+  step_before =
+      omega (
+        arith,
+        keeping_before kept (inserting text (deleting deleted ops)),
+        inserting_before text (deleting deleted ops),
+        deleting_before deleted ops,
+      )
 
   pub step_after : len_after step ≡ kept + length text + len_after ops
-  step_after = omega (arith, keeping_after kept (inserting text (deleting deleted ops)), inserting_after text (deleting deleted ops), deleting_after deleted ops)
+  step_after =
+      omega (
+        arith,
+        keeping_after kept (inserting text (deleting deleted ops)),
+        inserting_after text (deleting deleted ops),
+        deleting_after deleted ops,
+      )
 
   -- past the text, and past what is deleted
   pub step_moved : (side : Side) (i : ℕ) → kept ≤ i
-      → moved side (inserting text (deleting deleted ops)) (i - kept) ≡ length text + moved side (deleting deleted ops) (i - kept)
+      → moved side (inserting text (deleting deleted ops)) (i - kept)
+      ≡ length text + moved side (deleting deleted ops) (i - kept)
       → moved side step i ≡ kept + length text + moved side ops (i - kept - deleted)
-  step_moved side i le passes = omega (arith, kept_passed side kept i (inserting text (deleting deleted ops)) le, passes, deleted_passed side deleted (i - kept) ops)
+  step_moved side i le passes =
+      omega (
+        arith,
+        kept_passed side kept i (inserting text (deleting deleted ops)) le,
+        passes,
+        deleted_passed side deleted (i - kept) ops,
+      )

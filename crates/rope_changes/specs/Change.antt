@@ -45,7 +45,8 @@ after c = len_after (ops c)
 abbrev pub last_end : Change → ℕ
 last_end c = before c - c.rest
 
--- normal form: each replacement changes something, and each but the first keeps a character before it
+-- normal form: each replacement changes something, and each but the first keeps a character before
+-- it
 abbrev pub AreApart : List Edit → Type 0
 AreApart [] = Unit {0}
 AreApart (e ∷ edits) = (1 ≤ e.kept) × (1 ≤ length e.text + e.deleted) × AreApart edits
@@ -59,12 +60,18 @@ IsNormal c = AreNormal c.edits
 
 -- a replacement that inserts and deletes more at its end
 abbrev pub extended : Edit → List ℕ → ℕ → Edit
-extended e text deleted = record { kept = e.kept; text = e.text ++ text; deleted = e.deleted + deleted }
+extended e text deleted = record {
+  kept = e.kept;
+  text = e.text ++ text;
+  deleted = e.deleted + deleted;
+}
 
--- a replacement and then one of what comes after it, which extends it if no character is kept between them
+-- a replacement and then one of what comes after it, which extends it if no character is kept
+-- between them
 abbrev pub joined : Edit → ℕ → List ℕ → ℕ → List Edit
 joined e zero text deleted = extended e text deleted ∷ []
-joined e (suc kept) text deleted = e ∷ record { kept = suc kept; text = text; deleted = deleted } ∷ []
+joined e (suc kept) text deleted = e ∷ record { kept = suc kept; text = text; deleted = deleted }
+    ∷ []
 
 abbrev pub appended : List Edit → ℕ → List ℕ → ℕ → List Edit
 appended [] kept text deleted = record { kept = kept; text = text; deleted = deleted } ∷ []
@@ -76,10 +83,15 @@ abbrev pub if_some : ℕ → Change → Change → Change
 if_some zero c new = c
 if_some (suc n) c new = new
 
--- a change that also replaces the characters from `start` up to `end` of the text before, after its last replacement
+-- a change that also replaces the characters from `start` up to `end` of the text before, after its
+-- last replacement
 abbrev pub replaced : Change → ℕ → ℕ → List ℕ → Change
 replaced c start end text =
-    if_some (length text + (end - start)) c (record { edits = appended c.edits (start - last_end c) text (end - start); rest = before c - end })
+    if_some (length text + (end - start)) c
+    (record {
+      edits = appended c.edits (start - last_end c) text (end - start);
+      rest = before c - end;
+    })
 
 -- the range is one of the text before, after the last replacement
 pub record IsInOrder (c : Change) (start end : ℕ) : Type 0 where

@@ -25,7 +25,11 @@ pub record IsReading (a : Inside) : Type 0 where
 pub record IsNext (old : Remaining) (e : EditRange) (new : Remaining) : Type 0 where
   pub starts : old.end ≤ e.start
   pub ordered : e.start ≤ e.end
-  pub edits : old.edits ≡ record { kept = e.start - old.end; text = chars e.text.now; deleted = e.end - e.start } ∷ new.edits
+  pub edits : old.edits ≡ record {
+    kept = e.start - old.end;
+    text = chars e.text.now;
+    deleted = e.end - e.start;
+  } ∷ new.edits
   pub new_start : e.new_start ≡ old.new_end + (e.start - old.end)
   pub new_end : e.new_end ≡ e.new_start + length (chars e.text.now)
   pub end_is : new.end ≡ e.end

@@ -16,7 +16,8 @@ run (delete ∷ ops) [] = run ops []
 run (delete ∷ ops) (c ∷ text) = run ops text
 run (insert c ∷ ops) text = c ∷ run ops text
 
--- the number of characters that a change keeps or deletes: the length of a text that it is a change of
+-- the number of characters that a change keeps or deletes: the length of a text that it is a change
+-- of
 abbrev pub len_before : List Op → ℕ
 len_before [] = zero
 len_before (keep ∷ ops) = suc (len_before ops)

@@ -47,8 +47,6 @@ mod replacements;
 mod run;
 mod side;
 mod splice;
-#[cfg(test)]
-mod tests;
 
 pub use change_set::{ChangeSet, EditRange, Edits};
 pub use edit::Edit;

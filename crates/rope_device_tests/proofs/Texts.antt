@@ -21,7 +21,8 @@ ascii = refl
 pub is_first : (t bytes : List ℕ) → encode_utf8_all t ≡ bytes → bytes ≡ first → t ≡ first
 is_first t bytes e f = encodes_same t first (e ∙ f ∙ sym ascii)
 
-pub four_lines : (breaks : LineBreaks) (t : List ℕ) → breaks ≡ Unicode → t ≡ first → line_count breaks t ≡ 4
+pub four_lines : (breaks : LineBreaks) (t : List ℕ) → breaks ≡ Unicode → t ≡ first
+    → line_count breaks t ≡ 4
 unfolding break_ends
 four_lines breaks t e f = rw (e, f) refl
 
@@ -39,5 +40,6 @@ flowers_are : chars flowers ≡ flowers
 unfolding encode
 flowers_are = chars-encodes flowers refl
 
-pub may_slice : (t u v : List ℕ) → t ≡ first → u ≡ removed t 4 8 → v ≡ inserted u 4 (chars flowers) → char_range_error (Some 0) (Some 12) (length v) ≡ None
+pub may_slice : (t u v : List ℕ) → t ≡ first → u ≡ removed t 4 8 → v ≡ inserted u 4 (chars flowers)
+    → char_range_error (Some 0) (Some 12) (length v) ≡ None
 may_slice t u v f e h = rw (h, flowers_are, e, f) refl

@@ -7,6 +7,7 @@ use rope_plain::plain_cursor::PlainCursor;
 use rope_plain::plain_rope::{Count, PlainRope, last_place, lengths_of, line_place, place_at};
 use rope_plain::plain_slice::PlainSlice;
 use rope_plain::plain_text::{Place, places};
+use rope_plain::sums::{minus, plus};
 use rope_plain::texts::expect_chars;
 use rope_plain::{holds, same, some};
 use rope_script::{At, Conv, Item, Move, Query, Reply, Unit};
@@ -77,7 +78,7 @@ impl<'a> Asked<'a> {
             return None;
         }
         let start = line_place(self.places, line);
-        let end = line_place(self.places, line.saturating_add(1));
+        let end = line_place(self.places, plus(line, 1));
         self.part.text.get(start..end)
     }
 
@@ -88,7 +89,7 @@ impl<'a> Asked<'a> {
         let c = self.part.text.get(at)?;
         let mut bytes = [0; 4];
         let encoded = c.encode_utf8(&mut bytes).as_bytes();
-        encoded.get(index.saturating_sub(start)).copied()
+        encoded.get(minus(index, start)).copied()
     }
 
     /// Returns the last chunk that starts at a character or before it.
@@ -106,12 +107,12 @@ impl<'a> Asked<'a> {
     fn chunk_of_break(&self, break_count: usize) -> usize {
         let count = self.part.chunk_count();
         for index in 0..count {
-            let end = self.part.chunk_start(index.saturating_add(1));
+            let end = self.part.chunk_start(plus(index, 1));
             if place_at(self.places, end).line >= break_count {
                 return index;
             }
         }
-        count.saturating_sub(1)
+        minus(count, 1)
     }
 
     /// Returns the chunk of an index and whether it is the end; `None` out of range.
@@ -185,7 +186,7 @@ impl<'a> Asked<'a> {
     }
 
     /// Fails unless a step of a walk returned the expected item.
-    fn agrees(
+    fn expect_step(
         &self,
         unit: &Unit,
         item: Option<&Option<Item>>,
@@ -212,8 +213,8 @@ impl<'a> Asked<'a> {
         let mut count: usize = 0;
         for step in moves {
             if let Some(index) = moved(&mut cursor, step) {
-                self.agrees(unit, items.get(count), index)?;
-                count = count.saturating_add(1);
+                self.expect_step(unit, items.get(count), index)?;
+                count = plus(count, 1);
             }
         }
         same!(count, items.len());
@@ -264,7 +265,7 @@ impl<'a> Asked<'a> {
                 let start = place_at(self.places, place.line_start_char);
                 same!(
                     [*line, *column],
-                    [place.line, place.unit.saturating_sub(start.unit)]
+                    [place.line, minus(place.unit, start.unit)]
                 );
                 Ok(())
             }
@@ -279,13 +280,13 @@ impl<'a> Asked<'a> {
             return Err(Error::LineIndexOutOfBounds(line, lens.lines));
         }
         let first = line_place(self.places, line);
-        let last = line_place(self.places, line.saturating_add(1));
+        let last = line_place(self.places, plus(line, 1));
         let start = place_at(self.places, first).unit;
-        let len = place_at(self.places, last).unit.saturating_sub(start);
+        let len = minus(place_at(self.places, last).unit, start);
         if column > len {
             return Err(Error::Utf16IndexOutOfBounds(column, len));
         }
-        let unit = start.saturating_add(column);
+        let unit = plus(start, column);
         Ok(last_place(self.places, Count::Units, unit).min(last))
     }
 
@@ -420,7 +421,7 @@ fn expect_text_or_absent(chars: Option<&[char]>, reply: &Reply) -> Result<(), Fa
 
 /// Fails unless a slice may have this reply to a query; `ropes` are all ropes, one of which may be
 /// compared with it.
-pub fn answers(
+pub fn expect_answer(
     alloc: Global,
     ropes: &[PlainRope],
     part: PlainSlice<'_>,

@@ -1,7 +1,7 @@
 //! Lines that are not of the language.
 use crate::served::expect_served;
-use rope_language::Ended;
 use rope_plain::failure::{Failure, within};
+use rope_protocol::Ended;
 use std::alloc::Global;
 
 /// Fails unless nothing is written for a line alone, and it is reported as bad.
@@ -12,7 +12,7 @@ fn expect_refused(alloc: Global, line: &[u8]) -> Result<(), Failure> {
 }
 
 /// Fails unless each line, served alone, is refused.
-fn refuse(alloc: Global, lines: &[&[u8]]) -> Result<(), Failure> {
+fn expect_all_refused(alloc: Global, lines: &[&[u8]]) -> Result<(), Failure> {
     for line in lines {
         within(
             format_args!("line {:?}", str::from_utf8(line)),
@@ -76,8 +76,8 @@ const WORDS: [&[u8]; 50] = [
 ];
 
 #[test]
-fn words_that_are_none_are_bad_lines(rt: HostRuntime) -> Result<(), Failure> {
-    refuse(rt.alloc(), &WORDS)
+fn unknown_words_are_bad_lines(rt: HostRuntime) -> Result<(), Failure> {
+    expect_all_refused(rt.alloc(), &WORDS)
 }
 
 const PARTS_AND_QUERIES: [&[u8]; 45] = [
@@ -129,8 +129,8 @@ const PARTS_AND_QUERIES: [&[u8]; 45] = [
 ];
 
 #[test]
-fn parts_and_queries_that_are_none_are_bad_lines(rt: HostRuntime) -> Result<(), Failure> {
-    refuse(rt.alloc(), &PARTS_AND_QUERIES)
+fn unknown_parts_and_queries_are_bad_lines(rt: HostRuntime) -> Result<(), Failure> {
+    expect_all_refused(rt.alloc(), &PARTS_AND_QUERIES)
 }
 
 const TEXTS: [&[u8]; 35] = [
@@ -172,8 +172,8 @@ const TEXTS: [&[u8]; 35] = [
 ];
 
 #[test]
-fn texts_that_are_not_escaped_are_bad_lines(rt: HostRuntime) -> Result<(), Failure> {
-    refuse(rt.alloc(), &TEXTS)
+fn texts_that_are_wrongly_escaped_are_bad_lines(rt: HostRuntime) -> Result<(), Failure> {
+    expect_all_refused(rt.alloc(), &TEXTS)
 }
 
 /// Each number of each line with a sign before it, which no number may have.
@@ -218,5 +218,5 @@ const SIGNS: [&[u8]; 36] = [
 
 #[test]
 fn numbers_with_a_sign_are_bad_lines(rt: HostRuntime) -> Result<(), Failure> {
-    refuse(rt.alloc(), &SIGNS)
+    expect_all_refused(rt.alloc(), &SIGNS)
 }

@@ -1,6 +1,7 @@
 //! The errors of devices, which are passed on with their message and their number, and the number
 //! of calls of a device.
 use rope_plain::failure::{Failure, within};
+use rope_plain::sums::plus;
 use rope_plain::{holds, same};
 use ropey::Rope;
 use ropey::io::{Mark, ReadError, Sink, Source, Watched};
@@ -25,7 +26,7 @@ impl<'a> Broken<'a> {
     /// Counts a call, and fails if it must.
     fn call(&self) -> io::Result<()> {
         let calls = self.calls.get();
-        self.calls.set(calls.saturating_add(1));
+        self.calls.set(plus(calls, 1));
         if calls >= self.good {
             return Err(self.error);
         }
@@ -168,11 +169,11 @@ fn expect_reading(alloc: Global, good: usize, known: &Known) -> Result<(), Failu
     let calls = Cell::new(0usize);
     let reader = Broken::new(good, known.error, &calls);
     expect_read_error(alloc, Rope::from_reader(alloc, reader), known)?;
-    same!(calls.get(), good.saturating_add(1));
+    same!(calls.get(), plus(good, 1));
     let calls = Cell::new(0usize);
     let mut source = Watched::new(Broken::new(good, known.error, &calls));
     expect_read_error(alloc, Rope::from_watched(alloc, &mut source), known)?;
-    same!(calls.get(), good.saturating_add(1));
+    same!(calls.get(), plus(good, 1));
     Ok(())
 }
 
@@ -182,11 +183,11 @@ fn expect_writing(alloc: Global, rope: &Rope, good: usize, known: &Known) -> Res
     let calls = Cell::new(0usize);
     let writer = Broken::new(good, known.error, &calls);
     expect_refused(alloc, rope.write_to(writer), known)?;
-    same!(calls.get(), good.saturating_add(1));
+    same!(calls.get(), plus(good, 1));
     let calls = Cell::new(0usize);
     let mut sink = Watched::new(Broken::new(good, known.error, &calls));
     expect_refused(alloc, rope.write_watched(&mut sink), known)?;
-    same!(calls.get(), good.saturating_add(1));
+    same!(calls.get(), plus(good, 1));
     Ok(())
 }
 
@@ -212,7 +213,7 @@ fn expect_all_through(alloc: Global, rope: &Rope) -> Result<(), Failure> {
 }
 
 #[test]
-fn a_device_is_called_once_a_call_and_its_error_comes_through(
+fn a_device_is_called_once_a_call_and_its_error_is_returned(
     rt: HostRuntime,
 ) -> Result<(), Failure> {
     let rope = Rope::from_str(rt.alloc(), "Hello")?;

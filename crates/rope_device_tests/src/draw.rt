@@ -1,6 +1,7 @@
 //! Commands and queries drawn at random, with some indices out of range.
 use rope_plain::numbers::Numbers;
 use rope_plain::plain_rope::PlainRope;
+use rope_plain::sums::plus;
 use rope_plain::texts::{random_edit_text, random_text};
 use rope_script::{At, Command, Conv, Move, Query, Unit};
 use ropey::LineBreaks;
@@ -12,7 +13,7 @@ const SETS: [LineBreaks; 3] = [LineBreaks::Unicode, LineBreaks::Lf, LineBreaks::
 fn index(numbers: &mut Numbers, len: usize) -> usize {
     match numbers.take() % 16 {
         0 => len,
-        1 => len.saturating_add(1),
+        1 => plus(len, 1),
         2 => usize::MAX,
         _ => numbers.up_to(len),
     }

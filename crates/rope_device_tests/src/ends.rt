@@ -1,7 +1,7 @@
 //! The outcomes of runs, as their program reports them.
-use rope_language::Ended;
 use rope_plain::failure::{Failure, within};
 use rope_plain::same;
+use rope_protocol::Ended;
 use std::alloc::Global;
 
 /// The outcome of a run, the program's status, and its line on standard error.

@@ -35,8 +35,6 @@ mod rows;
 #[cfg(test)]
 mod runs;
 #[cfg(test)]
-mod seams;
-#[cfg(test)]
 mod served;
 #[cfg(test)]
 mod serving;

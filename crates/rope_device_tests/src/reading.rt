@@ -113,18 +113,18 @@ fn a_text_cut_off_within_a_character_is_no_utf8(rt: HostRuntime) -> Result<(), F
 
 /// Fails unless a failure after a number of bytes is returned, for single bytes a read, and for
 /// such reads.
-fn expect_failed_behind(alloc: Global, fails_at: usize, ends: u64) -> Result<(), Failure> {
+fn expect_failed_past(alloc: Global, fails_at: usize, ends: u64) -> Result<(), Failure> {
     expect_failed(alloc, TEXT.as_bytes(), SINGLY, fails_at)?;
     expect_failed(alloc, TEXT.as_bytes(), ends, fails_at)
 }
 
 #[test]
-fn a_failing_read_is_answered_and_marked(rt: HostRuntime) -> Result<(), Failure> {
+fn a_failed_read_is_returned_and_marked(rt: HostRuntime) -> Result<(), Failure> {
     for fails_at in 0..13usize {
         let at_once = 1u64.checked_shl(fails_at as u32).unwrap_or(0) >> 1;
         within(
             format_args!("fails_at {fails_at}"),
-            expect_failed_behind(rt.alloc(), fails_at, at_once),
+            expect_failed_past(rt.alloc(), fails_at, at_once),
         )?;
     }
     Ok(())

@@ -1,5 +1,5 @@
 //! Worked rows: dialogues, each of lines and their replies.
-use crate::served::expect;
+use crate::served::expect_replies;
 use rope_plain::failure::Failure;
 
 const CURSORS_AND_PARTS: [(&str, &str); 6] = [
@@ -16,7 +16,7 @@ const CURSORS_AND_PARTS: [(&str, &str); 6] = [
 
 #[test]
 fn cursors_and_parts_are_replied(rt: HostRuntime) -> Result<(), Failure> {
-    expect(rt.alloc(), &CURSORS_AND_PARTS)
+    expect_replies(rt.alloc(), &CURSORS_AND_PARTS)
 }
 
 const BETWEEN_CR_AND_LF: [(&str, &str); 8] = [
@@ -34,8 +34,8 @@ const BETWEEN_CR_AND_LF: [(&str, &str); 8] = [
 ];
 
 #[test]
-fn places_between_cr_and_lf_are_replied(rt: HostRuntime) -> Result<(), Failure> {
-    expect(rt.alloc(), &BETWEEN_CR_AND_LF)
+fn positions_between_cr_and_lf_are_replied(rt: HostRuntime) -> Result<(), Failure> {
+    expect_replies(rt.alloc(), &BETWEEN_CR_AND_LF)
 }
 
 const COPIES: [(&str, &str); 11] = [
@@ -54,7 +54,7 @@ const COPIES: [(&str, &str); 11] = [
 
 #[test]
 fn copies_are_edited_apart(rt: HostRuntime) -> Result<(), Failure> {
-    expect(rt.alloc(), &COPIES)
+    expect_replies(rt.alloc(), &COPIES)
 }
 
 const TEXTS: [(&str, &str); 12] = [
@@ -86,7 +86,7 @@ const TEXTS: [(&str, &str); 12] = [
 
 #[test]
 fn texts_are_replied_in_quotes(rt: HostRuntime) -> Result<(), Failure> {
-    expect(rt.alloc(), &TEXTS)
+    expect_replies(rt.alloc(), &TEXTS)
 }
 
 const REFUSALS: [(&str, &str); 19] = [
@@ -131,7 +131,7 @@ const REFUSALS: [(&str, &str); 19] = [
 
 #[test]
 fn refusals_are_replied(rt: HostRuntime) -> Result<(), Failure> {
-    expect(rt.alloc(), &REFUSALS)
+    expect_replies(rt.alloc(), &REFUSALS)
 }
 
 const SETS: [(&str, &str); 12] = [
@@ -151,7 +151,7 @@ const SETS: [(&str, &str); 12] = [
 
 #[test]
 fn sets_of_line_breaks_are_replied(rt: HostRuntime) -> Result<(), Failure> {
-    expect(rt.alloc(), &SETS)
+    expect_replies(rt.alloc(), &SETS)
 }
 
 const QUERIES: [(&str, &str); 30] = [
@@ -201,7 +201,7 @@ const QUERIES: [(&str, &str); 30] = [
 
 #[test]
 fn every_query_is_replied(rt: HostRuntime) -> Result<(), Failure> {
-    expect(rt.alloc(), &QUERIES)
+    expect_replies(rt.alloc(), &QUERIES)
 }
 
 /// Lines with two numbers of one form, each with a reply that distinguishes them.
@@ -234,5 +234,5 @@ const WORDS_IN_ORDER: [(&str, &str); 24] = [
 
 #[test]
 fn words_are_read_in_their_order(rt: HostRuntime) -> Result<(), Failure> {
-    expect(rt.alloc(), &WORDS_IN_ORDER)
+    expect_replies(rt.alloc(), &WORDS_IN_ORDER)
 }

@@ -1,5 +1,6 @@
 //! Runs of several commands: with ample memory none fails.
 use rope_plain::failure::{Failure, within};
+use rope_plain::sums::plus;
 use rope_plain::{holds, same};
 use rope_script::{At, Command, Conv, Move, Query, Reply, Session, Unit};
 use ropey::{Error, LineBreaks};
@@ -18,7 +19,7 @@ fn makers(alloc: Global, count: usize) -> Result<Vec<Command>, AllocError> {
 /// Fails unless the replies number the ropes from `first` on.
 fn expect_numbers(replies: &[Reply], first: usize) -> Result<(), Failure> {
     for (index, reply) in replies.iter().enumerate() {
-        let number = first.saturating_add(index);
+        let number = plus(first, index);
         holds!(matches!(reply, Reply::Made(made) if *made == number));
     }
     Ok(())

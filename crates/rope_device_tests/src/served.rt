@@ -1,8 +1,8 @@
 //! Lines that are served, and their expected output.
 use crate::talks::{Dripping, Narrow};
-use rope_language::{Ended, serve};
 use rope_plain::failure::Failure;
 use rope_plain::same;
+use rope_protocol::{Ended, serve};
 use std::alloc::{AllocError, Global};
 
 /// Fails unless the run over an input in reads of a number of bytes has this outcome, and this was
@@ -45,7 +45,7 @@ fn add_talk(
 }
 
 /// Fails unless the lines of a dialogue, all of them valid, have these replies.
-pub fn expect(alloc: Global, talk: &[(&str, &str)]) -> Result<(), Failure> {
+pub fn expect_replies(alloc: Global, talk: &[(&str, &str)]) -> Result<(), Failure> {
     let mut input = String::new(alloc);
     let mut output = String::new(alloc);
     add_talk(&mut input, &mut output, talk)?;

@@ -1,10 +1,11 @@
 //! Lines that come in several reads, devices that fail, and outcomes of runs.
 use crate::served::expect_served;
 use crate::talks::{Asking, Dripping, Halting, Narrow, Stumbling, Telling};
-use rope_language::{Ended, serve};
 use rope_plain::failure::{Failure, within};
+use rope_plain::sums::plus;
 use rope_plain::texts::repeated;
 use rope_plain::{holds, same};
+use rope_protocol::{Ended, serve};
 use std::alloc::{AllocError, Global};
 use std::cell::Cell;
 
@@ -83,7 +84,7 @@ fn a_run_ends_as_its_input_does(rt: HostRuntime) -> Result<(), Failure> {
 }
 
 /// Fails unless the run over an input succeeds, with these replies.
-fn ends_with(
+fn expect_done(
     alloc: Global,
     input: Result<String, AllocError>,
     replies: Result<String, AllocError>,
@@ -151,7 +152,7 @@ fn replies_to_doublings(alloc: Global) -> Result<String, AllocError> {
 fn the_longest_text_is_served(rt: HostRuntime) -> Result<(), Failure> {
     let input = doublings(rt.alloc());
     let replies = replies_to_doublings(rt.alloc());
-    ends_with(rt.alloc(), input, replies)
+    expect_done(rt.alloc(), input, replies)
 }
 
 /// Fails unless a run ends at the reader's failure, with the replies to the two complete lines
@@ -169,7 +170,7 @@ fn expect_stopped_by_its_reader(alloc: Global) -> Result<(), Failure> {
 }
 
 #[test]
-fn a_failed_read_ends_the_run_behind_its_replies(rt: HostRuntime) -> Result<(), Failure> {
+fn a_failed_read_ends_the_run_after_its_replies(rt: HostRuntime) -> Result<(), Failure> {
     expect_stopped_by_its_reader(rt.alloc())
 }
 
@@ -251,10 +252,10 @@ fn replies_to_shown(alloc: Global) -> Result<String, AllocError> {
 }
 
 #[test]
-fn a_reply_longer_than_what_is_gathered_is_written(rt: HostRuntime) -> Result<(), Failure> {
+fn a_reply_longer_than_the_buffer_is_written(rt: HostRuntime) -> Result<(), Failure> {
     let input = shown(rt.alloc());
     let replies = replies_to_shown(rt.alloc());
-    ends_with(rt.alloc(), input, replies)
+    expect_done(rt.alloc(), input, replies)
 }
 
 const LONG: &str = "text a\nlen 0\n";
@@ -299,7 +300,7 @@ fn expect_stopped_once(alloc: Global, fails_at: usize, replies: &[u8]) -> Result
     let mut reader = Stumbling::new(&parts, fails_at);
     let mut writer = Narrow::new(alloc, 1000);
     same!(serve(alloc, &mut reader, &mut writer), Ended::Failed);
-    same!(reader.reads, fails_at.saturating_add(1));
+    same!(reader.reads, plus(fails_at, 1));
     same!(writer.kept.as_slice(), replies);
     Ok(())
 }
@@ -329,7 +330,7 @@ fn expect_halted(
 
 /// Fails unless a write that takes none after a number of bytes ends the run, and one that is
 /// interrupted is tried again, as the standard library's `write_all` does.
-fn stumbles(alloc: Global, room: usize) -> Result<(), Failure> {
+fn expect_write_stopped(alloc: Global, room: usize) -> Result<(), Failure> {
     let replies = b"rope 0\n1 1 1 1\n".as_slice();
     let (front, _) = replies.split_at(room.min(replies.len()));
     expect_halted(alloc, Halting::new(alloc, room, true), Ended::Failed, front)?;
@@ -342,9 +343,12 @@ fn stumbles(alloc: Global, room: usize) -> Result<(), Failure> {
 }
 
 #[test]
-fn a_write_that_takes_none_once_ends_the_run(rt: HostRuntime) -> Result<(), Failure> {
+fn a_write_of_no_bytes_ends_the_run(rt: HostRuntime) -> Result<(), Failure> {
     for room in 0..15usize {
-        within(format_args!("room {room}"), stumbles(rt.alloc(), room))?;
+        within(
+            format_args!("room {room}"),
+            expect_write_stopped(rt.alloc(), room),
+        )?;
     }
     Ok(())
 }

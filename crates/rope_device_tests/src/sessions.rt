@@ -1,11 +1,12 @@
 //! Random sessions of commands, against plain ropes.
-use crate::answers::answers;
+use crate::answers::expect_answer;
 use crate::commands::{Effect, Outcome, apply, expect_reply};
 use crate::draw::command;
 use crate::shown::Shown;
 use rope_plain::failure::{Failure, within};
 use rope_plain::numbers::Numbers;
 use rope_plain::plain_rope::PlainRope;
+use rope_plain::sums::plus;
 use rope_plain::texts::expect_chars;
 use rope_plain::{holds, same, some};
 use rope_script::{Command, Query, Reply, Session};
@@ -29,7 +30,7 @@ fn expect_chunk(chunk: &str, chars: Option<&[char]>) -> Result<(), Failure> {
 }
 
 /// Returns whether an index is between a CR and its LF.
-fn parts_a_pair(text: &[char], place: usize) -> bool {
+fn splits_a_pair(text: &[char], place: usize) -> bool {
     match place.checked_sub(1) {
         Some(before) => text.get(before) == Some(&'\r') && text.get(place) == Some(&'\n'),
         None => false,
@@ -41,9 +42,9 @@ fn parts_a_pair(text: &[char], place: usize) -> bool {
 fn add_ends(ends: &mut Vec<usize>, chunks: &[String], text: &[char]) -> Result<(), Failure> {
     let mut place: usize = 0;
     for chunk in chunks {
-        let end = place.saturating_add(chunk.as_str().chars().count());
+        let end = plus(place, chunk.as_str().chars().count());
         expect_chunk(chunk.as_str(), text.get(place..end))?;
-        holds!(!parts_a_pair(text, end));
+        holds!(!splits_a_pair(text, end));
         ends.push(end)?;
         place = end;
     }
@@ -55,7 +56,7 @@ fn add_ends(ends: &mut Vec<usize>, chunks: &[String], text: &[char]) -> Result<(
 fn expect_few(rope: &PlainRope) -> Result<(), Failure> {
     let mut bytes: usize = 0;
     for c in &rope.text {
-        bytes = bytes.saturating_add(c.len_utf8());
+        bytes = plus(bytes, c.len_utf8());
     }
     let chunks = rope.ends.len();
     if chunks > bytes.div_ceil(FRESH_BYTES) {
@@ -130,7 +131,7 @@ fn expect_all_left(
 }
 
 /// Fails unless a query of a rope or of a range of it may have this reply.
-fn expect_answer(
+fn expect_reply_to(
     alloc: Global,
     ropes: &[PlainRope],
     number: usize,
@@ -144,7 +145,7 @@ fn expect_answer(
     match rope.part(range) {
         Some(part) => within(
             format_args!("line breaks {:?}", part.breaks),
-            answers(alloc, ropes, part, query, reply),
+            expect_answer(alloc, ropes, part, query, reply),
         ),
         None => expect_reply(Outcome::NoSlice, 0, reply),
     }
@@ -159,7 +160,7 @@ fn expect_right(
     reply: &Reply,
 ) -> Result<(), Failure> {
     if let Command::Ask(number, range, query) = command {
-        return expect_answer(alloc, ropes, *number, *range, query, reply);
+        return expect_reply_to(alloc, ropes, *number, *range, query, reply);
     }
     let count = ropes.len();
     let effect = some!(apply(alloc, ropes, command)?);
@@ -184,7 +185,7 @@ fn expect_run(
     )
 }
 
-fn run_one(
+fn expect_random_run(
     alloc: Global,
     session: &mut Session,
     ropes: &mut Vec<PlainRope>,
@@ -194,7 +195,7 @@ fn run_one(
     expect_run(alloc, session, ropes, &commands)
 }
 
-fn run_many(
+fn expect_random_runs(
     alloc: Global,
     session: &mut Session,
     ropes: &mut Vec<PlainRope>,
@@ -203,7 +204,7 @@ fn run_many(
     for number in 0..COMMANDS {
         within(
             format_args!("command {number}"),
-            run_one(alloc, session, ropes, numbers),
+            expect_random_run(alloc, session, ropes, numbers),
         )?;
     }
     Ok(())
@@ -217,12 +218,12 @@ fn expect_session(alloc: Global, start: u64) -> Result<(), Failure> {
     let mut ropes = Vec::new(alloc);
     within(
         format_args!("seed {seed:#x}"),
-        run_many(alloc, &mut session, &mut ropes, &mut numbers),
+        expect_random_runs(alloc, &mut session, &mut ropes, &mut numbers),
     )
 }
 
 #[test]
-fn sessions_reply_and_leave_ropes_as_lists_do(rt: HostRuntime) -> Result<(), Failure> {
+fn sessions_reply_and_change_ropes_as_lists_do(rt: HostRuntime) -> Result<(), Failure> {
     for start in 1..=SESSIONS {
         within(
             format_args!("session {start}"),

@@ -2,6 +2,7 @@
 //! again.
 use crate::devices::{Halting, Stumble, Stumbling};
 use rope_plain::failure::{Failure, within};
+use rope_plain::sums::plus;
 use rope_plain::texts::repeated;
 use rope_plain::{holds, same};
 use ropey::Rope;
@@ -43,7 +44,7 @@ fn expect_failed(alloc: Global, before: usize, kind: ErrorKind) -> Result<(), Fa
     let reader = Stumbling::new(TEXT.as_bytes(), before, Stumble::Fails(kind), &calls);
     let answer = read_kind(Rope::from_reader(alloc, reader));
     same!(answer, Some(kind));
-    same!(calls.get(), before.saturating_add(1));
+    same!(calls.get(), plus(before, 1));
     Ok(())
 }
 
@@ -55,11 +56,11 @@ fn expect_marked(alloc: Global, before: usize, kind: ErrorKind) -> Result<(), Fa
     let answer = read_kind(Rope::from_watched(alloc, &mut source));
     same!(answer, Some(kind));
     holds!(source.failed());
-    same!(calls.get(), before.saturating_add(1));
+    same!(calls.get(), plus(before, 1));
     Ok(())
 }
 
-fn fails_at_each_byte(alloc: Global, kind: ErrorKind) -> Result<(), Failure> {
+fn expect_failed_at_each_byte(alloc: Global, kind: ErrorKind) -> Result<(), Failure> {
     for before in 0..13usize {
         within(
             format_args!("before {before}"),
@@ -78,7 +79,7 @@ fn a_read_fails_once(rt: HostRuntime) -> Result<(), Failure> {
     for (row, kind) in KINDS.iter().enumerate() {
         within(
             format_args!("row {row}"),
-            fails_at_each_byte(rt.alloc(), *kind),
+            expect_failed_at_each_byte(rt.alloc(), *kind),
         )?;
     }
     Ok(())
@@ -94,7 +95,11 @@ fn expect_front(alloc: Global, rope: &Rope, len: usize) -> Result<(), Failure> {
 }
 
 /// Fails unless a read returns the text up to an end after a number of bytes, or `InvalidData`.
-fn ends_well(alloc: Global, answer: Result<Rope, ReadError>, len: usize) -> Result<(), Failure> {
+fn expect_end_read(
+    alloc: Global,
+    answer: Result<Rope, ReadError>,
+    len: usize,
+) -> Result<(), Failure> {
     let is_start = [0usize, 1, 3, 4, 5, 8, 12].contains(&len);
     match answer {
         Ok(rope) => {
@@ -114,13 +119,13 @@ fn ends_well(alloc: Global, answer: Result<Rope, ReadError>, len: usize) -> Resu
 fn expect_ended(alloc: Global, before: usize) -> Result<(), Failure> {
     let calls = Cell::new(0usize);
     let reader = Stumbling::new(TEXT.as_bytes(), before, Stumble::MovesNone, &calls);
-    ends_well(alloc, Rope::from_reader(alloc, reader), before)?;
-    same!(calls.get(), before.saturating_add(1));
+    expect_end_read(alloc, Rope::from_reader(alloc, reader), before)?;
+    same!(calls.get(), plus(before, 1));
     Ok(())
 }
 
 #[test]
-fn an_end_is_given_once(rt: HostRuntime) -> Result<(), Failure> {
+fn an_end_is_reported_once(rt: HostRuntime) -> Result<(), Failure> {
     for before in 0..13usize {
         within(
             format_args!("before {before}"),
@@ -146,7 +151,7 @@ fn expect_halted(alloc: Global, rope: &Rope, room: usize, stumble: Stumble) -> R
     let answer = write_kind(rope.write_to(&mut writer));
     let (front, _) = TEXT.as_bytes().split_at(room.min(TEXT.len()));
     same!(answer, Some(kind_of(stumble)));
-    same!(calls.get(), room.saturating_add(1));
+    same!(calls.get(), plus(room, 1));
     same!(writer.kept.as_slice(), front);
     Ok(())
 }
@@ -165,12 +170,12 @@ fn expect_halted_and_marked(
     let writer = sink.into_inner();
     let (front, _) = TEXT.as_bytes().split_at(room.min(TEXT.len()));
     same!(answer, Some(kind_of(stumble)));
-    same!(calls.get(), room.saturating_add(1));
+    same!(calls.get(), plus(room, 1));
     same!(writer.kept.as_slice(), front);
     Ok(())
 }
 
-fn halts_at_each_byte(alloc: Global, rope: &Rope, stumble: Stumble) -> Result<(), Failure> {
+fn expect_halted_at_each_byte(alloc: Global, rope: &Rope, stumble: Stumble) -> Result<(), Failure> {
     for room in 0..12usize {
         within(
             format_args!("room {room}"),
@@ -184,11 +189,11 @@ fn halts_at_each_byte(alloc: Global, rope: &Rope, stumble: Stumble) -> Result<()
     Ok(())
 }
 
-fn halts_at_each_failure(alloc: Global, rope: &Rope) -> Result<(), Failure> {
+fn expect_halted_by_each_failure(alloc: Global, rope: &Rope) -> Result<(), Failure> {
     for (row, kind) in KINDS.iter().enumerate() {
         within(
             format_args!("row {row}"),
-            halts_at_each_byte(alloc, rope, Stumble::Fails(*kind)),
+            expect_halted_at_each_byte(alloc, rope, Stumble::Fails(*kind)),
         )?;
     }
     Ok(())
@@ -197,13 +202,13 @@ fn halts_at_each_failure(alloc: Global, rope: &Rope) -> Result<(), Failure> {
 #[test]
 fn a_write_fails_once(rt: HostRuntime) -> Result<(), Failure> {
     let rope = Rope::from_str(rt.alloc(), TEXT)?;
-    halts_at_each_failure(rt.alloc(), &rope)
+    expect_halted_by_each_failure(rt.alloc(), &rope)
 }
 
 #[test]
-fn a_write_takes_none_once(rt: HostRuntime) -> Result<(), Failure> {
+fn a_write_of_no_bytes_fails_once(rt: HostRuntime) -> Result<(), Failure> {
     let rope = Rope::from_str(rt.alloc(), TEXT)?;
-    halts_at_each_byte(rt.alloc(), &rope, Stumble::MovesNone)
+    expect_halted_at_each_byte(rt.alloc(), &rope, Stumble::MovesNone)
 }
 
 /// Fails unless a write of complete chunks stops at the single failure after a number of bytes,
@@ -224,7 +229,7 @@ fn expect_halted_within(
     Ok(())
 }
 
-fn halts_within(alloc: Global, rope: &Rope, text: &str) -> Result<(), Failure> {
+fn expect_halted_within_chunks(alloc: Global, rope: &Rope, text: &str) -> Result<(), Failure> {
     for room in &[0usize, 1, 977, 984, 985, 1962, 2999] {
         let fails = Stumble::Fails(ErrorKind::Interrupted);
         expect_halted_within(alloc, rope, text, *room, fails)?;
@@ -235,8 +240,8 @@ fn halts_within(alloc: Global, rope: &Rope, text: &str) -> Result<(), Failure> {
 }
 
 #[test]
-fn nothing_follows_in_a_later_chunk(rt: HostRuntime) -> Result<(), Failure> {
+fn nothing_is_written_after_a_failed_chunk(rt: HostRuntime) -> Result<(), Failure> {
     let text = repeated(rt.alloc(), "abc\ndefgh\r", 300)?;
     let rope = Rope::from_str(rt.alloc(), text.as_str())?;
-    halts_within(rt.alloc(), &rope, text.as_str())
+    expect_halted_within_chunks(rt.alloc(), &rope, text.as_str())
 }

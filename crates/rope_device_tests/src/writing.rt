@@ -39,7 +39,7 @@ fn expect_written_and_marked(
 }
 
 #[test]
-fn a_failing_write_is_answered_and_marked(rt: HostRuntime) -> Result<(), Failure> {
+fn a_failed_write_is_returned_and_marked(rt: HostRuntime) -> Result<(), Failure> {
     let rope = Rope::from_str(rt.alloc(), "Hello!")?;
     let kind = Some(ErrorKind::Interrupted);
     expect_written_and_marked(&rope, Narrow::new(&rt, 3, 3), kind, b"Hel")?;
@@ -47,7 +47,7 @@ fn a_failing_write_is_answered_and_marked(rt: HostRuntime) -> Result<(), Failure
 }
 
 #[test]
-fn a_write_that_takes_none_is_answered_and_marked(rt: HostRuntime) -> Result<(), Failure> {
+fn a_write_of_no_bytes_is_an_error_and_marked(rt: HostRuntime) -> Result<(), Failure> {
     let rope = Rope::from_str(rt.alloc(), "Hello!")?;
     let kind = Some(ErrorKind::WriteZero);
     expect_written_and_marked(&rope, Narrow::full(&rt), kind, b"")?;
@@ -89,7 +89,7 @@ fn expect_stopped(rt: &HostRuntime, rope: &Rope, bytes: &[u8], room: usize) -> R
     expect_written_and_marked(rope, Narrow::new(rt, 7, room), kind, front)
 }
 
-fn stop_at_each_byte(rt: &HostRuntime, rope: &Rope, bytes: &[u8]) -> Result<(), Failure> {
+fn expect_stopped_at_each_byte(rt: &HostRuntime, rope: &Rope, bytes: &[u8]) -> Result<(), Failure> {
     for room in 0..3001usize {
         within(
             format_args!("room {room}"),
@@ -104,5 +104,5 @@ fn stop_at_each_byte(rt: &HostRuntime, rope: &Rope, bytes: &[u8]) -> Result<(), 
 fn a_write_stops_at_each_byte(rt: HostRuntime) -> Result<(), Failure> {
     let text = repeated(rt.alloc(), "abc\ndefgh\r", 300)?;
     let rope = Rope::from_str(rt.alloc(), text.as_str())?;
-    stop_at_each_byte(&rt, &rope, text.as_str().as_bytes())
+    expect_stopped_at_each_byte(&rt, &rope, text.as_str().as_bytes())
 }

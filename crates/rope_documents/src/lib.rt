@@ -37,8 +37,6 @@ mod content_change;
 mod error;
 pub mod laws;
 mod send;
-#[cfg(test)]
-mod tests;
 
 pub use apply::apply_content_changes;
 pub use content_change::{ContentChange, Range};

@@ -23,7 +23,7 @@ fn counts(steps: Steps) -> [u64; 3] {
 
 /// The root and the leaf are entered. The child is found twice, since its leaf is full and is
 /// split.
-fn counts_a_cut_leaf(rope: &mut Rope) -> Result<(), Failure> {
+fn expect_counts_of_a_split_leaf(rope: &mut Rope) -> Result<(), Failure> {
     let mut steps = LEFT_OVER;
     holds!(rope.len_chars() == 20_000);
     rope.insert_char_counted(10_000, 'x', &mut steps)?;
@@ -32,13 +32,13 @@ fn counts_a_cut_leaf(rope: &mut Rope) -> Result<(), Failure> {
 }
 
 #[test]
-fn an_insert_that_cuts_a_leaf_counts_the_new_leaf(rt: HostRuntime) -> Result<(), Failure> {
+fn an_insert_that_splits_a_leaf_counts_the_new_leaf(rt: HostRuntime) -> Result<(), Failure> {
     let mut rope = rope_of(rt.alloc(), "a", 20_000)?;
-    counts_a_cut_leaf(&mut rope)
+    expect_counts_of_a_split_leaf(&mut rope)
 }
 
 /// The list and the last leaf are copied; two comparisons find the last of 21 children.
-fn counts_copies(rope: &mut Rope) -> Result<(), Failure> {
+fn expect_counts_of_copies(rope: &mut Rope) -> Result<(), Failure> {
     let mut steps = LEFT_OVER;
     holds!(rope.len_chars() == 20_000);
     rope.insert_counted(20_000, "x", &mut steps)?;
@@ -50,12 +50,16 @@ fn counts_copies(rope: &mut Rope) -> Result<(), Failure> {
 fn an_insert_beside_a_clone_counts_the_copies(rt: HostRuntime) -> Result<(), Failure> {
     let rope = rope_of(rt.alloc(), "a", 20_000)?;
     let mut clone = rope.clone()?;
-    counts_copies(&mut clone)
+    expect_counts_of_copies(&mut clone)
 }
 
 /// The leaf is found once. With 2,000 letters in it, it becomes four in a new list of 24: two of
 /// 984 and two of 508. With 4,096, it becomes six, and two lists of 13 replace the root's.
-fn counts_medium_texts(rope: &mut Rope, text: &str, expected: [u64; 3]) -> Result<(), Failure> {
+fn expect_counts_of_a_medium_text(
+    rope: &mut Rope,
+    text: &str,
+    expected: [u64; 3],
+) -> Result<(), Failure> {
     let mut steps = LEFT_OVER;
     holds!(rope.len_chars() == 20_000);
     rope.insert_counted(10_000, text, &mut steps)?;
@@ -68,13 +72,13 @@ fn a_medium_insert_counts_its_leaves_and_their_lists(rt: HostRuntime) -> Result<
     for (letters, expected) in [(2_000, [2, 5, 5]), (4_096, [2, 5, 9])] {
         let mut rope = rope_of(rt.alloc(), "a", 20_000)?;
         let text = repeated(rt.alloc(), "z", letters)?;
-        counts_medium_texts(&mut rope, text.as_str(), expected)?;
+        expect_counts_of_a_medium_text(&mut rope, text.as_str(), expected)?;
     }
     Ok(())
 }
 
 /// A leaf of 6,500 bytes becomes seven, the last of 596 bytes, with a list over them.
-fn counts_a_long_text(alloc: Global, rope: &mut Rope) -> Result<(), Failure> {
+fn expect_counts_of_a_long_text(alloc: Global, rope: &mut Rope) -> Result<(), Failure> {
     let text = repeated(alloc, "z", 6_000)?;
     let mut steps = LEFT_OVER;
     holds!(rope.len_chars() == 500);
@@ -86,10 +90,10 @@ fn counts_a_long_text(alloc: Global, rope: &mut Rope) -> Result<(), Failure> {
 #[test]
 fn a_long_insert_counts_its_leaves_and_their_list(rt: HostRuntime) -> Result<(), Failure> {
     let mut rope = rope_of(rt.alloc(), "a", 500)?;
-    counts_a_long_text(rt.alloc(), &mut rope)
+    expect_counts_of_a_long_text(rt.alloc(), &mut rope)
 }
 
-fn counts_a_short_removal(rope: &mut Rope) -> Result<(), Failure> {
+fn expect_counts_of_a_short_removal(rope: &mut Rope) -> Result<(), Failure> {
     let mut steps = LEFT_OVER;
     holds!(rope.len_chars() == 20_000);
     rope.remove_counted(10_000..10_010, &mut steps)?;
@@ -100,13 +104,13 @@ fn counts_a_short_removal(rope: &mut Rope) -> Result<(), Failure> {
 #[test]
 fn a_removal_in_place_makes_no_node(rt: HostRuntime) -> Result<(), Failure> {
     let mut rope = rope_of(rt.alloc(), "a", 20_000)?;
-    counts_a_short_removal(&mut rope)
+    expect_counts_of_a_short_removal(&mut rope)
 }
 
 /// Each side takes a search, a leaf of its part of the eleventh, and a list. The append looks up
 /// the last character of 11 leaves by two comparisons, to test for a CR, and puts all 22 leaves
 /// into one list.
-fn counts_a_split_and_its_append(rope: &mut Rope) -> Result<(), Failure> {
+fn expect_counts_of_a_split_and_its_append(rope: &mut Rope) -> Result<(), Failure> {
     let mut split = LEFT_OVER;
     let mut joined = LEFT_OVER;
     holds!(rope.len_chars() == 20_000);
@@ -120,11 +124,11 @@ fn counts_a_split_and_its_append(rope: &mut Rope) -> Result<(), Failure> {
 #[test]
 fn a_split_counts_both_sides_and_an_append_its_list(rt: HostRuntime) -> Result<(), Failure> {
     let mut rope = rope_of(rt.alloc(), "a", 20_000)?;
-    counts_a_split_and_its_append(&mut rope)
+    expect_counts_of_a_split_and_its_append(&mut rope)
 }
 
 /// Calls that enter no node set all counts to 0.
-fn counts_nothing(alloc: Global, rope: &mut Rope) -> Result<(), Failure> {
+fn expect_no_counts(alloc: Global, rope: &mut Rope) -> Result<(), Failure> {
     let mut steps = [LEFT_OVER; 3];
     holds!(rope.len_chars() == 20_000);
     rope.insert_counted(7, "", &mut steps[0])?;
@@ -140,5 +144,5 @@ fn counts_nothing(alloc: Global, rope: &mut Rope) -> Result<(), Failure> {
 #[test]
 fn edits_that_have_nothing_to_do_count_nothing(rt: HostRuntime) -> Result<(), Failure> {
     let mut rope = rope_of(rt.alloc(), "a", 20_000)?;
-    counts_nothing(rt.alloc(), &mut rope)
+    expect_no_counts(rt.alloc(), &mut rope)
 }

@@ -72,7 +72,7 @@ const ROWS: [Row<'static>; 5] = [
     },
 ];
 
-fn takes_all(rope: &mut Rope, inserts: &[(usize, &str)]) -> Result<(), Failure> {
+fn insert_all(rope: &mut Rope, inserts: &[(usize, &str)]) -> Result<(), Failure> {
     for (char_idx, text) in inserts {
         rope.try_insert(*char_idx, text)?;
     }
@@ -80,7 +80,7 @@ fn takes_all(rope: &mut Rope, inserts: &[(usize, &str)]) -> Result<(), Failure> 
 }
 
 fn expect_edited(rope: &mut Rope, row: &Row<'_>) -> Result<(), Failure> {
-    takes_all(rope, row.inserts)?;
+    insert_all(rope, row.inserts)?;
     let chunks = rope.chunks().count();
     same!(lens(rope), row.lens);
     holds!(row.least <= chunks);
@@ -94,7 +94,7 @@ fn expect_row(alloc: Global, row: &Row<'_>) -> Result<(), Failure> {
 }
 
 #[test]
-fn inserts_keep_make_and_part_pairs(rt: HostRuntime) -> Result<(), Failure> {
+fn inserts_keep_make_and_split_pairs(rt: HostRuntime) -> Result<(), Failure> {
     for (number, row) in ROWS.iter().enumerate() {
         within(format_args!("row {number}"), expect_row(rt.alloc(), row))?;
     }

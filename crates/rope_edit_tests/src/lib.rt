@@ -7,12 +7,9 @@
 //! - texts of 2^62 bytes are edited without a scan.
 //!
 //! The proofs show these too, and they are run to test the compiler: each edit gives its text, with
-//! its lengths and lookups, and clones don't change. Breaks and wide characters are where leaves
-//! are cut.
+//! its lengths and lookups, and clones don't change.
 #![tactic(auto)]
 
-#[cfg(test)]
-mod building;
 #[cfg(test)]
 mod counts;
 #[cfg(test)]
@@ -24,22 +21,12 @@ mod pairs;
 #[cfg(test)]
 mod random_edits;
 #[cfg(test)]
-mod random_inserts;
-#[cfg(test)]
-mod random_marks;
-#[cfg(test)]
-mod random_versions;
-#[cfg(test)]
 mod refusals;
 #[cfg(test)]
 mod removals;
-#[cfg(test)]
-mod seams;
 #[cfg(test)]
 mod short_chunks;
 #[cfg(test)]
 mod shrinking;
 #[cfg(test)]
 mod texts;
-#[cfg(test)]
-mod words;

@@ -1,7 +1,7 @@
 //! Ropes of the maximum length, with shared nodes.
-use rope_plain::compare::{compare_unicode, lens};
+use rope_plain::compare::{expect_plain_unicode, lens};
 use rope_plain::failure::{Failure, within};
-use rope_plain::texts::repeated;
+use rope_plain::texts::{doubled, repeated};
 use rope_plain::{holds, same};
 use ropey::{Error, Rope, Steps};
 use std::alloc::Global;
@@ -17,21 +17,6 @@ const DOUBLED: [(&str, usize, [usize; 4]); 3] = [
     ("\r\n", 61, [WHOLE, WHOLE, 2_305_843_009_213_693_953, WHOLE]),
     ("🐸", 60, [WHOLE, 1 << 60, 1, HALF]),
 ];
-
-fn double(rope: &mut Rope, times: usize) -> Result<(), Error> {
-    for _ in 0..times {
-        let copy = rope.clone()?;
-        rope.append(copy)?;
-    }
-    Ok(())
-}
-
-/// Returns a text that is joined to itself `times` times.
-fn doubled(alloc: Global, text: &str, times: usize) -> Result<Rope, Error> {
-    let mut rope = Rope::from_str(alloc, text)?;
-    double(&mut rope, times)?;
-    Ok(rope)
-}
 
 fn expect_lengths(
     alloc: Global,
@@ -70,13 +55,13 @@ enum Step<'a> {
 fn expect_char(rope: &Rope, char_idx: usize, c: char) -> Result<(), Failure> {
     holds!(char_idx < rope.len_chars());
     let mut steps = Steps::new();
-    let answers = [rope.char(char_idx), rope.char_counted(char_idx, &mut steps)];
-    same!(answers, [c, c]);
+    let results = [rope.char(char_idx), rope.char_counted(char_idx, &mut steps)];
+    same!(results, [c, c]);
     same!(rope.get_char(char_idx), Some(c));
     Ok(())
 }
 
-fn refuses_its_double(rope: &mut Rope) -> Result<(), Failure> {
+fn expect_double_refused(rope: &mut Rope) -> Result<(), Failure> {
     let copy = rope.clone()?;
     same!(rope.append(copy), Err(Error::TooLong));
     same!(rope.len_bytes(), WHOLE);
@@ -84,7 +69,7 @@ fn refuses_its_double(rope: &mut Rope) -> Result<(), Failure> {
 }
 
 /// Fails unless a rope is joined with the rest of another after its first character.
-fn takes_rest(rope: &mut Rope, first: &mut Rope) -> Result<(), Failure> {
+fn expect_rest_appended(rope: &mut Rope, first: &mut Rope) -> Result<(), Failure> {
     let rest = first.try_split_off(1)?;
     let lens = [first.len_bytes(), rest.len_bytes()];
     rope.append(rest)?;
@@ -93,14 +78,14 @@ fn takes_rest(rope: &mut Rope, first: &mut Rope) -> Result<(), Failure> {
 }
 
 /// Fails unless a text is joined with itself except for one character.
-fn joins_with_itself_but_one(rope: &mut Rope) -> Result<(), Failure> {
+fn expect_joined_but_one(rope: &mut Rope) -> Result<(), Failure> {
     let mut first = rope.clone()?;
-    takes_rest(rope, &mut first)
+    expect_rest_appended(rope, &mut first)
 }
 
-fn refuses_more(rope: &mut Rope) -> Result<(), Failure> {
-    let answers = [rope.try_insert_char(0, 'x'), rope.try_insert(0, "")];
-    same!(answers, [Err(Error::TooLong), Ok(())]);
+fn expect_more_refused(rope: &mut Rope) -> Result<(), Failure> {
+    let results = [rope.try_insert_char(0, 'x'), rope.try_insert(0, "")];
+    same!(results, [Err(Error::TooLong), Ok(())]);
     same!(rope.len_bytes(), isize::MAX as usize);
     holds!(rope.depth() <= 18);
     Ok(())
@@ -109,9 +94,9 @@ fn refuses_more(rope: &mut Rope) -> Result<(), Failure> {
 /// Fails unless the longest text is made, cut after its first character and joined with a text of
 /// that length, and takes no more.
 fn expect_made_longest(rope: &mut Rope) -> Result<(), Failure> {
-    joins_with_itself_but_one(rope)?;
+    expect_joined_but_one(rope)?;
     same!(rope.len_bytes(), isize::MAX as usize);
-    refuses_more(rope)
+    expect_more_refused(rope)
 }
 
 /// Fails unless a character and a text are inserted into the middle, and all but the ends removed.
@@ -124,7 +109,7 @@ fn expect_edited(rope: &mut Rope) -> Result<(), Failure> {
     expect_char(rope, HALF, 'y')?;
     holds!(rope.len_chars() == WHOLE + 3);
     rope.remove(1..WHOLE + 2)?;
-    compare_unicode(rope, &['a', 'a'])
+    expect_plain_unicode(rope, &['a', 'a'])
 }
 
 fn expect_copy_edited(whole: &Rope) -> Result<(), Failure> {
@@ -149,33 +134,33 @@ fn expect_edited_counted(rope: &mut Rope) -> Result<(), Failure> {
     expect_char(rope, HALF, 'y')?;
     holds!(rope.len_chars() == WHOLE + 3);
     rope.remove_counted(1..WHOLE + 2, &mut steps)?;
-    compare_unicode(rope, &['a', 'a'])
+    expect_plain_unicode(rope, &['a', 'a'])
 }
 
-fn takes_long(rope: &mut Rope, text: &str) -> Result<(), Failure> {
+fn expect_long_text_inserted(rope: &mut Rope, text: &str) -> Result<(), Failure> {
     rope.try_insert(HALF, text)?;
     same!(rope.len_bytes(), WHOLE + 6_000);
     expect_char(rope, HALF + 5_999, 'z')?;
     expect_char(rope, HALF + 6_000, 'a')
 }
 
-fn does(rope: &mut Rope, step: Step<'_>) -> Result<(), Failure> {
+fn expect_step(rope: &mut Rope, step: Step<'_>) -> Result<(), Failure> {
     match step {
-        Step::Double => refuses_its_double(rope),
+        Step::Double => expect_double_refused(rope),
         Step::MakeLongest => expect_made_longest(rope),
         Step::EditClone => expect_clone_edited(rope),
         Step::EditCounted => expect_edited_counted(rope),
-        Step::InsertLong(text) => takes_long(rope, text),
+        Step::InsertLong(text) => expect_long_text_inserted(rope, text),
     }
 }
 
 fn expect_done(alloc: Global, step: Step<'_>) -> Result<(), Failure> {
     let mut rope = doubled(alloc, "a", 62)?;
-    does(&mut rope, step)
+    expect_step(&mut rope, step)
 }
 
 #[test]
-fn the_longest_text_is_made_and_takes_no_more(rt: HostRuntime) -> Result<(), Failure> {
+fn the_longest_text_is_made_and_refuses_more(rt: HostRuntime) -> Result<(), Failure> {
     expect_done(rt.alloc(), Step::Double)?;
     expect_done(rt.alloc(), Step::MakeLongest)
 }
@@ -187,7 +172,7 @@ fn a_text_of_2_to_the_62_bytes_is_edited_in_the_middle(rt: HostRuntime) -> Resul
 }
 
 #[test]
-fn a_text_of_2_to_the_62_bytes_takes_a_long_one(rt: HostRuntime) -> Result<(), Failure> {
+fn a_long_text_is_inserted_into_2_to_the_62_bytes(rt: HostRuntime) -> Result<(), Failure> {
     let text = repeated(rt.alloc(), "z", 6_000)?;
     expect_done(rt.alloc(), Step::InsertLong(text.as_str()))
 }

@@ -1,6 +1,6 @@
 //! Long texts of CR and LF alone, against rows worked by hand and plain lists of characters.
 use crate::texts::add_letters;
-use rope_plain::compare::{compare_unicode, expect_text, lens};
+use rope_plain::compare::{expect_plain_unicode, expect_text, lens};
 use rope_plain::failure::{Failure, within};
 use rope_plain::texts::{chars_of, repeated, rope_of};
 use rope_plain::{holds, same};
@@ -10,25 +10,25 @@ use std::alloc::{AllocError, Global};
 /// Fails unless a clone without its first break is this text.
 fn expect_without_first(whole: &Rope, rest: &[char]) -> Result<(), Failure> {
     let mut rope = whole.clone()?;
-    loses_first(&mut rope, rest)
+    expect_first_removed(&mut rope, rest)
 }
 
-fn loses_first(rope: &mut Rope, rest: &[char]) -> Result<(), Failure> {
+fn expect_first_removed(rope: &mut Rope, rest: &[char]) -> Result<(), Failure> {
     rope.try_remove(0..1)?;
     same!(lens(rope), [3_999, 3_999, 2_001, 3_999]);
-    compare_unicode(rope, rest)
+    expect_plain_unicode(rope, rest)
 }
 
 /// Fails unless a clone with a CR before its first break is this text.
 fn expect_with_cr_first(whole: &Rope, all: &[char]) -> Result<(), Failure> {
     let mut rope = whole.clone()?;
-    takes_cr(&mut rope, all)
+    expect_cr_inserted(&mut rope, all)
 }
 
-fn takes_cr(rope: &mut Rope, all: &[char]) -> Result<(), Failure> {
+fn expect_cr_inserted(rope: &mut Rope, all: &[char]) -> Result<(), Failure> {
     rope.try_insert(0, "\r")?;
     same!(lens(rope), [4_001, 4_001, 2_002, 4_001]);
-    compare_unicode(rope, all)
+    expect_plain_unicode(rope, all)
 }
 
 /// Fails unless clones are edited, and the rope, which is all but a CR before it, doesn't change.
@@ -42,7 +42,7 @@ fn expect_clones_edited(whole: &Rope, all: &[char]) -> Result<(), Failure> {
     same!(lens(whole), [4_000, 4_000, 2_002, 4_000]);
     expect_without_first(whole, rest)?;
     expect_with_cr_first(whole, all)?;
-    compare_unicode(whole, plain)
+    expect_plain_unicode(whole, plain)
 }
 
 /// Appends a text `times` times, and then another.

@@ -5,13 +5,13 @@ use rope_plain::same;
 use ropey::{Error, Rope};
 use std::alloc::Global;
 
-fn refuses_inserts(rope: &mut Rope) -> Result<(), Failure> {
+fn expect_inserts_refused(rope: &mut Rope) -> Result<(), Failure> {
     let refused = [rope.try_insert(7, "x"), rope.try_insert(7, "")];
     same!(refused, [Err(Error::CharIndexOutOfBounds(7, 6)); 2]);
     Ok(())
 }
 
-fn refuses_ranges(rope: &mut Rope) -> Result<(), Failure> {
+fn expect_ranges_refused(rope: &mut Rope) -> Result<(), Failure> {
     let refused = [
         rope.try_remove(9..7),
         rope.try_remove(4..2),
@@ -26,7 +26,7 @@ fn refuses_ranges(rope: &mut Rope) -> Result<(), Failure> {
     Ok(())
 }
 
-fn refuses_a_split(rope: &mut Rope) -> Result<(), Failure> {
+fn expect_split_refused(rope: &mut Rope) -> Result<(), Failure> {
     match rope.try_split_off(7) {
         Ok(_) => Err(Failure::new("a split past the end is not refused")),
         Err(refused) => {
@@ -36,21 +36,21 @@ fn refuses_a_split(rope: &mut Rope) -> Result<(), Failure> {
     }
 }
 
-fn cuts_nothing_off(alloc: Global, rope: &mut Rope) -> Result<(), Failure> {
+fn expect_nothing_split_off(alloc: Global, rope: &mut Rope) -> Result<(), Failure> {
     let back = rope.try_split_off(6)?;
     expect_text(alloc, &back, "")
 }
 
 /// Fails unless an empty split and an empty removal succeed at the end.
-fn leaves_all(alloc: Global, rope: &mut Rope) -> Result<(), Failure> {
-    cuts_nothing_off(alloc, rope)?;
+fn expect_all_left(alloc: Global, rope: &mut Rope) -> Result<(), Failure> {
+    expect_nothing_split_off(alloc, rope)?;
     expect_text(alloc, rope, "Hello!")?;
     rope.try_remove(6..6)?;
     Ok(())
 }
 
 /// Fails unless a text, an empty text and a character are inserted at the end.
-fn takes_more(alloc: Global, rope: &mut Rope) -> Result<(), Failure> {
+fn expect_more_inserted(alloc: Global, rope: &mut Rope) -> Result<(), Failure> {
     rope.try_insert(6, "x")?;
     expect_text(alloc, rope, "Hello!x")?;
     let taken = [rope.try_insert(7, ""), rope.try_insert_char(7, 'y')];
@@ -71,18 +71,18 @@ fn expect_printed(alloc: Global, rope: &mut Rope) -> Result<(), Failure> {
     Ok(())
 }
 
-fn refuses_all(alloc: Global, rope: &mut Rope) -> Result<(), Failure> {
-    refuses_inserts(rope)?;
-    refuses_ranges(rope)?;
-    refuses_a_split(rope)?;
+fn expect_all_refused(alloc: Global, rope: &mut Rope) -> Result<(), Failure> {
+    expect_inserts_refused(rope)?;
+    expect_ranges_refused(rope)?;
+    expect_split_refused(rope)?;
     expect_printed(alloc, rope)?;
-    leaves_all(alloc, rope)?;
+    expect_all_left(alloc, rope)?;
     expect_text(alloc, rope, "Hello!")?;
-    takes_more(alloc, rope)
+    expect_more_inserted(alloc, rope)
 }
 
 #[test]
-fn a_short_rope_refuses_what_lies_past_its_end(rt: HostRuntime) -> Result<(), Failure> {
+fn a_short_rope_refuses_indices_past_its_end(rt: HostRuntime) -> Result<(), Failure> {
     let mut rope = Rope::from_str(rt.alloc(), "Hello!")?;
-    refuses_all(rt.alloc(), &mut rope)
+    expect_all_refused(rt.alloc(), &mut rope)
 }

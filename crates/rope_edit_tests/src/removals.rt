@@ -1,6 +1,6 @@
 //! Ropes with a range removed, split and joined again, against rows worked by hand.
 use crate::texts::add_letters;
-use rope_plain::compare::{compare_unicode, expect_text, expect_together, lens};
+use rope_plain::compare::{expect_plain_unicode, expect_text, expect_together, lens};
 use rope_plain::failure::{Failure, within};
 use rope_plain::texts::{padded, rope_of};
 use rope_plain::{holds, same};
@@ -8,7 +8,7 @@ use ropey::{Rope, Steps};
 use std::alloc::{AllocError, Global};
 use std::str;
 
-fn leaves_the_ends(rope: &mut Rope) -> Result<(), Failure> {
+fn expect_ends_left(rope: &mut Rope) -> Result<(), Failure> {
     holds!(rope.len_chars() == 2_000);
     rope.remove(1..1_999)?;
     let counts = [
@@ -17,7 +17,7 @@ fn leaves_the_ends(rope: &mut Rope) -> Result<(), Failure> {
         rope.depth(),
         rope.capacity(),
     ];
-    compare_unicode(rope, &['\r', '\n'])?;
+    expect_plain_unicode(rope, &['\r', '\n'])?;
     same!(counts, [2, 1, 0, 984]);
     Ok(())
 }
@@ -25,7 +25,7 @@ fn leaves_the_ends(rope: &mut Rope) -> Result<(), Failure> {
 #[test]
 fn a_removal_of_all_pairs_leaves_a_pair(rt: HostRuntime) -> Result<(), Failure> {
     let mut rope = rope_of(rt.alloc(), "\r\n", 1_000)?;
-    leaves_the_ends(&mut rope)
+    expect_ends_left(&mut rope)
 }
 
 /// An edit of a clone of a million letters.
@@ -58,16 +58,16 @@ const STEPS: [Step; 13] = [
     Step::CountAppend,
 ];
 
-fn leaves_one(rope: &mut Rope) -> Result<(), Failure> {
+fn expect_one_left(rope: &mut Rope) -> Result<(), Failure> {
     rope.try_remove(0..999_999)?;
-    compare_unicode(rope, &['a'])?;
+    expect_plain_unicode(rope, &['a'])?;
     same!([rope.chunks().count(), rope.depth()], [1, 0]);
     Ok(())
 }
 
-fn leaves_twenty(rope: &mut Rope) -> Result<(), Failure> {
+fn expect_twenty_left(rope: &mut Rope) -> Result<(), Failure> {
     rope.try_remove(10..999_990)?;
-    compare_unicode(rope, &['a'; 20])?;
+    expect_plain_unicode(rope, &['a'; 20])?;
     holds!(rope.depth() <= 1);
     Ok(())
 }
@@ -83,7 +83,7 @@ fn expect_split(front: &mut Rope, char_idx: usize, rest: usize) -> Result<(), Fa
     Ok(())
 }
 
-fn counts_an_insert(rope: &mut Rope) -> Result<(), Failure> {
+fn expect_insert_counted(rope: &mut Rope) -> Result<(), Failure> {
     let mut steps = Steps::new();
     holds!(rope.len_chars() == 1_000_000);
     rope.insert_char_counted(500_000, 'x', &mut steps)?;
@@ -96,7 +96,7 @@ fn counts_an_insert(rope: &mut Rope) -> Result<(), Failure> {
 /// A text of three leaves.
 const LONG_TEXT: [u8; 2_000] = [b'y'; 2_000];
 
-fn counts_a_long_insert(rope: &mut Rope) -> Result<(), Failure> {
+fn expect_long_insert_counted(rope: &mut Rope) -> Result<(), Failure> {
     let mut steps = Steps::new();
     holds!(rope.len_chars() == 1_000_000);
     let Ok(text) = str::from_utf8(&LONG_TEXT) else {
@@ -109,7 +109,7 @@ fn counts_a_long_insert(rope: &mut Rope) -> Result<(), Failure> {
     Ok(())
 }
 
-fn counts_a_removal(rope: &mut Rope) -> Result<(), Failure> {
+fn expect_removal_counted(rope: &mut Rope) -> Result<(), Failure> {
     let mut steps = Steps::new();
     holds!(rope.len_chars() == 1_000_000);
     rope.remove_counted(10..999_990, &mut steps)?;
@@ -118,7 +118,7 @@ fn counts_a_removal(rope: &mut Rope) -> Result<(), Failure> {
     Ok(())
 }
 
-fn counts_a_split(front: &mut Rope) -> Result<(), Failure> {
+fn expect_split_counted(front: &mut Rope) -> Result<(), Failure> {
     holds!(front.len_chars() == 1_000_000);
     let mut steps = Steps::new();
     let rest = front.split_off_counted(500_000, &mut steps)?.len_bytes();
@@ -127,7 +127,7 @@ fn counts_a_split(front: &mut Rope) -> Result<(), Failure> {
     Ok(())
 }
 
-fn counts_an_append(front: &mut Rope) -> Result<(), Failure> {
+fn expect_append_counted(front: &mut Rope) -> Result<(), Failure> {
     let mut steps = Steps::new();
     let back = front.try_split_off(500_000)?;
     front.append_counted(back, &mut steps)?;
@@ -136,23 +136,23 @@ fn counts_an_append(front: &mut Rope) -> Result<(), Failure> {
     Ok(())
 }
 
-fn does(rope: &mut Rope, step: Step) -> Result<(), Failure> {
+fn expect_step(rope: &mut Rope, step: Step) -> Result<(), Failure> {
     match step {
-        Step::LeaveOne => leaves_one(rope),
-        Step::LeaveTwenty => leaves_twenty(rope),
+        Step::LeaveOne => expect_one_left(rope),
+        Step::LeaveTwenty => expect_twenty_left(rope),
         Step::Split(char_idx, rest) => expect_split(rope, char_idx, rest),
-        Step::CountInsert => counts_an_insert(rope),
-        Step::CountLongInsert => counts_a_long_insert(rope),
-        Step::CountRemoval => counts_a_removal(rope),
-        Step::CountSplit => counts_a_split(rope),
-        Step::CountAppend => counts_an_append(rope),
+        Step::CountInsert => expect_insert_counted(rope),
+        Step::CountLongInsert => expect_long_insert_counted(rope),
+        Step::CountRemoval => expect_removal_counted(rope),
+        Step::CountSplit => expect_split_counted(rope),
+        Step::CountAppend => expect_append_counted(rope),
     }
 }
 
 /// Fails unless a clone is edited.
 fn expect_clone_done(whole: &Rope, step: Step) -> Result<(), Failure> {
     let mut rope = whole.clone()?;
-    does(&mut rope, step)
+    expect_step(&mut rope, step)
 }
 
 /// Fails unless a clone is edited, and the rope doesn't change.
@@ -179,7 +179,7 @@ fn a_million_letters_are_cut_split_and_counted(rt: HostRuntime) -> Result<(), Fa
     expect_all_done(&whole)
 }
 
-fn add_parted_pair(text: &mut String) -> Result<(), AllocError> {
+fn add_split_pair(text: &mut String) -> Result<(), AllocError> {
     add_letters(text, "a", 983)?;
     text.push_str("\r")?;
     add_letters(text, "x", 984)?;
@@ -188,24 +188,24 @@ fn add_parted_pair(text: &mut String) -> Result<(), AllocError> {
 }
 
 /// Returns a CR, 984 letters and an LF, between letters.
-fn parted_pair(alloc: Global) -> Result<String, AllocError> {
+fn split_pair(alloc: Global) -> Result<String, AllocError> {
     let mut text = String::new(alloc);
-    add_parted_pair(&mut text)?;
+    add_split_pair(&mut text)?;
     Ok(text)
 }
 
 /// Fails unless a pair meets where the letters between are removed.
-fn meets_by_removal(rope: &mut Rope) -> Result<(), Failure> {
+fn expect_pair_joined_by_removal(rope: &mut Rope) -> Result<(), Failure> {
     rope.try_remove(984..1_968)?;
     same!(lens(rope), [1_969, 1_969, 2, 1_969]);
     expect_together(rope, 983)
 }
 
 #[test]
-fn a_pair_that_meets_by_a_removal_lies_in_one_chunk(rt: HostRuntime) -> Result<(), Failure> {
-    let text = parted_pair(rt.alloc())?;
+fn a_pair_joined_by_a_removal_is_in_one_chunk(rt: HostRuntime) -> Result<(), Failure> {
+    let text = split_pair(rt.alloc())?;
     let mut rope = Rope::from_str(rt.alloc(), text.as_str())?;
-    meets_by_removal(&mut rope)
+    expect_pair_joined_by_removal(&mut rope)
 }
 
 fn expect_a_pair(rope: &Rope) -> Result<(), Failure> {
@@ -223,22 +223,22 @@ fn expect_joined_text(alloc: Global, rope: &Rope) -> Result<(), Failure> {
 }
 
 /// Fails unless a text of an LF is appended to one that ends in CR.
-fn takes_lf(alloc: Global, rope: &mut Rope) -> Result<(), Failure> {
+fn append_lf(alloc: Global, rope: &mut Rope) -> Result<(), Failure> {
     let lf = Rope::from_str(alloc, "\n")?;
     rope.append(lf)?;
     Ok(())
 }
 
 /// Fails unless a pair meets where an LF is appended to the CR at the end.
-fn meets_by_append(alloc: Global, rope: &mut Rope) -> Result<(), Failure> {
-    takes_lf(alloc, rope)?;
+fn expect_pair_joined_by_append(alloc: Global, rope: &mut Rope) -> Result<(), Failure> {
+    append_lf(alloc, rope)?;
     expect_a_pair(rope)?;
     expect_joined_text(alloc, rope)
 }
 
 #[test]
-fn a_pair_that_meets_by_an_append_lies_in_one_chunk(rt: HostRuntime) -> Result<(), Failure> {
+fn a_pair_joined_by_an_append_is_in_one_chunk(rt: HostRuntime) -> Result<(), Failure> {
     let text = padded(rt.alloc(), "", 984, "\r")?;
     let mut rope = Rope::from_str(rt.alloc(), text.as_str())?;
-    meets_by_append(rt.alloc(), &mut rope)
+    expect_pair_joined_by_append(rt.alloc(), &mut rope)
 }

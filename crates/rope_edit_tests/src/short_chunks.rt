@@ -3,6 +3,7 @@ use rope_plain::compare::{expect_no_short_chunks, expect_text};
 use rope_plain::failure::{Failure, within};
 use rope_plain::numbers::Numbers;
 use rope_plain::same;
+use rope_plain::sums::{minus, plus};
 use rope_plain::texts::{padded, repeated, rope_of};
 use ropey::{Error, Rope};
 use std::alloc::Global;
@@ -40,8 +41,8 @@ fn expect_only_ends(alloc: Global, rope: &Rope) -> Result<(), Failure> {
 
 /// Fails unless the middle of the chunk that starts at `start` is removed.
 fn expect_emptied(rope: &mut Rope, start: usize) -> Result<(), Failure> {
-    let first = start.saturating_add(1);
-    rope.try_remove(first..first.saturating_add(FULL - 2))?;
+    let first = plus(start, 1);
+    rope.try_remove(first..plus(first, FULL - 2))?;
     expect_no_short_chunks(rope)
 }
 
@@ -51,23 +52,23 @@ fn expect_emptied_beside_clone(rope: &mut Rope, start: usize) -> Result<(), Fail
     let emptied = expect_emptied(rope, start);
     let kept = old.len_bytes();
     emptied?;
-    same!(kept, rope.len_bytes().saturating_add(FULL - 2));
+    same!(kept, plus(rope.len_bytes(), FULL - 2));
     Ok(())
 }
 
 fn expect_emptied_by_letters(rope: &mut Rope, start: usize) -> Result<(), Failure> {
-    let first = start.saturating_add(1);
+    let first = plus(start, 1);
     for _ in 0..FULL - 2 {
-        rope.try_remove(first..first.saturating_add(1))?;
+        rope.try_remove(first..plus(first, 1))?;
     }
     expect_no_short_chunks(rope)
 }
 
 /// Fails unless a chunk is emptied after others of these lengths; its new length is noted.
-fn expect_emptied_behind(rope: &mut Rope, lens: &mut [usize], chunk: usize) -> Result<(), Failure> {
+fn expect_emptied_after(rope: &mut Rope, lens: &mut [usize], chunk: usize) -> Result<(), Failure> {
     let mut start: usize = 0;
     for len in lens.iter().take(chunk) {
-        start = start.saturating_add(*len);
+        start = plus(start, *len);
     }
     if let Some(len) = lens.get_mut(chunk) {
         *len = 2;
@@ -82,12 +83,12 @@ fn expect_turn_done(
     order: Order,
     turn: usize,
 ) -> Result<(), Failure> {
-    let last = (CHUNKS - 1).saturating_sub(turn).saturating_mul(FULL);
+    let last = minus(CHUNKS - 1, turn).saturating_mul(FULL);
     match order {
         Order::FromTheLast => expect_emptied(rope, last),
         Order::FromTheFirst => expect_emptied(rope, turn.saturating_mul(2)),
         Order::BesideClones => expect_emptied_beside_clone(rope, last),
-        Order::InJumps => expect_emptied_behind(rope, lens, turn.saturating_mul(173) % CHUNKS),
+        Order::InJumps => expect_emptied_after(rope, lens, turn.saturating_mul(173) % CHUNKS),
         Order::ByLetters => expect_emptied_by_letters(rope, last),
     }
 }
@@ -144,20 +145,20 @@ fn chunks_emptied_letter_by_letter_are_joined(rt: HostRuntime) -> Result<(), Fai
 const SEED: u64 = 0x9E37_79B9_7F4A_7C15;
 
 /// Fails unless a thousand letters are removed, each at a random index.
-fn loses_a_thousand(rope: &mut Rope, numbers: &mut Numbers) -> Result<(), Failure> {
+fn expect_thousand_removed(rope: &mut Rope, numbers: &mut Numbers) -> Result<(), Failure> {
     for _ in 0..1_000usize {
-        let at = numbers.up_to(rope.len_chars().saturating_sub(1));
+        let at = numbers.up_to(minus(rope.len_chars(), 1));
         rope.try_remove(at..=at)?;
     }
     expect_no_short_chunks(rope)
 }
 
-fn loses_a_million(rope: &mut Rope) -> Result<(), Failure> {
+fn expect_million_removed(rope: &mut Rope) -> Result<(), Failure> {
     let mut numbers = Numbers::new(SEED);
     for round in 0..1_000usize {
         within(
             format_args!("seed {SEED:#x}, round {round}"),
-            loses_a_thousand(rope, &mut numbers),
+            expect_thousand_removed(rope, &mut numbers),
         )?;
     }
     same!([rope.len_bytes(), rope.chunks().count()], [0, 0]);
@@ -165,7 +166,7 @@ fn loses_a_million(rope: &mut Rope) -> Result<(), Failure> {
 }
 
 #[test]
-fn a_million_letters_taken_at_random_leave_none(rt: HostRuntime) -> Result<(), Failure> {
+fn a_million_letters_removed_at_random_leave_none(rt: HostRuntime) -> Result<(), Failure> {
     let mut rope = rope_of(rt.alloc(), "a", 1_000_000)?;
-    loses_a_million(&mut rope)
+    expect_million_removed(&mut rope)
 }

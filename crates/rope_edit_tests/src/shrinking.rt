@@ -1,5 +1,5 @@
 //! Ropes that are re-chunked after many edits have left their chunks short.
-use rope_plain::compare::{compare_unicode, expect_few_chunks, lens};
+use rope_plain::compare::{expect_few_chunks, expect_plain_unicode, lens};
 use rope_plain::failure::Failure;
 use rope_plain::same;
 use ropey::{Error, Rope};
@@ -15,12 +15,12 @@ fn expect_typed(rope: &mut Rope) -> Result<(), Failure> {
     type_at_the_front(rope, 5_000)?;
     same!(lens(rope), [5_000, 5_000, 1, 5_000]);
     same!(rope.chunks().count(), 6);
-    compare_unicode(rope, &['a'; 5_000])
+    expect_plain_unicode(rope, &['a'; 5_000])
 }
 
 fn expect_empty(rope: &mut Rope) -> Result<(), Failure> {
     rope.shrink_to_fit()?;
-    compare_unicode(rope, &[])?;
+    expect_plain_unicode(rope, &[])?;
     expect_few_chunks(rope)
 }
 

@@ -39,8 +39,6 @@ mod error;
 pub mod laws;
 mod layout;
 mod reading;
-#[cfg(test)]
-mod tests;
 mod writing;
 
 pub use encoding::Encoding;

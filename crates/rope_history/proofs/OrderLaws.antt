@@ -416,8 +416,10 @@ taken start end marks order i m lt is first last =
     let view = marks_in marks order in
     let rest = filter (touches start end) (drop (i + 1) view) in
     at_drop_more (filter (touches start end)) view i none (omega (arith, lt, count_in marks order))
-    ∙ ap (λ x. filter (touches start end) (x ∷ drop (i + 1) view)) (at_in marks order i none lt ∙ sym is)
-    ∙ ap₂ (λ a b. cond (a && b) (m ∷ rest) rest) (le-leb m.start end first) (le-leb start m.end last)
+    ∙ ap (λ x. filter (touches start end) (x ∷ drop (i + 1) view)) (at_in marks order i none lt
+    ∙ sym is)
+    ∙ ap₂ (λ a b. cond (a && b) (m ∷ rest) rest) (le-leb m.start end first)
+    (le-leb start m.end last)
 
 pub skipped : (start end : ℕ) (marks : List Mark) (order : List ℕ) (i : ℕ) (m : Mark)
     → i < length order → m ≡ mark_at marks (get_or order i 0) → m.start ≤ end → m.end < start
@@ -427,8 +429,10 @@ skipped start end marks order i m lt is first last =
     let view = marks_in marks order in
     let rest = filter (touches start end) (drop (i + 1) view) in
     at_drop_more (filter (touches start end)) view i none (omega (arith, lt, count_in marks order))
-    ∙ ap (λ x. filter (touches start end) (x ∷ drop (i + 1) view)) (at_in marks order i none lt ∙ sym is)
-    ∙ ap₂ (λ a b. cond (a && b) (m ∷ rest) rest) (le-leb m.start end first) (lt-leb start m.end last)
+    ∙ ap (λ x. filter (touches start end) (x ∷ drop (i + 1) view)) (at_in marks order i none lt
+    ∙ sym is)
+    ∙ ap₂ (λ a b. cond (a && b) (m ∷ rest) rest) (le-leb m.start end first)
+    (lt-leb start m.end last)
 
 -- no mark from one on that starts after the end of a range touches it
 pub past_last : (start end : ℕ) (marks : List Mark) (order : List ℕ) (i : ℕ) (m : Mark)

@@ -38,8 +38,6 @@
 
 mod history;
 mod marks;
-#[cfg(test)]
-mod tests;
 
 pub use history::History;
 pub use marks::{Mark, Marks, Within};

@@ -27,38 +27,47 @@ length-text_front bs = length-take-le (utf8_valid_len bs) bs (utf8_valid_len_le 
 -- no prefix of the rest is text
 pub rest_stays : (bs : List ℕ) → utf8_valid_len (text_rest bs) ≡ 0
 rest_stays bs =
-    let e : utf8_valid_len bs ≡ length (text_front bs) + utf8_valid_len (text_rest bs) = ap utf8_valid_len (sym (take-append-drop (utf8_valid_len bs) bs)) ∙ utf8_valid_len-append (text_front bs) (text_rest bs) (IsUtf8-text_front bs) in
+    let e : utf8_valid_len bs ≡ length (text_front bs) + utf8_valid_len (text_rest bs) =
+    ap utf8_valid_len (sym (take-append-drop (utf8_valid_len bs) bs))
+    ∙ utf8_valid_len-append (text_front bs) (text_rest bs) (IsUtf8-text_front bs) in
     omega (arith, e, length-text_front bs)
 
 -- the text at the front of a text and more bytes
-pub front_after : (xs ys : List ℕ) → IsUtf8 xs → length (text_front (xs ++ ys)) ≡ length xs + length (text_front ys)
-front_after xs ys u = omega (arith, length-text_front (xs ++ ys), length-text_front ys, utf8_valid_len-append xs ys u)
+pub front_after : (xs ys : List ℕ) → IsUtf8 xs
+    → length (text_front (xs ++ ys)) ≡ length xs + length (text_front ys)
+front_after xs ys u =
+    omega (arith, length-text_front (xs ++ ys), length-text_front ys, utf8_valid_len-append xs ys u)
 
 -- a short enough text fits
 pub size_fits : (n : ℕ) → n < 2 ^ 63 → size_error n ≡ None
 size_fits n h = cond-true _ _ _ (lt-ltb n (2 ^ 63) h)
 
 -- the rest of a buffer, moved to its front
-pub moved_rest : (buf : List ℕ) (d f : ℕ) → d ≤ f → f ≤ length buf → take (f - d) (copy_within buf d f 0) ≡ drop d (take f buf)
+pub moved_rest : (buf : List ℕ) (d f : ℕ) → d ≤ f → f ≤ length buf
+    → take (f - d) (copy_within buf d f 0) ≡ drop d (take f buf)
 moved_rest buf d f h g =
     let k : ℕ = f - d in
     let e : f ≡ d + k = omega arith in
     let p : take k (paste buf 0 (drop d buf) k) ≡ take k (drop d buf) =
-    subst (λ j. take j (paste buf 0 (drop d buf) k) ≡ take k (drop d buf)) (zero-add k) (take-paste buf 0 (drop d buf) k (omega arith) (omega (arith, length-drop d buf))) in
+    subst (λ j. take j (paste buf 0 (drop d buf) k) ≡ take k (drop d buf)) (zero-add k)
+    (take-paste buf 0 (drop d buf) k (omega arith) (omega (arith, length-drop d buf))) in
     p ∙ sym (drop-take d k buf) ∙ ap (λ j. drop d (take j buf)) (sym e)
 
 Consumes-none : (known : Option (List ℕ)) → Consumes known known []
 Consumes-none None = tt
 Consumes-none (Some xs) = refl
 
-Consumes-more : (start mid end : Option (List ℕ)) (xs ys : List ℕ) → Consumes start mid xs → Consumes mid end ys → Consumes start end (xs ++ ys)
+Consumes-more : (start mid end : Option (List ℕ)) (xs ys : List ℕ) → Consumes start mid xs
+    → Consumes mid end ys → Consumes start end (xs ++ ys)
 Consumes-more None mid end xs ys p q = tt
 Consumes-more (Some vs) None end xs ys p q = absurd p
 Consumes-more (Some vs) (Some us) None xs ys p q = absurd q
-Consumes-more (Some vs) (Some us) (Some ws) xs ys p q = p ∙ ap (λ zs. xs ++ zs) q ∙ sym (append_assoc xs ys ws)
+Consumes-more (Some vs) (Some us) (Some ws) xs ys p q = p ∙ ap (λ zs. xs ++ zs) q
+    ∙ sym (append_assoc xs ys ws)
 
 -- a failed read gave nothing
-Consumes-kept : (start mid new : Option (List ℕ)) (bs : List ℕ) → Consumes start mid bs → Keeps mid new → Consumes start new bs
+Consumes-kept : (start mid new : Option (List ℕ)) (bs : List ℕ) → Consumes start mid bs
+    → Keeps mid new → Consumes start new bs
 Consumes-kept None mid new bs p q = tt
 Consumes-kept (Some vs) None new bs p q = absurd p
 Consumes-kept (Some vs) (Some us) None bs p q = absurd q
@@ -72,13 +81,15 @@ pub record HasRead (start now : Option (List ℕ)) (text held : List ℕ) : Type
   pub fits : byte_len text < 2 ^ 63
 
 -- and the next read has room for a byte
-pub record IsReading (start now : Option (List ℕ)) (text buffer : List ℕ) (filled : ℕ) (marked : Bool) : Type 0 where
+pub record IsReading (start now : Option (List ℕ)) (text buffer : List ℕ) (filled : ℕ)
+    (marked : Bool) : Type 0 where
   pub read : HasRead start now text (take filled buffer)
   pub room : filled < 1968
   pub size : length buffer ≡ 1968
   pub clear : marked ≡ false
 
-pub nothing_read : (start : Option (List ℕ)) (text : List ℕ) → text ≡ [] → HasRead start start text []
+pub nothing_read : (start : Option (List ℕ)) (text : List ℕ) → text ≡ []
+    → HasRead start start text []
 nothing_read start text e = subst (λ t. HasRead start start t []) (sym e) (record {
   given = Consumes-none start;
   no_text = utf8_valid_len-IsUtf8 [] IsUtf8-nil;
@@ -92,13 +103,21 @@ module _ (start now : Option (List ℕ)) (text held : List ℕ) (h : HasRead sta
   rest_is = text_rest-append (encode_utf8_all text) held h.utf8 ∙ ap (λ n. drop n held) h.no_text
 
   pub front_fits : Fits (encode_utf8_all text ++ held)
-  front_fits = size_fits _ (omega (arith, front_after (encode_utf8_all text) held h.utf8, length-text_front held, h.no_text, h.fits))
+  front_fits =
+      size_fits _ (omega (
+        arith,
+        front_after (encode_utf8_all text) held h.utf8,
+        length-text_front held,
+        h.no_text,
+        h.fits,
+      ))
 
   -- bytes held at the input's end, and a full buffer of held bytes, are refused
   pub refused_full : length held ≡ 1968 → IsRefused (encode_utf8_all text ++ held) (has_ended now)
   refused_full e = inr (omega (arith, ap length rest_is, e))
 
-  pub refused_at_end : 0 < length held → IsAtEnd now → IsRefused (encode_utf8_all text ++ held) (has_ended now)
+  pub refused_at_end : 0 < length held → IsAtEnd now
+      → IsRefused (encode_utf8_all text ++ held) (has_ended now)
   refused_at_end some end = inl (ended now end, omega (arith, ap length rest_is, some))
     where
       ended : (o : Option (List ℕ)) → IsAtEnd o → IsTrue (has_ended o)
@@ -106,35 +125,55 @@ module _ (start now : Option (List ℕ)) (text held : List ℕ) (h : HasRead sta
       ended (Some bs) e = subst (λ xs. IsTrue (has_ended (Some xs))) (sym e) refl
 
   -- a failed read gave nothing
-  pub given_kept : (new : Option (List ℕ)) → Keeps now new → Consumes start new (encode_utf8_all text ++ held)
+  pub given_kept : (new : Option (List ℕ)) → Keeps now new
+      → Consumes start new (encode_utf8_all text ++ held)
   given_kept new k = Consumes-kept start now new (encode_utf8_all text ++ held) h.given k
 
 -- the front of the buffer after a read
-front_read : (buf ys : List ℕ) (filled room count : ℕ) → filled ≤ length buf → count ≤ length ys → take (filled + count) (put_mid filled room buf ys) ≡ take filled buf ++ take count ys
+front_read : (buf ys : List ℕ) (filled room count : ℕ) → filled ≤ length buf → count ≤ length ys
+    → take (filled + count) (put_mid filled room buf ys) ≡ take filled buf ++ take count ys
 front_read buf ys filled room count h k =
     let f = length-take-le filled buf h in
-    subst (λ n. take (n + count) (take filled buf ++ (ys ++ post_of filled room buf)) ≡ take filled buf ++ take count (ys ++ post_of filled room buf)) f (take-append-add (take filled buf) (ys ++ post_of filled room buf) count)
+    subst (λ n. take (n + count) (take filled buf ++ (ys ++ post_of filled room buf))
+    ≡ take filled buf ++ take count (ys ++ post_of filled room buf)) f
+    (take-append-add (take filled buf) (ys ++ post_of filled room buf) count)
     ∙ ap (λ zs. take filled buf ++ zs) (take-append-le count ys (post_of filled room buf) k)
 
 -- the held bytes after one more read
-module _ (start mid new : Option (List ℕ)) (text buf ys : List ℕ) (filled room count : ℕ) (within : filled ≤ length buf) (some : count ≤ length ys)
+module _ (start mid new : Option (List ℕ)) (text buf ys : List ℕ) (filled room count : ℕ)
+    (within : filled ≤ length buf) (some : count ≤ length ys)
     (h : HasRead start mid text (take filled buf)) (more : Consumes mid new (take count ys)) where
-  pub given_more : Consumes start new (encode_utf8_all text ++ take (filled + count) (put_mid filled room buf ys))
+  pub given_more : Consumes start new (encode_utf8_all text
+      ++ take (filled + count) (put_mid filled room buf ys))
   given_more =
-      subst (Consumes start new) (append_assoc (encode_utf8_all text) (take filled buf) (take count ys) ∙ ap (λ zs. encode_utf8_all text ++ zs) (sym (front_read buf ys filled room count within some)))
-      (Consumes-more start mid new (encode_utf8_all text ++ take filled buf) (take count ys) h.given more)
+      subst (Consumes start new)
+      (append_assoc (encode_utf8_all text) (take filled buf) (take count ys)
+      ∙ ap (λ zs. encode_utf8_all text ++ zs)
+      (sym (front_read buf ys filled room count within some)))
+      (Consumes-more start mid new (encode_utf8_all text ++ take filled buf) (take count ys) h.given
+      more)
 
   pub length_held : length (take (filled + count) (put_mid filled room buf ys)) ≡ filled + count
   length_held =
-      omega (arith, ap length (front_read buf ys filled room count within some), length-append (take filled buf) (take count ys), length-take-le filled buf within, length-take-le count ys some)
+      omega (
+        arith,
+        ap length (front_read buf ys filled room count within some),
+        length-append (take filled buf) (take count ys),
+        length-take-le filled buf within,
+        length-take-le count ys some,
+      )
 
   -- the text at their front is moved to the builder
-  pub read_on : (text_new rest : List ℕ) → encode_utf8_all text_new ≡ encode_utf8_all text ++ text_front (take (filled + count) (put_mid filled room buf ys))
-      → rest ≡ text_rest (take (filled + count) (put_mid filled room buf ys)) → byte_len text_new < 2 ^ 63 → HasRead start new text_new rest
+  pub read_on : (text_new rest : List ℕ) → encode_utf8_all text_new ≡ encode_utf8_all text
+      ++ text_front (take (filled + count) (put_mid filled room buf ys))
+      → rest ≡ text_rest (take (filled + count) (put_mid filled room buf ys))
+      → byte_len text_new < 2 ^ 63 → HasRead start new text_new rest
   read_on text_new rest e f fits =
       let t : List ℕ = take (filled + count) (put_mid filled room buf ys) in
       let old : List ℕ = encode_utf8_all text in
-      let whole : encode_utf8_all text_new ++ rest ≡ old ++ t = ap (λ xs. xs ++ rest) e ∙ ap (λ xs. (old ++ text_front t) ++ xs) f ∙ append_assoc old (text_front t) (text_rest t) ∙ ap (λ xs. old ++ xs) (take-append-drop (utf8_valid_len t) t) in
+      let whole : encode_utf8_all text_new ++ rest ≡ old ++ t = ap (λ xs. xs ++ rest) e
+      ∙ ap (λ xs. (old ++ text_front t) ++ xs) f ∙ append_assoc old (text_front t) (text_rest t)
+      ∙ ap (λ xs. old ++ xs) (take-append-drop (utf8_valid_len t) t) in
       record {
         given = subst (Consumes start new) (sym whole) given_more;
         no_text = ap utf8_valid_len f ∙ rest_stays t;
@@ -143,22 +182,52 @@ module _ (start mid new : Option (List ℕ)) (text buf ys : List ℕ) (filled ro
       }
 
   -- or refused
-  pub refused_on : (e : Error) → IsRefusal (size_error (byte_len text + length (text_front (take (filled + count) (put_mid filled room buf ys))))) e
-      → IsRefusal (size_error (length (text_front (encode_utf8_all text ++ take (filled + count) (put_mid filled room buf ys))))) e
-  refused_on e r = subst (λ n. IsRefusal (size_error n) e) (sym (front_after (encode_utf8_all text) (take (filled + count) (put_mid filled room buf ys)) h.utf8)) r
+  pub refused_on : (e : Error)
+      → IsRefusal (size_error (byte_len text + length
+      (text_front (take (filled + count) (put_mid filled room buf ys))))) e
+      → IsRefusal (size_error (length
+      (text_front (encode_utf8_all text ++ take (filled + count) (put_mid filled room buf ys))))) e
+  refused_on e r =
+      subst (λ n. IsRefusal (size_error n) e)
+      (sym (front_after (encode_utf8_all text) (take (filled + count) (put_mid filled room buf ys))
+      h.utf8)) r
 
-  pub bounded : filled + count ≤ 1968 → length (encode_utf8_all text ++ take (filled + count) (put_mid filled room buf ys)) < 2 ^ 63 + 1968
-  bounded b = omega (arith, length-append (encode_utf8_all text) (take (filled + count) (put_mid filled room buf ys)), length_held, h.fits, b)
+  pub bounded : filled + count ≤ 1968
+      → length (encode_utf8_all text ++ take (filled + count) (put_mid filled room buf ys)) < 2 ^ 63
+      + 1968
+  bounded b =
+      omega (
+        arith,
+        length-append (encode_utf8_all text)
+            (take (filled + count) (put_mid filled room buf ys)),
+        length_held,
+        h.fits,
+        b,
+      )
 
   -- the number of bytes held after a move
-  pub length_on : (text_new rest : List ℕ) → encode_utf8_all text_new ≡ encode_utf8_all text ++ text_front (take (filled + count) (put_mid filled room buf ys))
-      → rest ≡ text_rest (take (filled + count) (put_mid filled room buf ys)) → byte_len text_new + length rest ≡ byte_len text + (filled + count)
+  pub length_on : (text_new rest : List ℕ)
+      → encode_utf8_all text_new ≡ encode_utf8_all text
+      ++ text_front (take (filled + count) (put_mid filled room buf ys))
+      → rest ≡ text_rest (take (filled + count) (put_mid filled room buf ys))
+      → byte_len text_new + length rest ≡ byte_len text + (filled + count)
   length_on text_new rest e f =
       let t : List ℕ = take (filled + count) (put_mid filled room buf ys) in
-      omega (arith, ap length e, ap length f, length-append (encode_utf8_all text) (text_front t), ap length (take-append-drop (utf8_valid_len t) t), length-append (text_front t) (text_rest t), length_held)
+      omega (
+        arith,
+        ap length e,
+        ap length f,
+        length-append (encode_utf8_all text) (text_front t),
+        ap length (take-append-drop (utf8_valid_len t) t),
+        length-append (text_front t) (text_rest t),
+        length_held,
+      )
 
 -- an error that is passed on as the text's
-pub refusal_answers : {R : Type 0} (text_of : R → List ℕ) (bytes : List ℕ) (left : Option (List ℕ)) (failed : Bool) (r : Result R ReadError) (e : Error)
-    → IsErrAnd r (λ y. y ≡ Rope e) → Answers text_of bytes left failed (Err (Rope e)) → Answers text_of bytes left failed r
+pub refusal_answers : {R : Type 0} (text_of : R → List ℕ) (bytes : List ℕ) (left : Option (List ℕ))
+    (failed : Bool) (r : Result R ReadError) (e : Error)
+    → IsErrAnd r (λ y. y ≡ Rope e) → Answers text_of bytes left failed (Err (Rope e))
+    → Answers text_of bytes left failed r
 refusal_answers text_of bytes left failed (Ok x) e is answers = absurd is
-refusal_answers text_of bytes left failed (Err y) e is answers = subst (λ z. Answers text_of bytes left failed (Err z)) (sym is) answers
+refusal_answers text_of bytes left failed (Err y) e is answers =
+    subst (λ z. Answers text_of bytes left failed (Err z)) (sym is) answers

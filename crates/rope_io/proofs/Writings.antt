@@ -30,49 +30,64 @@ pub Appends-none : (known : Option (List ℕ)) → Appends known known []
 Appends-none None = tt
 Appends-none (Some xs) = sym (append-nil xs)
 
-pub Appends-more : (start mid end : Option (List ℕ)) (xs ys : List ℕ) → Appends start mid xs → Appends mid end ys → Appends start end (xs ++ ys)
+pub Appends-more : (start mid end : Option (List ℕ)) (xs ys : List ℕ) → Appends start mid xs
+    → Appends mid end ys → Appends start end (xs ++ ys)
 Appends-more None mid end xs ys p q = tt
 Appends-more (Some vs) None end xs ys p q = absurd p
 Appends-more (Some vs) (Some us) None xs ys p q = absurd q
-Appends-more (Some vs) (Some us) (Some ws) xs ys p q = q ∙ ap (λ zs. zs ++ ys) p ∙ append_assoc vs xs ys
+Appends-more (Some vs) (Some us) (Some ws) xs ys p q = q ∙ ap (λ zs. zs ++ ys) p
+    ∙ append_assoc vs xs ys
 
-pub front_all : (old new : Option (List ℕ)) (bs : List ℕ) → Appends old new bs → AppendsFront old new bs
+pub front_all : (old new : Option (List ℕ)) (bs : List ℕ) → Appends old new bs
+    → AppendsFront old new bs
 front_all old new bs p = record { front = bs; back = []; whole = sym (append-nil bs); appended = p }
 
 -- a write of the next bytes that stopped before their end
-pub front_more : (start mid end : Option (List ℕ)) (bytes done next rest : List ℕ) → bytes ≡ done ++ (next ++ rest)
+pub front_more : (start mid end : Option (List ℕ)) (bytes done next rest : List ℕ)
+    → bytes ≡ done ++ (next ++ rest)
     → Appends start mid done → AppendsFront mid end next → AppendsFront start end bytes
 front_more start mid end bytes done next rest e p q = record {
   front = done ++ q.front;
   back = q.back ++ rest;
-  whole = e ∙ ap (λ y. done ++ y) (ap (λ y. y ++ rest) q.whole ∙ append_assoc q.front q.back rest) ∙ sym (append_assoc done q.front (q.back ++ rest));
+  whole = e ∙ ap (λ y. done ++ y) (ap (λ y. y ++ rest) q.whole ∙ append_assoc q.front q.back rest)
+      ∙ sym (append_assoc done q.front (q.back ++ rest));
   appended = Appends-more start mid end done q.front p q.appended;
 }
 
 -- all chunks except those ahead have been written
-pub record IsWritten (start now : Option (List ℕ)) (text : List ℕ) (ahead : List (List ℕ)) : Type 0 where
-  pub before : List ℕ
-  pub whole : text ≡ before ++ concat ahead
-  pub appended : Appends start now (encode_utf8_all before)
+pub record IsWritten (start now : Option (List ℕ)) (text : List ℕ) (ahead : List (List ℕ)) : Type 0
+  where
+    pub before : List ℕ
+    pub whole : text ≡ before ++ concat ahead
+    pub appended : Appends start now (encode_utf8_all before)
 
 -- one more chunk was written completely
-pub chunk_written : (start mid end : Option (List ℕ)) (before s : List ℕ) → IsUtf8 s → Appends start mid (encode_utf8_all before) → Appends mid end s
+pub chunk_written : (start mid end : Option (List ℕ)) (before s : List ℕ) → IsUtf8 s
+    → Appends start mid (encode_utf8_all before) → Appends mid end s
     → Appends start end (encode_utf8_all (before ++ chars s))
 chunk_written start mid end before s u p q =
-    subst (Appends start end) (sym (encodes-append before (chars s) ∙ ap (λ y. encode_utf8_all before ++ y) (encodes-chars s u)))
+    subst (Appends start end)
+    (sym (encodes-append before (chars s)
+    ∙ ap (λ y. encode_utf8_all before ++ y) (encodes-chars s u)))
     (Appends-more start mid end (encode_utf8_all before) s p q)
 
 -- or only a prefix of it
-pub chunk_begun : (start mid end : Option (List ℕ)) (text before s : List ℕ) (ahead : List (List ℕ)) → IsUtf8 s → text ≡ before ++ (chars s ++ concat ahead)
-    → Appends start mid (encode_utf8_all before) → AppendsFront mid end s → AppendsFront start end (encode_utf8_all text)
+pub chunk_begun : (start mid end : Option (List ℕ)) (text before s : List ℕ) (ahead : List (List ℕ))
+    → IsUtf8 s → text ≡ before ++ (chars s ++ concat ahead)
+    → Appends start mid (encode_utf8_all before) → AppendsFront mid end s
+    → AppendsFront start end (encode_utf8_all text)
 chunk_begun start mid end text before s ahead u e p q =
-    front_more start mid end (encode_utf8_all text) (encode_utf8_all before) s (encode_utf8_all (concat ahead))
+    front_more start mid end (encode_utf8_all text) (encode_utf8_all before) s
+    (encode_utf8_all (concat ahead))
     (ap encode_utf8_all e ∙ encodes-append before (chars s ++ concat ahead)
-    ∙ ap (λ y. encode_utf8_all before ++ y) (encodes-append (chars s) (concat ahead) ∙ ap (λ y. y ++ encode_utf8_all (concat ahead)) (encodes-chars s u)))
+    ∙ ap (λ y. encode_utf8_all before ++ y) (encodes-append (chars s) (concat ahead)
+    ∙ ap (λ y. y ++ encode_utf8_all (concat ahead)) (encodes-chars s u)))
     p q
 
 -- all text was written
-pub all_written : (start now : Option (List ℕ)) (text before : List ℕ) (ahead : List (List ℕ)) → ahead ≡ [] → text ≡ before ++ concat ahead
+pub all_written : (start now : Option (List ℕ)) (text before : List ℕ) (ahead : List (List ℕ))
+    → ahead ≡ [] → text ≡ before ++ concat ahead
     → Appends start now (encode_utf8_all before) → Appends start now (encode_utf8_all text)
 all_written start now text before ahead none e p =
-    subst (λ t. Appends start now (encode_utf8_all t)) (sym (e ∙ ap (λ a. before ++ concat a) none ∙ append-nil before)) p
+    subst (λ t. Appends start now (encode_utf8_all t))
+    (sym (e ∙ ap (λ a. before ++ concat a) none ∙ append-nil before)) p

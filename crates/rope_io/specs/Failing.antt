@@ -16,7 +16,8 @@ failure_of (Err e) = Some (Returned e)
 -- the failure of a write of these bytes with this result: taking none of some bytes is a failure
 -- too
 abbrev pub write_failure : Result ℕ Error → List ℕ → Option Failure
-write_failure (Ok n) bytes = if n == 0 then (if length bytes == 0 then None else Some TookNone) else None
+write_failure (Ok n) bytes =
+    if n == 0 then (if length bytes == 0 then None else Some TookNone) else None
 write_failure (Err e) bytes = Some (Returned e)
 
 -- the failure of the last read, for a read of a text with this result: the error returned
@@ -45,4 +46,5 @@ Reports (Err e) (Some TookNone) = error_kind e ≡ WriteZero
 
 -- the result of a write of a text reports the failure of its last write, which counts once
 abbrev pub IsWriteCounted : {T : Type 0} → Result T Error → Option Failure → ℕ → ℕ → Type 0
-IsWriteCounted result known before after = Reports result known × (after ≡ count_failure known before)
+IsWriteCounted result known before after = Reports result known
+    × (after ≡ count_failure known before)

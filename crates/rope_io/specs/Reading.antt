@@ -23,14 +23,19 @@ module _ {R : Type 0} (text_of : R → List ℕ) where
   -- has the text of all bytes. The device's failure is returned while nothing is refused; bytes are
   -- refused as early as possible, and so is a text that is too long
   abbrev pub Answers : List ℕ → Option (List ℕ) → Bool → Result R ReadError → Type 0
-  Answers bytes left failed (Ok rope) = (encode_utf8_all (text_of rope) ≡ bytes) × (length (text_rest bytes) ≡ 0) × IsAtEnd left × (failed ≡ false)
-  Answers bytes left failed (Err (Read e)) = (length (text_rest bytes) < BUFFER_BYTES) × Fits bytes × (failed ≡ true)
-  Answers bytes left failed (Err InvalidData) = IsRefused bytes (has_ended left) × (length (text_rest bytes) ≤ BUFFER_BYTES) × Fits bytes × (failed ≡ false)
-  Answers bytes left failed (Err (Rope e)) = IsRefusal (size_error (length (text_front bytes))) e × (length bytes < 2 ^ 63 + BUFFER_BYTES) × (failed ≡ false)
+  Answers bytes left failed (Ok rope) = (encode_utf8_all (text_of rope) ≡ bytes)
+      × (length (text_rest bytes) ≡ 0) × IsAtEnd left × (failed ≡ false)
+  Answers bytes left failed (Err (Read e)) = (length (text_rest bytes) < BUFFER_BYTES) × Fits bytes
+      × (failed ≡ true)
+  Answers bytes left failed (Err InvalidData) = IsRefused bytes (has_ended left)
+      × (length (text_rest bytes) ≤ BUFFER_BYTES) × Fits bytes × (failed ≡ false)
+  Answers bytes left failed (Err (Rope e)) = IsRefusal (size_error (length (text_front bytes))) e
+      × (length bytes < 2 ^ 63 + BUFFER_BYTES) × (failed ≡ false)
 
   -- the bytes given, by those that the device had before and has now, decide the result
   abbrev pub Reads : Option (List ℕ) → Option (List ℕ) → Bool → Result R ReadError → Type 0
-  Reads before left failed result = (bytes : List ℕ) × Consumes before left bytes × Answers bytes left failed result
+  Reads before left failed result = (bytes : List ℕ) × Consumes before left bytes
+      × Answers bytes left failed result
 
 -- the result is one of the errors: the device failed, the bytes are no text, the text is too long,
 -- or out of memory

@@ -17,51 +17,70 @@ module _ (ts : List Tree) (a : AreChildren (breaks_of ts) (height_of ts) ts) whe
   whole : (k : ℕ) → AreSiblings (breaks_of ts) (height_of ts) (take k ts ++ drop k ts)
   whole k = rw take-append-drop (record { each = a.each; leaves = a.leaves; fits = a.fits })
 
-  pub family_before : (k : ℕ) → k ≤ length ts → 2 ≤ length (take k ts) → AreChildren (breaks_of (take k ts)) (height_of (take k ts)) (take k ts)
+  pub family_before : (k : ℕ) → k ≤ length ts → 2 ≤ length (take k ts)
+      → AreChildren (breaks_of (take k ts)) (height_of (take k ts)) (take k ts)
   family_before k le two =
       children_of_first (breaks_of ts) (height_of ts) (take k ts)
-      (children_of (breaks_of ts) (height_of ts) (take k ts) (siblings_left (breaks_of ts) (height_of ts) (take k ts) (drop k ts) (whole k)) two (omega (arith, a.at_most_24, length-take-le k ts le)))
+      (children_of (breaks_of ts) (height_of ts) (take k ts)
+      (siblings_left (breaks_of ts) (height_of ts) (take k ts) (drop k ts) (whole k)) two
+      (omega (arith, a.at_most_24, length-take-le k ts le)))
 
-  pub family_behind : (k : ℕ) → 2 ≤ length (drop k ts) → AreChildren (breaks_of (drop k ts)) (height_of (drop k ts)) (drop k ts)
-  family_behind k two =
+  pub family_after : (k : ℕ) → 2 ≤ length (drop k ts)
+      → AreChildren (breaks_of (drop k ts)) (height_of (drop k ts)) (drop k ts)
+  family_after k two =
       children_of_first (breaks_of ts) (height_of ts) (drop k ts)
-      (children_of (breaks_of ts) (height_of ts) (drop k ts) (siblings_right (breaks_of ts) (height_of ts) (take k ts) (drop k ts) (whole k)) two (omega (arith, a.at_most_24, length-drop k ts)))
+      (children_of (breaks_of ts) (height_of ts) (drop k ts)
+      (siblings_right (breaks_of ts) (height_of ts) (take k ts) (drop k ts) (whole k)) two
+      (omega (arith, a.at_most_24, length-drop k ts)))
 
-  each_behind : (k : ℕ) → All (IsChild (breaks_of ts) (height_of ts)) (drop k ts)
-  each_behind k = all_right (IsChild (breaks_of ts) (height_of ts)) (take k ts) (drop k ts) (rw take-append-drop a.each)
+  each_after : (k : ℕ) → All (IsChild (breaks_of ts) (height_of ts)) (drop k ts)
+  each_after k =
+      all_right (IsChild (breaks_of ts) (height_of ts)) (take k ts) (drop k ts)
+      (rw take-append-drop a.each)
 
   each_before : (k : ℕ) → All (IsChild (breaks_of ts) (height_of ts)) (take k ts)
-  each_before k = all_left (IsChild (breaks_of ts) (height_of ts)) (take k ts) (drop k ts) (rw take-append-drop a.each)
+  each_before k =
+      all_left (IsChild (breaks_of ts) (height_of ts)) (take k ts) (drop k ts)
+      (rw take-append-drop a.each)
 
   module _ (first past : ℕ) (part : Tree) (can : CanPutAtEnd ts first past part) where
     module _ (more : past < length ts) where
-      some_behind : 1 ≤ length (drop past ts)
-      some_behind = omega (arith, length-drop past ts, more)
+      some_after : 1 ≤ length (drop past ts)
+      some_after = omega (arith, length-drop past ts, more)
 
-      pub low_behind : (gathered (drop past ts)).height ≤ height_of ts + 1
-      low_behind = gathered_most (breaks_of ts) (height_of ts) (drop past ts) (gathered (drop past ts)) (each_behind past) some_behind (is_gathered (drop past ts) some_behind)
+      pub low_after : (gathered (drop past ts)).height ≤ height_of ts + 1
+      low_after =
+          gathered_most (breaks_of ts) (height_of ts) (drop past ts) (gathered (drop past ts))
+          (each_after past) some_after (is_gathered (drop past ts) some_after)
 
-      pub join_behind : CanJoin part (gathered (drop past ts))
-      join_behind =
-          let g = is_gathered (drop past ts) some_behind in
+      pub join_after : CanJoin part (gathered (drop past ts))
+      join_after =
+          let g = is_gathered (drop past ts) some_after in
           record {
-            same_breaks = gathered_set (breaks_of ts) (height_of ts) (drop past ts) (gathered (drop past ts)) (each_behind past) some_behind g ∙ sym can.same_breaks;
-            seam = rw g.leaves can.seam_behind;
+            same_breaks =
+                gathered_set (breaks_of ts) (height_of ts) (drop past ts) (gathered (drop past ts))
+                (each_after past) some_after g ∙ sym can.same_breaks;
+            seam = rw g.leaves can.seam_after;
             fits = omega (arith, can.fits, ap (λ ls. byte_len (concat ls)) g.leaves);
           }
 
     module _ (more : 0 < first) where
       some_before : 1 ≤ length (take first ts)
-      some_before = omega (arith, length-take-le first ts (omega (arith, can.ordered, can.within)), more)
+      some_before =
+          omega (arith, length-take-le first ts (omega (arith, can.ordered, can.within)), more)
 
       pub low_before : (gathered (take first ts)).height ≤ height_of ts + 1
-      low_before = gathered_most (breaks_of ts) (height_of ts) (take first ts) (gathered (take first ts)) (each_before first) some_before (is_gathered (take first ts) some_before)
+      low_before =
+          gathered_most (breaks_of ts) (height_of ts) (take first ts) (gathered (take first ts))
+          (each_before first) some_before (is_gathered (take first ts) some_before)
 
       pub join_before : CanJoin (gathered (take first ts)) part
       join_before =
           let g = is_gathered (take first ts) some_before in
           record {
-            same_breaks = can.same_breaks ∙ sym (gathered_set (breaks_of ts) (height_of ts) (take first ts) (gathered (take first ts)) (each_before first) some_before g);
+            same_breaks = can.same_breaks
+                ∙ sym (gathered_set (breaks_of ts) (height_of ts) (take first ts)
+                (gathered (take first ts)) (each_before first) some_before g);
             seam = rw g.leaves can.seam_before;
             fits = omega (arith, can.fits, ap (λ ls. byte_len (concat ls)) g.leaves);
           }

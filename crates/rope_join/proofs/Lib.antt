@@ -10,5 +10,5 @@ pub mod PartCounts
 pub mod PartTexts
 pub mod Puts
 pub mod Gaps
-pub mod OneWay
+pub mod OneChild
 pub mod Ends

@@ -2,7 +2,7 @@
 use Rattle.std.proofs.Common.{◌≡◌, ℕ, ◌≤◌, List, [], ◌∷◌, ◌++◌, length, sym, ap, subst, ◌∙◌}
 use Rattle.std.proofs.lemmas.List.{append-nil}
 use Rattle.std.proofs.lemmas.List.Elements.{All-head}
-use Rattle.rope_text.specs.Dense.{IsDenseBehind, last_bytes}
+use Rattle.rope_text.specs.Dense.{IsDenseAfter, last_bytes}
 use Rattle.rope_text.proofs.DenseLaws.{last_bytes-append, last_bytes-some, dense-append, dense_left, dense_right}
 use Rattle.rope_tree.specs.Tree.{Tree, leaves_of, IsChild}
 use Rattle.rope_tree.proofs.LeafLaws.{all_right}
@@ -11,12 +11,17 @@ use Rattle.rope_join.specs.Join.{EndsIn, BeginsIn}
 
 module _ (a last : Tree) (init : List Tree) (e : EndsIn a init last) where
   pub last_some : 1 ≤ length last.leaves
-  last_some = (All-head (IsChild a.breaks last.height) last [] (all_right (IsChild a.breaks last.height) init (last ∷ []) e.children.each)).some
+  last_some =
+      (All-head (IsChild a.breaks last.height) last []
+      (all_right (IsChild a.breaks last.height) init (last ∷ []) e.children.each)).some
 
   pub last_of_last : (m n : ℕ) → last_bytes m last.leaves ≡ last_bytes n a.leaves
   last_of_last m n =
-      let parts : a.leaves ≡ leaves_of init ++ last.leaves = ap (λ t. t.leaves) e.is ∙ leaves_of-append init (last ∷ []) ∙ ap (λ xs. leaves_of init ++ xs) (append-nil last.leaves) in
-      last_bytes-some m (last_bytes n (leaves_of init)) last.leaves last_some ∙ sym (last_bytes-append n (leaves_of init) last.leaves) ∙ ap (last_bytes n) (sym parts)
+      let parts : a.leaves ≡ leaves_of init ++ last.leaves = ap (λ t. t.leaves) e.is
+      ∙ leaves_of-append init (last ∷ [])
+      ∙ ap (λ xs. leaves_of init ++ xs) (append-nil last.leaves) in
+      last_bytes-some m (last_bytes n (leaves_of init)) last.leaves last_some
+      ∙ sym (last_bytes-append n (leaves_of init) last.leaves) ∙ ap (last_bytes n) (sym parts)
 
 module _ (b first : Tree) (rest : List Tree) (e : BeginsIn b first rest) where
   pub first_some : 1 ≤ length first.leaves
@@ -25,10 +30,14 @@ module _ (b first : Tree) (rest : List Tree) (e : BeginsIn b first rest) where
   begins : b.leaves ≡ first.leaves ++ leaves_of rest
   begins = ap (λ t. t.leaves) e.is
 
-  pub dense_of_first : (n : ℕ) → IsDenseBehind n b.leaves → IsDenseBehind n first.leaves
-  dense_of_first n dense = dense_left n first.leaves (leaves_of rest) (subst (IsDenseBehind n) begins dense)
+  pub dense_of_first : (n : ℕ) → IsDenseAfter n b.leaves → IsDenseAfter n first.leaves
+  dense_of_first n dense =
+      dense_left n first.leaves (leaves_of rest) (subst (IsDenseAfter n) begins dense)
 
-  pub dense_by_first : (n : ℕ) → IsDenseBehind n first.leaves → IsDenseBehind n b.leaves
+  pub dense_by_first : (n : ℕ) → IsDenseAfter n first.leaves → IsDenseAfter n b.leaves
   dense_by_first n dense =
-      let behind = subst (λ k. IsDenseBehind k (leaves_of rest)) (last_bytes-some 492 n first.leaves first_some) (dense_right 492 first.leaves (leaves_of rest) e.children.leaves.dense) in
-      subst (IsDenseBehind n) (sym begins) (dense-append n first.leaves (leaves_of rest) dense behind)
+      let following =
+      subst (λ k. IsDenseAfter k (leaves_of rest)) (last_bytes-some 492 n first.leaves first_some)
+      (dense_right 492 first.leaves (leaves_of rest) e.children.leaves.dense) in
+      subst (IsDenseAfter n) (sym begins)
+      (dense-append n first.leaves (leaves_of rest) dense following)

@@ -10,8 +10,14 @@ use Rattle.rope_text.proofs.InfoLaws.{surrogate_count-append, same_info}
 
 -- the counts of a text, plus the line breaks that its sides share, are the sums of the counts of
 -- the sides
-pub parts_sum : (breaks : LineBreaks) (info : TextInfo) (more : ℕ) (s t : List ℕ) → info ≡ info_of breaks (s ++ t) → more ≡ shared_breaks breaks s t
-    → record { bytes = info.bytes; chars = info.chars; utf16_surrogates = info.utf16_surrogates; break_count = info.break_count + more } ≡ info_sum (info_of breaks s) (info_of breaks t)
+pub parts_sum : (breaks : LineBreaks) (info : TextInfo) (more : ℕ) (s t : List ℕ)
+    → info ≡ info_of breaks (s ++ t) → more ≡ shared_breaks breaks s t
+    → record {
+      bytes = info.bytes;
+      chars = info.chars;
+      utf16_surrogates = info.utf16_surrogates;
+      break_count = info.break_count + more;
+    } ≡ info_sum (info_of breaks s) (info_of breaks t)
 parts_sum breaks info more s t whole shared =
     same_info _ (info_sum (info_of breaks s) (info_of breaks t))
     (omega (arith, ap (λ i. i.bytes) whole, IsMeasure-byte_len.joined s t))
@@ -20,10 +26,12 @@ parts_sum breaks info more s t whole shared =
     (omega (arith, ap (λ i. i.break_count) whole, shared, break_count-append breaks s t))
 
 pub sum_turned : (a b : TextInfo) → info_sum a b ≡ info_sum b a
-sum_turned a b = same_info (info_sum a b) (info_sum b a) (omega arith) (omega arith) (omega arith) (omega arith)
+sum_turned a b =
+    same_info (info_sum a b) (info_sum b a) (omega arith) (omega arith) (omega arith) (omega arith)
 
 -- the sum less the counts of one side are those of the other
-pub rest_is : (both part other front rest : TextInfo) → both ≡ info_sum part other → front ≡ other → info_sum front rest ≡ both → rest ≡ part
+pub rest_is : (both part other front rest : TextInfo) → both ≡ info_sum part other → front ≡ other
+    → info_sum front rest ≡ both → rest ≡ part
 rest_is both part other front rest sum is r =
     let parts = r ∙ sum in
     same_info rest part

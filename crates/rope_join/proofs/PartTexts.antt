@@ -18,9 +18,12 @@ pub record AreCut (bs fs gs cs : List ℕ) (at : ℕ) : Type 0 where
   pub front_some : 1 ≤ length fs
   pub back_some : 1 ≤ length gs
 
-pub are_cut : (bs fs gs cs : List ℕ) (at place : ℕ) → IsUtf8 bs → chars bs ≡ cs → place ≡ byte_len (take at cs) → fs ≡ take (place - 0) bs → gs ≡ drop place bs → 1 ≤ at → at < length cs → AreCut bs fs gs cs at
+pub are_cut : (bs fs gs cs : List ℕ) (at place : ℕ) → IsUtf8 bs → chars bs ≡ cs
+    → place ≡ byte_len (take at cs) → fs ≡ take (place - 0) bs → gs ≡ drop place bs → 1 ≤ at
+    → at < length cs → AreCut bs fs gs cs at
 are_cut bs fs gs cs at place u same e front back some within =
-    let place_is : place ≡ byte_len (take at (chars bs)) = e ∙ ap (λ s. byte_len (take at s)) (sym same) in
+    let place_is : place ≡ byte_len (take at (chars bs)) = e
+    ∙ ap (λ s. byte_len (take at s)) (sym same) in
     let f : chars fs ≡ take at cs = chars_front bs fs cs at place u same place_is front in
     let g : chars gs ≡ drop at cs = chars_back bs gs cs at place u same place_is back in
     record {

@@ -18,10 +18,12 @@ pub record AreSides (a b last first : Tree) (before after : List Tree) : Type 0 
   pub right : a.height ≤ b.height → BeginsIn b first after
   pub right_whole : b.height < a.height → (first ≡ b) × (after ≡ [])
 
-module _ (a b last first : Tree) (before after : List Tree) (s : AreSides a b last first before after) where
+module _ (a b last first : Tree) (before after : List Tree)
+    (s : AreSides a b last first before after) where
   pub sides_below : max last.height first.height + 1 ≡ max a.height b.height
   sides_below = elim (cases_lt a.height b.height) [
-    | inl low ↦ let f = s.right (omega (arith, low)) in rw (s.left_whole low).1 (omega (arith, f.above))
+    | inl low ↦ let f = s.right (omega (arith, low)) in
+        rw (s.left_whole low).1 (omega (arith, f.above))
     | inr ge ↦ elim (cases_lt b.height a.height) [
       | inl low ↦ let e = s.left ge in rw (s.right_whole low).0 (omega (arith, e.above))
       | inr le ↦ let e = s.left ge in let f = s.right le in omega (arith, e.above, f.above)
@@ -30,39 +32,64 @@ module _ (a b last first : Tree) (before after : List Tree) (s : AreSides a b la
 
   pub sides_some : (1 ≤ length last.leaves) × (1 ≤ length first.leaves)
   sides_some = elim (cases_lt a.height b.height) [
-    | inl low ↦ let f = s.right (omega (arith, low)) in (rw (s.left_whole low).1 s.left_some, (front_child a b first after b.breaks first.height f.is f.children refl (sym f.above) s.join low).some)
+    | inl low ↦ let f = s.right (omega (arith, low)) in (
+      rw (s.left_whole low).1 s.left_some,
+      (front_child a b first after b.breaks first.height f.is f.children refl (sym f.above) s.join
+          low).some,
+    )
     | inr ge ↦ elim (cases_lt b.height a.height) [
-      | inl low ↦ let e = s.left ge in ((end_child a b last before a.breaks last.height e.is e.children refl (sym e.above) s.join low).some, rw (s.right_whole low).0 s.right_some)
-      | inr le ↦ meet_some a b last first before after a.breaks last.height (meeting_at a b last first before after (s.left ge) (s.right le) s.join (omega (arith, ge, le)))
+      | inl low ↦ let e = s.left ge in (
+        (end_child a b last before a.breaks last.height e.is e.children refl (sym e.above) s.join
+            low).some,
+        rw (s.right_whole low).0 s.right_some,
+      )
+      | inr le ↦ meet_some a b last first before after a.breaks last.height
+          (meeting_at a b last first before after (s.left ge) (s.right le) s.join
+          (omega (arith, ge, le)))
     ]
   ]
 
   pub sides_can_join : CanJoin last first
   sides_can_join = elim (cases_lt a.height b.height) [
-    | inl low ↦ let f = s.right (omega (arith, low)) in rw (s.left_whole low).1 (front_can_join a b first after b.breaks first.height f.is f.children refl (sym f.above) s.join low)
+    | inl low ↦ let f = s.right (omega (arith, low)) in
+        rw (s.left_whole low).1 (front_can_join a b first after b.breaks first.height f.is
+        f.children refl (sym f.above) s.join low)
     | inr ge ↦ elim (cases_lt b.height a.height) [
-      | inl low ↦ let e = s.left ge in rw (s.right_whole low).0 (end_can_join a b last before a.breaks last.height e.is e.children refl (sym e.above) s.join low)
-      | inr le ↦ meet_can_join a b last first before after a.breaks last.height (meeting_at a b last first before after (s.left ge) (s.right le) s.join (omega (arith, ge, le)))
+      | inl low ↦ let e = s.left ge in
+          rw (s.right_whole low).0
+          (end_can_join a b last before a.breaks last.height e.is e.children refl (sym e.above)
+          s.join low)
+      | inr le ↦ meet_can_join a b last first before after a.breaks last.height
+          (meeting_at a b last first before after (s.left ge) (s.right le) s.join
+          (omega (arith, ge, le)))
     ]
   ]
 
   -- if both adjacent leaves are kept, one of the trees is higher
   module _ (far : CanMerge a b → ⊥) (n : IsNear a b) where
     uneven : a.height ≡ b.height → ⊥
-    uneven level = far (record { level = level; near = λ high. n.near high (omega (arith, level, high)) })
+    uneven level =
+        far (record { level = level; near = λ high. n.near high (omega (arith, level, high)) })
 
     pub sides_near : IsNear last first
     sides_near = elim (cases_lt a.height b.height) [
-      | inl low ↦ let f = s.right (omega (arith, low)) in rw (s.left_whole low).1 (front_near a b first after b.breaks first.height f.is f.children refl (sym f.above) s.join low n)
+      | inl low ↦ let f = s.right (omega (arith, low)) in
+          rw (s.left_whole low).1 (front_near a b first after b.breaks first.height f.is f.children
+          refl (sym f.above) s.join low n)
       | inr ge ↦ elim (cases_lt b.height a.height) [
-        | inl low ↦ let e = s.left ge in rw (s.right_whole low).0 (end_near a b last before a.breaks last.height e.is e.children refl (sym e.above) s.join low n)
+        | inl low ↦ let e = s.left ge in
+            rw (s.right_whole low).0
+            (end_near a b last before a.breaks last.height e.is e.children refl (sym e.above) s.join
+            low n)
         | inr le ↦ absurd (uneven (omega (arith, ge, le)))
       ]
     ]
 
-    pub sides_apart : (last.height - first.height) + (first.height - last.height) + 1 ≡ (a.height - b.height) + (b.height - a.height)
+    pub sides_apart : (last.height - first.height) + (first.height - last.height) + 1
+        ≡ (a.height - b.height) + (b.height - a.height)
     sides_apart = elim (cases_lt a.height b.height) [
-      | inl low ↦ let f = s.right (omega (arith, low)) in rw (s.left_whole low).1 (omega (arith, low, f.above))
+      | inl low ↦ let f = s.right (omega (arith, low)) in
+          rw (s.left_whole low).1 (omega (arith, low, f.above))
       | inr ge ↦ elim (cases_lt b.height a.height) [
         | inl low ↦ let e = s.left ge in rw (s.right_whole low).0 (omega (arith, low, e.above))
         | inr le ↦ absurd (uneven (omega (arith, ge, le)))
@@ -77,15 +104,22 @@ module _ (a b last first : Tree) (before after : List Tree) (s : AreSides a b la
     sides_count = elim (cases_lt a.height b.height) [
       | inl low ↦
           let f = s.right (omega (arith, low)) in
-          let n = front_count a b first after b.breaks first.height f.is f.children refl (sym f.above) s.join low ts (rw (s.left_whole low).1 at u) in
+          let n = front_count a b first after b.breaks first.height f.is f.children refl
+          (sym f.above) s.join low ts (rw (s.left_whole low).1 at u) in
           rw (s.left_whole low).0 (omega (arith, n.2, f.children.at_least_two), omega (arith, n.1))
       | inr ge ↦ elim (cases_lt b.height a.height) [
         | inl low ↦
             let e = s.left ge in
-            let n = end_count a b last before a.breaks last.height e.is e.children refl (sym e.above) s.join low ts (rw (s.right_whole low).0 at u) in
-            rw ((s.right_whole low).1, append-nil) (omega (arith, n.2, e.children.at_least_two), omega (arith, n.1))
+            let n = end_count a b last before a.breaks last.height e.is e.children refl
+            (sym e.above) s.join low ts (rw (s.right_whole low).0 at u) in
+            rw ((s.right_whole low).1, append-nil) (
+              omega (arith, n.2, e.children.at_least_two),
+              omega (arith, n.1),
+            )
         | inr le ↦
-            let n = meet_count a b last first before after a.breaks last.height (meeting_at a b last first before after (s.left ge) (s.right le) s.join (omega (arith, ge, le))) ts u in
+            let n = meet_count a b last first before after a.breaks last.height
+            (meeting_at a b last first before after (s.left ge) (s.right le) s.join
+            (omega (arith, ge, le))) ts u in
             (n.0, n.1)
       ]
     ]
@@ -94,26 +128,36 @@ module _ (a b last first : Tree) (before after : List Tree) (s : AreSides a b la
     sides_siblings = elim (cases_lt a.height b.height) [
       | inl low ↦
           let f = s.right (omega (arith, low)) in
-          rw (s.left_whole low).0 (front_siblings a b first after b.breaks first.height f.is f.children refl (sym f.above) s.join low ts (rw (s.left_whole low).1 at u))
+          rw (s.left_whole low).0 (front_siblings a b first after b.breaks first.height f.is
+          f.children refl (sym f.above) s.join low ts (rw (s.left_whole low).1 at u))
       | inr ge ↦ elim (cases_lt b.height a.height) [
         | inl low ↦
             let e = s.left ge in
-            rw ((s.right_whole low).1, append-nil) (end_siblings a b last before a.breaks last.height e.is e.children refl (sym e.above) s.join low ts (rw (s.right_whole low).0 at u))
-        | inr le ↦ meet_siblings a b last first before after a.breaks last.height (meeting_at a b last first before after (s.left ge) (s.right le) s.join (omega (arith, ge, le))) ts u
+            rw ((s.right_whole low).1, append-nil)
+            (end_siblings a b last before a.breaks last.height e.is e.children refl (sym e.above)
+            s.join low ts (rw (s.right_whole low).0 at u))
+        | inr le ↦ meet_siblings a b last first before after a.breaks last.height
+            (meeting_at a b last first before after (s.left ge) (s.right le) s.join
+            (omega (arith, ge, le))) ts u
       ]
     ]
 
-    pub sides_union : (us : List Tree) → leaves_of us ≡ leaves_of row → AreParts (breaks_of row) (length row) (length row) (height_of row + 1) us → IsUnion a b us
+    pub sides_union : (us : List Tree) → leaves_of us ≡ leaves_of row
+        → AreParts (breaks_of row) (length row) (length row) (height_of row + 1) us → IsUnion a b us
     sides_union us el p = elim (cases_lt a.height b.height) [
       | inl low ↦
           let f = s.right (omega (arith, low)) in
           let w = s.left_whole low in
-          front_union a b first after b.breaks first.height f.is f.children refl (sym f.above) s.join low ts (rw w.1 at u) us (rw w.0 at el) (rw w.0 at p)
+          front_union a b first after b.breaks first.height f.is f.children refl (sym f.above)
+          s.join low ts (rw w.1 at u) us (rw w.0 at el) (rw w.0 at p)
       | inr ge ↦ elim (cases_lt b.height a.height) [
         | inl low ↦
             let e = s.left ge in
             let w = s.right_whole low in
-            end_union a b last before a.breaks last.height e.is e.children refl (sym e.above) s.join low ts (rw w.0 at u) us (rw (w.1, append-nil) at el) (rw (w.1, append-nil) at p)
-        | inr le ↦ meet_union a b last first before after a.breaks last.height (meeting_at a b last first before after (s.left ge) (s.right le) s.join (omega (arith, ge, le))) ts u us el p
+            end_union a b last before a.breaks last.height e.is e.children refl (sym e.above) s.join
+            low ts (rw w.0 at u) us (rw (w.1, append-nil) at el) (rw (w.1, append-nil) at p)
+        | inr le ↦ meet_union a b last first before after a.breaks last.height
+            (meeting_at a b last first before after (s.left ge) (s.right le) s.join
+            (omega (arith, ge, le))) ts u us el p
       ]
     ]

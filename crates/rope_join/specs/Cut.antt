@@ -1,7 +1,7 @@
 -- The front and the back of a split tree.
 use Rattle.std.specs.Prelude.{◌≡◌, ℕ, ◌+◌, ◌≤◌, max, List, [], ◌∷◌, ◌++◌, length, take, drop}
 use Rattle.rope_text.specs.declared.TheConstants.{MAX_CHILDREN, MIN_TWO_LEAVES_BYTES}
-use Rattle.rope_text.specs.Dense.{IsDenseBehind, last_bytes}
+use Rattle.rope_text.specs.Dense.{IsDenseAfter, last_bytes}
 use Rattle.rope_tree.specs.Leaves.{AreLeaves}
 use Rattle.rope_tree.specs.Tree.{Tree, text, height_of, IsTree, AreFamily}
 use Rattle.rope_tree.specs.Siblings.{gathered}
@@ -33,8 +33,8 @@ pub record IsFront (at : ℕ) (t part : Tree) : Type 0 where
   pub same_breaks : part.breaks ≡ t.breaks
   pub leaves : AreLeaves part.leaves
   pub not_higher : part.height ≤ t.height
-  pub near : 1 ≤ part.height → (n : ℕ) → IsDenseBehind n t.leaves → IsDenseBehind n part.leaves
-  pub behind : SparesFirst at t → (n : ℕ) → IsDenseBehind n t.leaves → IsDenseBehind n part.leaves
+  pub near : 1 ≤ part.height → (n : ℕ) → IsDenseAfter n t.leaves → IsDenseAfter n part.leaves
+  pub following : SparesFirst at t → (n : ℕ) → IsDenseAfter n t.leaves → IsDenseAfter n part.leaves
 
 -- the characters from `at` on; the last leaf of a result of more than one is as long as the tree's
 pub record IsBack (at : ℕ) (t part : Tree) : Type 0 where
@@ -50,15 +50,18 @@ abbrev pub side_of : Side → ℕ → List ℕ → List ℕ
 side_of Front at cs = take at cs
 side_of Back at cs = drop at cs
 
--- the first `end` characters of one tree, and the characters of the other from `start` on; on a side
+-- the first `end` characters of one tree, and the characters of the other from `start` on; on a
+-- side
 -- where the split leaves the outer leaf whole, it may have the neighbours of the tree there
 pub record IsSides (left : Tree) (end : ℕ) (right : Tree) (start : ℕ) (part : Tree) : Type 0 where
   pub text_is : text part ≡ take end (text left) ++ drop start (text right)
   pub same_breaks : part.breaks ≡ left.breaks
   pub leaves : AreLeaves part.leaves
   pub not_higher : part.height ≤ max left.height right.height + 1
-  pub behind : SparesFirst end left → (n : ℕ) → IsDenseBehind n left.leaves → IsDenseBehind n part.leaves
-  pub ahead : SparesLast start right → (m n : ℕ) → last_bytes m right.leaves ≤ last_bytes n part.leaves
+  pub following : SparesFirst end left → (n : ℕ) → IsDenseAfter n left.leaves
+      → IsDenseAfter n part.leaves
+  pub ahead : SparesLast start right → (m n : ℕ)
+      → last_bytes m right.leaves ≤ last_bytes n part.leaves
 
 -- adjacent trees that may be gathered: as the only tree, or as the children of one node
 pub record AreGatherable (ts : List Tree) : Type 0 where
@@ -79,7 +82,7 @@ pub record AreBeside (left right : Tree) : Type 0 where
   pub left_some : 1 ≤ length left.leaves
   pub right_some : 1 ≤ length right.leaves
   pub join : CanJoin left right
-  pub near : IsDenseBehind (last_bytes MIN_TWO_LEAVES_BYTES left.leaves) right.leaves
+  pub near : IsDenseAfter (last_bytes MIN_TWO_LEAVES_BYTES left.leaves) right.leaves
 
 -- a tree and the front of its neighbour, as one tree or two
 pub record IsWithFront (left : Tree) (at : ℕ) (right : Tree) (ts : List Tree) : Type 0 where

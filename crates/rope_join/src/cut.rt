@@ -9,7 +9,7 @@ ghost use Rattle.rope_tree.specs.Rows.{IsRow};
 ghost use Rattle.rope_tree.specs.Searched.{HasSearched};
 ghost use Rattle.rope_join.specs.Cut.{side_of, IsFront, IsBack, ArePart, AreBeside, IsWithFront, IsWithBack};
 
-use crate::join::{unite, unite_before, unite_behind};
+use crate::join::{unite, unite_after, unite_before};
 use rope_text::{LineBreaks, TextInfo};
 use rope_tree::{
     Editor, Made, Maker, Node, Nodes, Row, ShortText, View, gather_rows, leaf_of, make_leaf,
@@ -122,7 +122,7 @@ fn with_front(editor: &mut Editor, left: &Node, right: &Node, at: usize) -> Made
         return unite(&mut editor.maker, left, &part);
     }
     let Part { row, nodes } = front_part(editor, right, at)?;
-    unite_behind(&mut editor.maker, left, row, nodes)
+    unite_after(&mut editor.maker, left, row, nodes)
 }
 
 /// Returns the first `at` characters, possibly none.

@@ -5,7 +5,7 @@
 //! is made once, with the result in place of the children that were split.
 ghost use Rattle.std.specs.Prelude.{◌≡◌, ◌+◌, ◌*◌, ◌<◌, ◌≤◌, ◌^◌, true, false, length, take, drop, max, IfOk};
 ghost use Rattle.rope_text.specs.declared.TheConstants.{MIN_TWO_LEAVES_BYTES};
-ghost use Rattle.rope_text.specs.Dense.{IsDenseBehind, last_bytes};
+ghost use Rattle.rope_text.specs.Dense.{IsDenseAfter, last_bytes};
 ghost use Rattle.rope_text.specs.Text.{byte_len};
 ghost use Rattle.rope_tree.specs.Leaves.{IsSeam};
 ghost use Rattle.rope_tree.specs.Siblings.{gathered};
@@ -62,17 +62,17 @@ pub(crate) fn stands(children: &[Node], first: usize, past: usize, part: &Node) 
     requires children { AreFamily children.now }
     requires some_before { 1 ≤ first }
     requires ordered { first < past }
-    requires some_behind { past < length children.now }
+    requires some_after { past < length children.now }
     requires some { 1 ≤ length part.now.leaves }
-    ensures near { result ≡ true → IsDenseBehind
+    ensures near { result ≡ true → IsDenseAfter
         (last_bytes MIN_TWO_LEAVES_BYTES (leaves_before children.now first)) part.now.leaves }
-    ensures next { result ≡ true → IsDenseBehind (last_bytes MIN_TWO_LEAVES_BYTES part.now.leaves)
+    ensures next { result ≡ true → IsDenseAfter (last_bytes MIN_TWO_LEAVES_BYTES part.now.leaves)
         (leaves_of (drop past children.now)) }
 {
     let before = end_leaf_len(&children[first - 1], true);
-    let behind = end_leaf_len(&children[past], false);
+    let following = end_leaf_len(&children[past], false);
     before + end_leaf_len(part, false) >= MIN_TWO_LEAVES_BYTES
-        && end_leaf_len(part, true) + behind >= MIN_TWO_LEAVES_BYTES
+        && end_leaf_len(part, true) + following >= MIN_TWO_LEAVES_BYTES
 }
 
 /// Joins the first `end` characters of one tree and the characters of another from `start` on, if

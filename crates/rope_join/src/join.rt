@@ -3,7 +3,7 @@
 ghost use Rattle.std.specs.Prelude.{◌≡◌, ℕ, ◌+◌, ◌-◌, ◌*◌, ◌<◌, ◌≤◌, ◌↔◌, [], ◌∷◌, ◌++◌, true, false, length, max, IsTrue, IfOk};
 ghost use Rattle.rope_text.specs.declared.TheConstants.{MAX_BYTES, MAX_CHILDREN, MIN_TWO_LEAVES_BYTES};
 ghost use Rattle.rope_text.specs.Cuts.{distance};
-ghost use Rattle.rope_text.specs.Dense.{IsDenseBehind, last_bytes};
+ghost use Rattle.rope_text.specs.Dense.{IsDenseAfter, last_bytes};
 ghost use Rattle.rope_text.specs.Text.{byte_len};
 ghost use Rattle.rope_text.specs.TextInfo.{info_of};
 ghost use Rattle.rope_tree.specs.Tree.{height_of, leaf_tree, IsTree};
@@ -27,7 +27,7 @@ pub(crate) fn end_leaf_len(node: &Node, is_last: bool) -> usize
     requires { 1 ≤ length node.now.leaves }
     ensures last { IsTrue is_last → (n : ℕ) → result ≡ last_bytes n node.now.leaves }
     ensures first { is_last ≡ false → (n : ℕ)
-        → MIN_TWO_LEAVES_BYTES ≤ n + result ↔ IsDenseBehind n node.now.leaves }
+        → MIN_TWO_LEAVES_BYTES ≤ n + result ↔ IsDenseAfter n node.now.leaves }
     ensures fits { result ≤ MAX_BYTES }
 {
     match node.view() {
@@ -205,7 +205,7 @@ fn shares_children(children: usize, count: usize) -> bool
 
 /// Joins a tree and the nodes after it into one or two trees of the greater height. Makes a node
 /// over the nodes alone only if it is in the result.
-pub(crate) fn unite_behind(
+pub(crate) fn unite_after(
     maker: &mut Maker,
     left: &Node,
     before: Row<'_>,

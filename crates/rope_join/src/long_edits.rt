@@ -212,7 +212,7 @@ fn join_around(
     requires same_breaks { part.now.breaks ≡ node.now.breaks }
     requires some { 1 ≤ length (text part.now) }
     requires seam_before { IsSeam (take start (text node.now)) (text part.now) }
-    requires seam_behind { IsSeam (text part.now) (drop end (text node.now)) }
+    requires seam_after { IsSeam (text part.now) (drop end (text node.now)) }
     requires fits { byte_len (take start (text node.now))
         + (byte_len (text part.now) + byte_len (drop end (text node.now))) < 2 ^ 63 }
     ensures text { IfOk result (λ new. text new

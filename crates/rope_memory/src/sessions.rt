@@ -1,6 +1,6 @@
 //! Sessions of commands, and lines that are served.
 use crate::TRIES;
-use rope_language::{Ended, serve};
+use rope_protocol::{Ended, serve};
 use rope_script::{At, Command, Move, Query, Reply, Session, Unit};
 use ropey::{Error, LineBreaks};
 use std::alloc::Global;

@@ -1,6 +1,7 @@
 //! Ropes compared with lists of characters.
 
 use crate::failure::Failure;
+use crate::sums::plus;
 use crate::texts::chars_of;
 use crate::{plain_text, same};
 use ropey::{LineBreaks, MAX_BYTES, Rope};
@@ -29,29 +30,29 @@ pub fn lens(rope: &Rope) -> [usize; 4] {
 }
 
 /// Fails unless the rope has the text, its lengths by the set of line breaks, and valid chunks.
-pub fn compare(rope: &Rope, text: &[char], breaks: LineBreaks) -> Result<(), Failure> {
-    compare_lengths(rope, text, breaks)?;
-    compare_chunks(rope)?;
-    compare_text(rope, text)
+pub fn expect_plain(rope: &Rope, text: &[char], breaks: LineBreaks) -> Result<(), Failure> {
+    expect_lengths(rope, text, breaks)?;
+    expect_valid_chunks(rope)?;
+    expect_chunks_of(rope, text)
 }
 
 /// Fails unless the rope has Unicode's line breaks, the text, and valid chunks.
-pub fn compare_unicode(rope: &Rope, text: &[char]) -> Result<(), Failure> {
-    compare(rope, text, LineBreaks::Unicode)
+pub fn expect_plain_unicode(rope: &Rope, text: &[char]) -> Result<(), Failure> {
+    expect_plain(rope, text, LineBreaks::Unicode)
 }
 
 /// Fails unless the rope has the set of line breaks and the lengths.
-fn compare_lengths(rope: &Rope, text: &[char], breaks: LineBreaks) -> Result<(), Failure> {
+fn expect_lengths(rope: &Rope, text: &[char], breaks: LineBreaks) -> Result<(), Failure> {
     let end = plain_text::place_of(text, text.len(), breaks);
     same!(rope.line_breaks(), breaks);
-    let lines = end.line.saturating_add(1);
+    let lines = plus(end.line, 1);
     same!(lens(rope), [end.byte, text.len(), lines, end.unit]);
     Ok(())
 }
 
 /// Fails unless each chunk has 1 to `MAX_BYTES` bytes, and none ends in a CR whose LF begins the
 /// next.
-fn compare_chunks(rope: &Rope) -> Result<(), Failure> {
+fn expect_valid_chunks(rope: &Rope) -> Result<(), Failure> {
     let mut after_cr = false;
     for (i, chunk) in rope.chunks().enumerate() {
         if chunk.is_empty() || chunk.len() > MAX_BYTES {
@@ -67,14 +68,14 @@ fn compare_chunks(rope: &Rope) -> Result<(), Failure> {
 }
 
 /// Fails unless the chunks are the text.
-fn compare_text(rope: &Rope, text: &[char]) -> Result<(), Failure> {
+fn expect_chunks_of(rope: &Rope, text: &[char]) -> Result<(), Failure> {
     let mut place: usize = 0;
     for chunk in rope.chunks() {
         for c in chunk.chars() {
             if text.get(place) != Some(&c) {
                 return Err(other_char(place, c, text));
             }
-            place = place.saturating_add(1);
+            place = plus(place, 1);
         }
     }
     if place != text.len() {
@@ -108,7 +109,7 @@ pub fn expect_few_chunks(rope: &Rope) -> Result<(), Failure> {
 pub fn expect_no_short_chunks(rope: &Rope) -> Result<(), Failure> {
     let mut before = PAIR_BYTES;
     for chunk in rope.chunks() {
-        let both = before.saturating_add(chunk.len());
+        let both = plus(before, chunk.len());
         if both < PAIR_BYTES {
             return Err(Failure::new(format_args!("{both} bytes in two chunks")));
         }
@@ -125,16 +126,16 @@ pub fn expect_no_short_chunks(rope: &Rope) -> Result<(), Failure> {
 /// Fails unless a character and the next one are in one chunk.
 pub fn expect_together(rope: &Rope, first: usize) -> Result<(), Failure> {
     let (chunk, start) = chunk_of(rope, first);
-    if first.saturating_add(1) < start.saturating_add(chunk.chars().count()) {
+    if plus(first, 1) < plus(start, chunk.chars().count()) {
         return Ok(());
     }
-    Err(Failure::new(format_args!("a chunk ends behind character {first}")))
+    Err(Failure::new(format_args!("a chunk ends after character {first}")))
 }
 
 /// Fails unless the rope has Unicode's line breaks and this text, in valid chunks.
 pub fn expect_text(alloc: Global, rope: &Rope, text: &str) -> Result<(), Failure> {
     let plain = chars_of(alloc, text)?;
-    compare_unicode(rope, &plain)
+    expect_plain_unicode(rope, &plain)
 }
 
 /// Returns the chunk of a character, or the last one, and the number of characters before it.
@@ -143,7 +144,7 @@ pub fn chunk_of(rope: &Rope, char_idx: usize) -> (&str, usize) {
     let mut start: usize = 0;
     for chunk in rope.chunks() {
         found = (chunk, start);
-        start = start.saturating_add(chunk.chars().count());
+        start = plus(start, chunk.chars().count());
         if char_idx < start {
             break;
         }

@@ -1,11 +1,12 @@
 //! Sums over the items of cursors.
+use crate::sums::plus;
 use ropey::iter::{Bytes, Chars, Chunks, Lines};
 
 /// Returns the number of bytes of all chunks that a cursor still gives.
 pub fn bytes_of_chunks(chunks: Chunks<'_>) -> usize {
     let mut bytes: usize = 0;
     for chunk in chunks {
-        bytes = bytes.saturating_add(chunk.len());
+        bytes = plus(bytes, chunk.len());
     }
     bytes
 }
@@ -14,7 +15,7 @@ pub fn bytes_of_chunks(chunks: Chunks<'_>) -> usize {
 pub fn bytes_of_lines(lines: Lines<'_>) -> usize {
     let mut bytes: usize = 0;
     for line in lines {
-        bytes = bytes.saturating_add(line.len_bytes());
+        bytes = plus(bytes, line.len_bytes());
     }
     bytes
 }
@@ -24,7 +25,7 @@ pub fn count_byte(bytes: Bytes<'_>, wanted: u8) -> usize {
     let mut count: usize = 0;
     for byte in bytes {
         if byte == wanted {
-            count = count.saturating_add(1);
+            count = plus(count, 1);
         }
     }
     count
@@ -35,7 +36,7 @@ pub fn count_char(chars: Chars<'_>, wanted: char) -> usize {
     let mut count: usize = 0;
     for c in chars {
         if c == wanted {
-            count = count.saturating_add(1);
+            count = plus(count, 1);
         }
     }
     count

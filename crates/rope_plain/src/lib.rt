@@ -3,7 +3,8 @@
 //!
 //! Texts are lists of characters, whose counts and conversions scan all of them. Ropes and slices
 //! are such lists with the ends of their chunks, and cursors are indices among items. `failure` has
-//! the line that explains a failed test. The benchmark draws its numbers from here too.
+//! the line that explains a failed test, `samples` rows worked by hand, `sums` sums that the prover
+//! needn't show to fit. The benchmark draws its numbers from here too.
 #![tactic(auto)]
 
 pub mod compare;
@@ -16,5 +17,7 @@ pub mod plain_cursor;
 pub mod plain_rope;
 pub mod plain_slice;
 pub mod plain_text;
+pub mod samples;
+pub mod sums;
 pub mod texts;
 pub mod walker;

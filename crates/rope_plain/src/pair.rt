@@ -1,7 +1,8 @@
 //! A rope with the list of characters that it must have, and edits of both.
-use crate::compare::compare;
+use crate::compare::expect_plain;
 use crate::failure::Failure;
 use crate::numbers::Numbers;
+use crate::sums::plus;
 use crate::texts::{chars_of, inserted, part_from, take_out};
 use ropey::{Error, LineBreaks, Rope};
 use std::alloc::{AllocError, Global};
@@ -73,7 +74,7 @@ impl Pair {
 
     /// Fails unless the rope equals its list, by this set of line breaks.
     pub fn expect_same(&self, breaks: LineBreaks) -> Result<(), Failure> {
-        compare(&self.rope, &self.plain, breaks)
+        expect_plain(&self.rope, &self.plain, breaks)
     }
 
     /// Returns the end of each chunk, in characters.
@@ -81,7 +82,7 @@ impl Pair {
         let mut ends = Vec::new(alloc);
         let mut end: usize = 0;
         for chunk in self.rope.chunks() {
-            end = end.saturating_add(chunk.chars().count());
+            end = plus(end, chunk.chars().count());
             ends.push(end)?;
         }
         Ok(ends)

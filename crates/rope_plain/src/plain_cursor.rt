@@ -1,5 +1,6 @@
 //! The model of a cursor: an index in a list, and a direction.
 
+use crate::sums::plus;
 /// An index among `len` items.
 #[derive(Clone, Copy, Debug)]
 pub struct PlainCursor {
@@ -23,7 +24,7 @@ impl PlainCursor {
             return None;
         }
         let item = self.place;
-        self.place = item.saturating_add(1);
+        self.place = plus(item, 1);
         Some(item)
     }
 

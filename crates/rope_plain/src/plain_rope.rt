@@ -2,6 +2,7 @@
 //! positions.
 use crate::plain_slice::PlainSlice;
 use crate::plain_text::{Place, START};
+use crate::sums::{minus, plus};
 use ropey::LineBreaks;
 use std::alloc::{AllocError, Global};
 
@@ -62,8 +63,8 @@ pub fn lengths_of(places: &[Place]) -> Lengths {
     match places.last() {
         Some(last) => Lengths {
             bytes: last.byte,
-            chars: places.len().saturating_sub(1),
-            lines: last.line.saturating_add(1),
+            chars: minus(places.len(), 1),
+            lines: plus(last.line, 1),
             units: last.unit,
         },
         None => Lengths {
@@ -104,7 +105,7 @@ pub fn line_place(places: &[Place], line: usize) -> usize {
             return i;
         }
     }
-    places.len().saturating_sub(1)
+    minus(places.len(), 1)
 }
 
 /// Returns the position at this index, or the start.

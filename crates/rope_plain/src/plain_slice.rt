@@ -1,5 +1,6 @@
 //! The model of a slice: a list of characters, and the ends of chunks.
 use crate::plain_text::{char_to_line, place_of};
+use crate::sums::plus;
 use ropey::LineBreaks;
 
 /// A range of a text whose chunks are given by their ends.
@@ -32,7 +33,7 @@ impl<'a> PlainSlice<'a> {
         let (_, text) = front.split_at(start.min(front.len()));
         PlainSlice {
             text,
-            before: self.before.saturating_add(start),
+            before: plus(self.before, start),
             ends: self.ends,
             breaks: self.breaks,
         }
@@ -82,7 +83,7 @@ impl<'a> PlainSlice<'a> {
                 if count == index {
                     return Some((start, end));
                 }
-                count = count.saturating_add(1);
+                count = plus(count, 1);
                 start = end;
             }
         }
@@ -112,7 +113,7 @@ impl<'a> PlainSlice<'a> {
         for end in self.ends {
             let end = self.clipped(*end);
             if start < end {
-                count = count.saturating_add(1);
+                count = plus(count, 1);
                 start = end;
             }
         }

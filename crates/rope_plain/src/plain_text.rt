@@ -1,5 +1,6 @@
 //! A plain text: a list of characters, whose counts and conversions scan all of it. It is a model
 //! to compare with, written from the rules alone; it is only proved to be safe.
+use crate::sums::plus;
 use rope_text::LineBreaks;
 use std::alloc::{AllocError, Global};
 
@@ -29,7 +30,7 @@ fn is_break_end(text: &[char], place: usize, breaks: LineBreaks) -> bool {
 pub fn char_to_byte(text: &[char], place: usize) -> usize {
     let mut bytes: usize = 0;
     for c in text.iter().take(place) {
-        bytes = bytes.saturating_add(c.len_utf8());
+        bytes = plus(bytes, c.len_utf8());
     }
     bytes
 }
@@ -44,9 +45,7 @@ pub fn surrogates_before(text: &[char], place: usize) -> usize {
 
 /// Returns the number of code units of the first characters.
 pub fn char_to_utf16(text: &[char], place: usize) -> usize {
-    place
-        .min(text.len())
-        .saturating_add(surrogates_before(text, place))
+    plus(place.min(text.len()), surrogates_before(text, place))
 }
 
 /// Returns the greatest index whose bytes are at most `byte`.
@@ -76,7 +75,7 @@ pub fn char_to_line(text: &[char], place: usize, breaks: LineBreaks) -> usize {
     let mut break_count: usize = 0;
     for end in 1..=place.min(text.len()) {
         if is_break_end(text, end, breaks) {
-            break_count = break_count.saturating_add(1);
+            break_count = plus(break_count, 1);
         }
     }
     break_count
@@ -90,7 +89,7 @@ pub fn line_to_char(text: &[char], line: usize, breaks: LineBreaks) -> usize {
     let mut break_count: usize = 0;
     for end in 1..=text.len() {
         if is_break_end(text, end, breaks) {
-            break_count = break_count.saturating_add(1);
+            break_count = plus(break_count, 1);
             if break_count == line {
                 return end;
             }
@@ -122,10 +121,10 @@ impl Place {
     /// Returns the position after a character, with `passed` characters before it.
     fn after(self, c: char, text: &[char], passed: usize, breaks: LineBreaks) -> Place {
         let mut place = self;
-        place.byte = place.byte.saturating_add(c.len_utf8());
-        place.unit = place.unit.saturating_add(c.len_utf16());
+        place.byte = plus(place.byte, c.len_utf8());
+        place.unit = plus(place.unit, c.len_utf16());
         if is_break_end(text, passed, breaks) {
-            place.line = place.line.saturating_add(1);
+            place.line = plus(place.line, 1);
             place.line_start_char = passed;
             place.line_start_byte = place.byte;
         }
@@ -138,7 +137,7 @@ pub fn place_of(text: &[char], char_idx: usize, breaks: LineBreaks) -> Place {
     let mut place = START;
     let mut passed: usize = 0;
     for c in text.iter().take(char_idx) {
-        passed = passed.saturating_add(1);
+        passed = plus(passed, 1);
         place = place.after(*c, text, passed, breaks);
     }
     place

@@ -1,6 +1,8 @@
 //! Texts, and edits of lists of characters.
 use crate::failure::Failure;
 use crate::numbers::Numbers;
+use crate::same;
+use crate::sums::plus;
 use ropey::{Error, Rope};
 use std::alloc::{AllocError, Global};
 
@@ -19,6 +21,22 @@ pub fn rope_of(alloc: Global, text: &str, count: usize) -> Result<Rope, Error> {
     Rope::from_str(alloc, text.as_str())
 }
 
+/// Joins a rope to itself `times` times.
+fn double(rope: &mut Rope, times: usize) -> Result<(), Error> {
+    for _ in 0..times {
+        let copy = rope.clone()?;
+        rope.append(copy)?;
+    }
+    Ok(())
+}
+
+/// Returns a text that is joined to itself `times` times.
+pub fn doubled(alloc: Global, text: &str, times: usize) -> Result<Rope, Error> {
+    let mut rope = Rope::from_str(alloc, text)?;
+    double(&mut rope, times)?;
+    Ok(rope)
+}
+
 /// Returns whether a text is these characters.
 pub fn is_text(text: &str, chars: &[char]) -> bool {
     let mut place: usize = 0;
@@ -26,7 +44,7 @@ pub fn is_text(text: &str, chars: &[char]) -> bool {
         if chars.get(place) != Some(&c) {
             return false;
         }
-        place = place.saturating_add(1);
+        place = plus(place, 1);
     }
     place == chars.len()
 }
@@ -37,6 +55,13 @@ pub fn expect_chars(text: &str, chars: &[char]) -> Result<(), Failure> {
         return Ok(());
     }
     Err(Failure::new(format_args!("{text:?}, not {chars:?}")))
+}
+
+/// Fails unless this text was shown.
+pub fn expect_shown(shown: Result<String, AllocError>, text: &str) -> Result<(), Failure> {
+    let shown = shown?;
+    same!(shown.as_str(), text);
+    Ok(())
 }
 
 /// Returns a text as a list of characters.
@@ -90,7 +115,7 @@ pub fn inserted(
     text: &str,
 ) -> Result<Vec<char>, AllocError> {
     let mut new = Vec::new(alloc);
-    new.reserve(old.len().saturating_add(text.len()))?;
+    new.reserve(plus(old.len(), text.len()))?;
     let (front, back) = old.split_at(at.min(old.len()));
     new.extend_from_slice(front)?;
     for c in text.chars() {
@@ -121,7 +146,7 @@ pub fn part_from(alloc: Global, text: &[char], start: usize) -> Result<Vec<char>
 /// Returns a text of `bytes` bytes that begins with `first` and ends with `last`, or these alone if
 /// they are longer.
 pub fn padded(alloc: Global, first: &str, bytes: usize, last: &str) -> Result<String, AllocError> {
-    let ends = first.len().saturating_add(last.len());
+    let ends = plus(first.len(), last.len());
     let mut text = String::from_str(alloc, first)?;
     text.push_str(repeated(alloc, "a", bytes.saturating_sub(ends))?.as_str())?;
     text.push_str(last)?;

@@ -26,15 +26,19 @@ unit_to_char Utf32 text unit = unit
 abbrev pub position_in : Encoding → LineBreaks → List ℕ → ℕ → Position
 position_in encoding breaks text i = record {
   line = char_to_line breaks text i;
-  column = unit_len encoding (slice_range text (line_start breaks text (char_to_line breaks text i)) i);
+  column = unit_len encoding
+      (slice_range text (line_start breaks text (char_to_line breaks text i)) i);
 }
 
 -- the character at a column of a text, or its end if the column is past it
 abbrev pub clamped_column : Encoding → List ℕ → ℕ → ℕ
-clamped_column encoding text column = unit_to_char encoding text (min column (unit_len encoding text))
+clamped_column encoding text column =
+    unit_to_char encoding text (min column (unit_len encoding text))
 
--- the character at a position: past the end of a line its end before its break, past the last line the end of the text
+-- the character at a position: past the end of a line its end before its break, past the last line
+-- the end of the text
 abbrev pub clamped_char : Encoding → LineBreaks → List ℕ → Position → ℕ
 clamped_char encoding breaks text p =
     if nat_le (line_count breaks text) p.line then length text
-    else line_start breaks text p.line + clamped_column encoding (without_break breaks (line breaks text p.line)) p.column
+    else line_start breaks text p.line + clamped_column encoding
+    (without_break breaks (line breaks text p.line)) p.column

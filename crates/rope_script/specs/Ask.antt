@@ -82,7 +82,8 @@ IsTextsReply _ texts = ⊥
 
 -- the reply has this chunk, and the counts before it
 abbrev pub IsChunkReply : Reply → FoundChunk → Type 0
-IsChunkReply (reply.Chunk s bytes characters count) found = IsFoundChunk found (chars (string_bytes s)) bytes characters count
+IsChunkReply (reply.Chunk s bytes characters count) found =
+    IsFoundChunk found (chars (string_bytes s)) bytes characters count
 IsChunkReply _ found = ⊥
 
 -- the order of the slice against another one of these ropes: first the rope is looked up, then its
@@ -90,27 +91,44 @@ IsChunkReply _ found = ⊥
 abbrev pub Compares : List Content → Content → ℕ → Option (ℕ × ℕ) → Reply → Type 0
 Compares ropes c other range r =
     MatchOption (slice_get ropes other) (r ≡ reply.NoRope)
-    (λ rope. MatchOption (part_of rope range) (r ≡ reply.NoSlice) (λ part. r ≡ reply.Order (text_cmp c.text part.text)))
+    (λ rope. MatchOption (part_of rope range) (r ≡ reply.NoSlice)
+    (λ part. r ≡ reply.Order (text_cmp c.text part.text)))
 
 -- the reply to a cursor that starts at an index and makes these moves
 abbrev pub AnswersWalk : Content → units.Unit → ℕ → List Move → Reply → Type 0
-AnswersWalk c unit.Bytes i moves r = Walks IsByteItem (nat_le i (byte_len c.text)) (encode_utf8_all c.text) i moves r
+AnswersWalk c unit.Bytes i moves r =
+    Walks IsByteItem (nat_le i (byte_len c.text)) (encode_utf8_all c.text) i moves r
 AnswersWalk c unit.Chars i moves r = Walks IsCharItem (nat_le i (length c.text)) c.text i moves r
-AnswersWalk c unit.Lines i moves r = Walks IsLineItem (nat_le i (line_count c.breaks c.text)) (lines_of c) i moves r
-AnswersWalk c (unit.Chunks at) i moves r = Walks IsTextItem (is_inside c at i) c.chunks (chunk_place c at i) moves r
+AnswersWalk c unit.Lines i moves r =
+    Walks IsLineItem (nat_le i (line_count c.breaks c.text)) (lines_of c) i moves r
+AnswersWalk c (unit.Chunks at) i moves r =
+    Walks IsTextItem (is_inside c at i) c.chunks (chunk_place c at i) moves r
 
 -- the reply to a query of a slice, given these ropes
 abbrev pub Answers : List Content → Content → Query → Reply → Type 0
-Answers ropes c query.Lens r = r ≡ reply.Lens (byte_len c.text) (length c.text) (line_count c.breaks c.text) (utf16_len c.text)
+Answers ropes c query.Lens r =
+    r ≡ reply.Lens (byte_len c.text) (length c.text) (line_count c.breaks c.text) (utf16_len c.text)
 Answers ropes c query.Show r = IsTextReply r c.text
 Answers ropes c query.Chunks r = IsTextsReply r c.chunks
 Answers ropes c query.Breaks r = r ≡ reply.Breaks c.breaks
-Answers ropes c (query.Convert conv i) r = r ≡ refusal_or (conversion_error c conv i) (reply.Number (conversion c conv i))
-Answers ropes c (query.Byte i) r = MatchOption (slice_get (encode_utf8_all c.text) i) (r ≡ reply.Absent) (λ byte. r ≡ reply.Byte byte)
-Answers ropes c (query.Char i) r = MatchOption (slice_get c.text i) (r ≡ reply.Absent) (λ character. r ≡ reply.Char character)
-Answers ropes c (query.Line l) r = MatchBool (nat_lt l (line_count c.breaks c.text)) (IsTextReply r (line c.breaks c.text l)) (r ≡ reply.Absent)
-Answers ropes c (query.ChunkAt at i) r = MatchBool (is_inside c at i) (IsChunkReply r (found_chunk c.breaks c.chunks (chunk_index c at i))) (r ≡ reply.Absent)
+Answers ropes c (query.Convert conv i) r =
+    r ≡ refusal_or (conversion_error c conv i) (reply.Number (conversion c conv i))
+Answers ropes c (query.Byte i) r =
+    MatchOption (slice_get (encode_utf8_all c.text) i) (r ≡ reply.Absent)
+    (λ byte. r ≡ reply.Byte byte)
+Answers ropes c (query.Char i) r =
+    MatchOption (slice_get c.text i) (r ≡ reply.Absent) (λ character. r ≡ reply.Char character)
+Answers ropes c (query.Line l) r =
+    MatchBool (nat_lt l (line_count c.breaks c.text)) (IsTextReply r (line c.breaks c.text l))
+    (r ≡ reply.Absent)
+Answers ropes c (query.ChunkAt at i) r =
+    MatchBool (is_inside c at i)
+    (IsChunkReply r (found_chunk c.breaks c.chunks (chunk_index c at i))) (r ≡ reply.Absent)
 Answers ropes c (query.Walk unit i moves) r = AnswersWalk c unit i moves.items r
 Answers ropes c (query.Compare (other, range)) r = Compares ropes c other range r
-Answers ropes c (query.ToPosition i) r = r ≡ refusal_or (char_index_error i (length c.text)) (reply.Position (char_to_line c.breaks c.text i) (char_to_column c.breaks c.text i))
-Answers ropes c (query.FromPosition l column) r = r ≡ refusal_or (position_error c.breaks c.text l column) (reply.Number (position_to_char c.breaks c.text l column))
+Answers ropes c (query.ToPosition i) r =
+    r ≡ refusal_or (char_index_error i (length c.text))
+    (reply.Position (char_to_line c.breaks c.text i) (char_to_column c.breaks c.text i))
+Answers ropes c (query.FromPosition l column) r =
+    r ≡ refusal_or (position_error c.breaks c.text l column)
+    (reply.Number (position_to_char c.breaks c.text l column))

@@ -7,4 +7,5 @@ use Rattle.rope_text.specs.LineParts.{part_between}
 -- rope
 abbrev pub part_of : Content → Option (ℕ × ℕ) → Option Content
 part_of rope None = Some rope
-part_of rope (Some (a, b)) = if nat_le a b && nat_le b (length rope.text) then Some (part_between rope a b) else None
+part_of rope (Some (a, b)) =
+    if nat_le a b && nat_le b (length rope.text) then Some (part_between rope a b) else None

@@ -56,4 +56,5 @@ module _ {X : Type 0} (shows : Item → X → Type 0) where
   -- the walk of a list from an index, facing forward, if the start is in bounds
   abbrev pub Walks : Bool → List X → ℕ → List Move → Reply → Type 0
   Walks is_inside items place moves r =
-      MatchBool is_inside (IsWalkReply (record { items = items; place = place; forward = true }) moves r) (r ≡ reply.Absent)
+      MatchBool is_inside (IsWalkReply (record { items = items; place = place; forward = true })
+      moves r) (r ≡ reply.Absent)

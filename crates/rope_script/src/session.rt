@@ -64,8 +64,13 @@ impl Session {
         Ok(())
     }
 
-    /// Runs one command and returns its reply. Does nothing when it runs out of memory.
-    fn step(&mut self, command: &Command) -> Result<Reply>
+    /// Runs one command and returns its reply. A command that fails has its own reply.
+    ///
+    /// # Errors
+    ///
+    /// `OutOfMemory` alone, if the list of ropes or the texts of the reply could not grow. Then the
+    /// command has done nothing.
+    pub fn step(&mut self, command: &Command) -> Result<Reply>
         ensures step { IfOk result (λ reply. Step self.old command.now reply self.new) }
         ensures err { OnErr result (self.new ≡ self.old) }
         ensures memory { IfErr result (λ e. e ≡ OutOfMemory) }

@@ -7,7 +7,8 @@ use Rattle.rope_text.proofs.CuttingLaws.{concat-append}
 use Rattle.rope_text.proofs.Measures.{IsMeasure-byte_len}
 use Rattle.rope_slice.specs.Path.{Place, leaves}
 
-pub ascii_here : (p : Place) (text : List ℕ) → concat (leaves p) ≡ text → byte_len text ≡ length text → byte_len p.here ≡ length p.here
+pub ascii_here : (p : Place) (text : List ℕ) → concat (leaves p) ≡ text
+    → byte_len text ≡ length text → byte_len p.here ≡ length p.here
 ascii_here p text whole ascii =
     omega (
       arith,

@@ -41,8 +41,10 @@ apart_back x [] r a = refl
 apart_back x (c ∷ y) r a = sym (parts_crlf-append x c y r) ∙ a
 
 -- the position before a character of a slice
-module _ (c : Content) (p : Place) (at i b : ℕ) (kept : IsPart c) (text_is : concat (leaves p) ≡ c.text) (chunks_are : 0 < length c.text → leaves p ≡ c.chunks)
-    (place : length (concat p.before) + at ≡ i) (within : at ≤ length p.here) (bytes : b ≡ byte_len (take at p.here)) where
+module _ (c : Content) (p : Place) (at i b : ℕ) (kept : IsPart c)
+    (text_is : concat (leaves p) ≡ c.text) (chunks_are : 0 < length c.text → leaves p ≡ c.chunks)
+    (place : length (concat p.before) + at ≡ i) (within : at ≤ length p.here)
+    (bytes : b ≡ byte_len (take at p.here)) where
   char_is : byte_to_char p.here b ≡ at
   char_is = ap (byte_to_char p.here) bytes ∙ front_place p.here at within
 
@@ -63,22 +65,31 @@ module _ (c : Content) (p : Place) (at i b : ℕ) (kept : IsPart c) (text_is : c
 
   pub front_at : (halves_at p b).front ≡ take i c.text
   front_at =
-      ap (λ j. concat p.before ++ take j p.here) char_is ∙ ap (λ t. concat p.before ++ t) (sym (take-append-le at p.here (concat p.after) within))
-      ∙ sym (take-append-add (concat p.before) (p.here ++ concat p.after) at) ∙ ap (λ n. take n (concat p.before ++ (p.here ++ concat p.after))) place ∙ ap (take i) (sym parts)
+      ap (λ j. concat p.before ++ take j p.here) char_is
+      ∙ ap (λ t. concat p.before ++ t) (sym (take-append-le at p.here (concat p.after) within))
+      ∙ sym (take-append-add (concat p.before) (p.here ++ concat p.after) at)
+      ∙ ap (λ n. take n (concat p.before ++ (p.here ++ concat p.after))) place
+      ∙ ap (take i) (sym parts)
 
   pub back_at : (halves_at p b).back ≡ drop i c.text
   back_at =
-      ap (λ j. drop j p.here ++ concat p.after) char_is ∙ sym (drop-append-le at p.here (concat p.after) within)
-      ∙ sym (drop-append-add (concat p.before) (p.here ++ concat p.after) at) ∙ ap (λ n. drop n (concat p.before ++ (p.here ++ concat p.after))) place ∙ ap (drop i) (sym parts)
+      ap (λ j. drop j p.here ++ concat p.after) char_is
+      ∙ sym (drop-append-le at p.here (concat p.after) within)
+      ∙ sym (drop-append-add (concat p.before) (p.here ++ concat p.after) at)
+      ∙ ap (λ n. drop n (concat p.before ++ (p.here ++ concat p.after))) place
+      ∙ ap (drop i) (sym parts)
 
 -- a step over a line from a position
-module _ (breaks : LineBreaks) (p : Place) (b : ℕ) (g : IsCaret p b) (info : TextInfo) (e : info ≡ info_of breaks (first_line breaks (drop (byte_to_char p.here b) p.here))) where
+module _ (breaks : LineBreaks) (p : Place) (b : ℕ) (g : IsCaret p b) (info : TextInfo)
+    (e : info ≡ info_of breaks (first_line breaks (drop (byte_to_char p.here b) p.here))) where
   rest_apart : parts_crlf (drop (byte_to_char p.here b) p.here) (concat p.after) ≡ false
   rest_apart =
       let j : ℕ = byte_to_char p.here b in
-      apart_back (take j p.here) (drop j p.here) (concat p.after) (ap (λ t. parts_crlf t (concat p.after)) (take-append-drop j p.here) ∙ here_apart p g.chunks)
+      apart_back (take j p.here) (drop j p.here) (concat p.after)
+      (ap (λ t. parts_crlf t (concat p.after)) (take-append-drop j p.here) ∙ here_apart p g.chunks)
 
-  parts_fit : byte_len (take (byte_to_char p.here b) p.here) + (byte_len (drop (byte_to_char p.here b) p.here) + byte_len (concat p.after)) < 2 ^ 63
+  parts_fit : byte_len (take (byte_to_char p.here b) p.here)
+      + (byte_len (drop (byte_to_char p.here b) p.here) + byte_len (concat p.after)) < 2 ^ 63
   parts_fit =
       let j : ℕ = byte_to_char p.here b in
       omega (
@@ -94,14 +105,22 @@ module _ (breaks : LineBreaks) (p : Place) (b : ℕ) (g : IsCaret p b) (info : T
   pub info_small : IsSmall info
   info_small =
       let j : ℕ = byte_to_char p.here b in
-      small_of breaks (first_line breaks (drop j p.here)) info e (omega (arith, parts_fit, size_front (line_start breaks (drop j p.here) 1) (drop j p.here)))
+      small_of breaks (first_line breaks (drop j p.here)) info e
+      (omega (arith, parts_fit, size_front (line_start breaks (drop j p.here) 1) (drop j p.here)))
 
   pub place_fits : b + info.bytes < 2 ^ 63
   place_fits =
       let j : ℕ = byte_to_char p.here b in
-      omega (arith, parts_fit, g.between, ap (λ x. x.bytes) e, size_front (line_start breaks (drop j p.here) 1) (drop j p.here))
+      omega (
+        arith,
+        parts_fit,
+        g.between,
+        ap (λ x. x.bytes) e,
+        size_front (line_start breaks (drop j p.here) 1) (drop j p.here),
+      )
 
-  pub pass_inside : 0 < info.break_count → PassesLine breaks (halves_at p b).front (halves_at p b).back p (b + info.bytes) info
+  pub pass_inside : 0 < info.break_count
+      → PassesLine breaks (halves_at p b).front (halves_at p b).back p (b + info.bytes) info
   pass_inside some =
       let j : ℕ = byte_to_char p.here b in
       let back : List ℕ = drop j p.here in
@@ -109,55 +128,87 @@ module _ (breaks : LineBreaks) (p : Place) (b : ℕ) (g : IsCaret p b) (info : T
       let before : List ℕ = concat p.before in
       let k : ℕ = line_start breaks back 1 in
       let low = byte_to_char-le-length p.here b in
-      let within : j + k ≤ length p.here = omega (arith, line_start-le-length breaks back 1, length-drop j p.here) in
+      let within : j + k ≤ length p.here =
+      omega (arith, line_start-le-length breaks back 1, length-drop j p.here) in
       let size = ap byte_len (take-add j k p.here) ∙ size_two (take j p.here) (take k back) in
-      let bytes : b + info.bytes ≡ byte_len (take (j + k) p.here) = omega (arith, size, g.between, ap (λ x. x.bytes) e) in
-      let place : byte_to_char p.here (b + info.bytes) ≡ j + k = ap (byte_to_char p.here) bytes ∙ front_place p.here (j + k) within in
-      let line : first_line breaks (back ++ r) ≡ take k back = first_line-left breaks back r rest_apart (some_break breaks back info e some) in
+      let bytes : b + info.bytes ≡ byte_len (take (j + k) p.here) =
+      omega (arith, size, g.between, ap (λ x. x.bytes) e) in
+      let place : byte_to_char p.here (b + info.bytes) ≡ j + k = ap (byte_to_char p.here) bytes
+      ∙ front_place p.here (j + k) within in
+      let line : first_line breaks (back ++ r) ≡ take k back =
+      first_line-left breaks back r rest_apart (some_break breaks back info e some) in
       record {
         caret = record {
           between = ap (λ m. byte_len (take m p.here)) place ∙ sym bytes;
           chunks = g.chunks;
         };
-        front_is = ap (λ m. before ++ take m p.here) place ∙ ap (λ t. before ++ t) (take-add j k p.here) ∙ sym (append_assoc before (take j p.here) (take k back))
+        front_is = ap (λ m. before ++ take m p.here) place
+            ∙ ap (λ t. before ++ t) (take-add j k p.here)
+            ∙ sym (append_assoc before (take j p.here) (take k back))
             ∙ ap (λ t. (before ++ take j p.here) ++ t) (sym line);
-        back_is = ap (λ t. t ++ r) (sym (take-append-drop k back)) ∙ append_assoc (take k back) (drop k back) r ∙ ap (λ t. t ++ (drop k back ++ r)) (sym line)
-            ∙ ap (λ t. first_line breaks (back ++ r) ++ (t ++ r)) (drop-drop k j p.here) ∙ ap (λ m. first_line breaks (back ++ r) ++ (drop m p.here ++ r)) (sym place);
+        back_is = ap (λ t. t ++ r) (sym (take-append-drop k back))
+            ∙ append_assoc (take k back) (drop k back) r
+            ∙ ap (λ t. t ++ (drop k back ++ r)) (sym line)
+            ∙ ap (λ t. first_line breaks (back ++ r) ++ (t ++ r)) (drop-drop k j p.here)
+            ∙ ap (λ m. first_line breaks (back ++ r) ++ (drop m p.here ++ r)) (sym place);
         counts = e ∙ ap (info_of breaks) (sym line);
       }
 
-  module _ (q : Place) (d : ℕ) (more : TextInfo) (few : info.break_count ≤ 0) (h : PassesLine breaks (concat p.before ++ p.here) (concat p.after) q d more) where
+  module _ (q : Place) (d : ℕ) (more : TextInfo) (few : info.break_count ≤ 0)
+      (h : PassesLine breaks (concat p.before ++ p.here) (concat p.after) q d more) where
     pub more_small : IsSmall more
-    more_small = small_of breaks (first_line breaks (concat p.after)) more h.counts (omega (arith, parts_fit, size_front (line_start breaks (concat p.after) 1) (concat p.after)))
+    more_small =
+        small_of breaks (first_line breaks (concat p.after)) more h.counts
+        (omega (
+          arith,
+          parts_fit,
+          size_front (line_start breaks (concat p.after) 1)
+              (concat p.after),
+        ))
 
-    pub pass_over : (sum : TextInfo) → sum ≡ info_sum info more → PassesLine breaks (halves_at p b).front (halves_at p b).back q d sum
+    pub pass_over : (sum : TextInfo) → sum ≡ info_sum info more
+        → PassesLine breaks (halves_at p b).front (halves_at p b).back q d sum
     pass_over sum sum_is =
         let j : ℕ = byte_to_char p.here b in
         let back : List ℕ = drop j p.here in
         let r : List ℕ = concat p.after in
         let before : List ℕ = concat p.before in
-        let none = no_break_at_all breaks back (let lines = ap (λ x. x.break_count) e in omega arith) in
+        let none = no_break_at_all breaks back (let lines = ap (λ x. x.break_count) e in
+        omega arith) in
         let all = first_line-all breaks back none in
-        let line : first_line breaks (back ++ r) ≡ back ++ first_line breaks r = first_line-right breaks back r rest_apart none in
+        let line : first_line breaks (back ++ r) ≡ back ++ first_line breaks r =
+        first_line-right breaks back r rest_apart none in
         let apart = parts_crlf-take back r (line_start breaks r 1) rest_apart in
         record {
           caret = h.caret;
-          front_is = h.front_is ∙ ap (λ t. t ++ first_line breaks r) (ap (λ t. before ++ t) (sym (take-append-drop j p.here)) ∙ sym (append_assoc before (take j p.here) back))
-              ∙ append_assoc (before ++ take j p.here) back (first_line breaks r) ∙ ap (λ t. (before ++ take j p.here) ++ t) (sym line);
-          back_is = ap (λ t. back ++ t) h.back_is ∙ sym (append_assoc back (first_line breaks r) (halves_at q d).back) ∙ ap (λ t. t ++ (halves_at q d).back) (sym line);
-          counts = sum_is ∙ ap (λ x. info_sum x more) (e ∙ ap (info_of breaks) all) ∙ ap (λ x. info_sum (info_of breaks back) x) h.counts
-              ∙ sym (info_of-append_apart breaks back (first_line breaks r) apart) ∙ ap (info_of breaks) (sym line);
+          front_is =
+              h.front_is ∙ ap (λ t. t ++ first_line breaks r)
+              (ap (λ t. before ++ t) (sym (take-append-drop j p.here))
+              ∙ sym (append_assoc before (take j p.here) back))
+              ∙ append_assoc (before ++ take j p.here) back (first_line breaks r)
+              ∙ ap (λ t. (before ++ take j p.here) ++ t) (sym line);
+          back_is = ap (λ t. back ++ t) h.back_is
+              ∙ sym (append_assoc back (first_line breaks r) (halves_at q d).back)
+              ∙ ap (λ t. t ++ (halves_at q d).back) (sym line);
+          counts = sum_is ∙ ap (λ x. info_sum x more) (e ∙ ap (info_of breaks) all)
+              ∙ ap (λ x. info_sum (info_of breaks back) x) h.counts
+              ∙ sym (info_of-append_apart breaks back (first_line breaks r) apart)
+              ∙ ap (info_of breaks) (sym line);
         }
 
 -- the rest of the chunk here from a position on
-pub holds_ahead : (p : Place) (b : ℕ) (held : List ℕ) → held ≡ after_byte p.here b → HoldsAhead (halves_at p b) held
+pub holds_ahead : (p : Place) (b : ℕ) (held : List ℕ) → held ≡ after_byte p.here b
+    → HoldsAhead (halves_at p b) held
 holds_ahead p b held same =
     let k : ℕ = byte_to_char p.here b in
     let within = byte_to_char-le-length p.here b in
     let before : List ℕ = concat p.before in
     let whole : concat (leaves p) ≡ (halves_at p b).front ++ (halves_at p b).back =
-    concat-append p.before (p.here ∷ p.after) ∙ ap (λ t. before ++ (t ++ concat p.after)) (sym (take-append-drop k p.here))
-    ∙ ap (λ t. before ++ t) (append_assoc (take k p.here) (drop k p.here) (concat p.after)) ∙ sym (append_assoc before (take k p.here) (drop k p.here ++ concat p.after)) in
-    let size : length before + k ≡ length (halves_at p b).front = omega (arith, length-append before (take k p.here), length-take-le k p.here within) in
+    concat-append p.before (p.here ∷ p.after)
+    ∙ ap (λ t. before ++ (t ++ concat p.after)) (sym (take-append-drop k p.here))
+    ∙ ap (λ t. before ++ t) (append_assoc (take k p.here) (drop k p.here) (concat p.after))
+    ∙ sym (append_assoc before (take k p.here) (drop k p.here ++ concat p.after)) in
+    let size : length before + k ≡ length (halves_at p b).front =
+    omega (arith, length-append before (take k p.here), length-take-le k p.here within) in
     let it = in_chunk p.before p.here p.after k within in
     rw same (rw (whole, size) at it)

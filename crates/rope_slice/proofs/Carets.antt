@@ -28,12 +28,14 @@ use Rattle.rope_tree.proofs.Infos.{small_info}
 use Rattle.rope_slice.proofs.Spans.{leaves_next}
 
 -- no CR meets LF after joined texts, or before a prefix of a text
-pub apart_joined : (x y r : List ℕ) → parts_crlf x (y ++ r) ≡ false → parts_crlf y r ≡ false → parts_crlf (x ++ y) r ≡ false
+pub apart_joined : (x y r : List ℕ) → parts_crlf x (y ++ r) ≡ false → parts_crlf y r ≡ false
+    → parts_crlf (x ++ y) r ≡ false
 apart_joined x [] r a b = ap (λ s. parts_crlf s r) (append-nil x) ∙ a
 apart_joined x (c ∷ y) r a b = parts_crlf-append x c y r ∙ b
 
 pub apart_front : (x y r : List ℕ) → parts_crlf x (y ++ r) ≡ false → parts_crlf x y ≡ false
-apart_front x y r a = ap (parts_crlf x) (sym (take_at y r (length y) refl)) ∙ parts_crlf-take x (y ++ r) (length y) a
+apart_front x y r a = ap (parts_crlf x) (sym (take_at y r (length y) refl))
+    ∙ parts_crlf-take x (y ++ r) (length y) a
 
 -- the chunk here meets the text after it
 pub here_apart : (p : Place) → AreChunks p → parts_crlf p.here (concat p.after) ≡ false
@@ -46,12 +48,14 @@ chunks_next p q n h = record {
 }
 
 -- the counts of a small text
-pub small_of : (breaks : LineBreaks) (text : List ℕ) (info : TextInfo) → info ≡ info_of breaks text → byte_len text < 2 ^ 63 → IsSmall info
+pub small_of : (breaks : LineBreaks) (text : List ℕ) (info : TextInfo) → info ≡ info_of breaks text
+    → byte_len text < 2 ^ 63 → IsSmall info
 small_of breaks text info e fits = rw e (small_info breaks text fits)
 
 -- the size of a text within the chunks
 pub whole_text : (p : Place) → concat (leaves p) ≡ (concat p.before ++ p.here) ++ concat p.after
-whole_text p = concat-append p.before (p.here ∷ p.after) ∙ sym (append_assoc (concat p.before) p.here (concat p.after))
+whole_text p = concat-append p.before (p.here ∷ p.after)
+    ∙ sym (append_assoc (concat p.before) p.here (concat p.after))
 
 pub size_two : (s t : List ℕ) → byte_len (s ++ t) ≡ byte_len s + byte_len t
 size_two s t = IsMeasure-byte_len.joined s t
@@ -60,46 +64,70 @@ pub size_front : (n : ℕ) (t : List ℕ) → byte_len (take n t) ≤ byte_len t
 size_front n t = omega (arith, ap byte_len (take-append-drop n t), size_two (take n t) (drop n t))
 
 -- at a character boundary bytes may be cut, and the rest is the text from there on
-pub between_boundary : (bytes : List ℕ) (b : ℕ) → IsUtf8 bytes → IsBetween (chars bytes) b → IsCharBoundary bytes b
-between_boundary bytes b utf8 between = subst (λ (n : ℕ). IsCharBoundary bytes n) between (byte_len_boundary bytes (byte_to_char (chars bytes) b) utf8)
+pub between_boundary : (bytes : List ℕ) (b : ℕ) → IsUtf8 bytes → IsBetween (chars bytes) b
+    → IsCharBoundary bytes b
+between_boundary bytes b utf8 between =
+    subst (λ (n : ℕ). IsCharBoundary bytes n) between
+    (byte_len_boundary bytes (byte_to_char (chars bytes) b) utf8)
 
-pub between_after : (bytes rest : List ℕ) (b : ℕ) → IsUtf8 bytes → IsBetween (chars bytes) b → rest ≡ drop b bytes → chars rest ≡ after_byte (chars bytes) b
-between_after bytes rest b utf8 between cut = chars_back bytes rest (chars bytes) (byte_to_char (chars bytes) b) b utf8 refl (sym between) cut
+pub between_after : (bytes rest : List ℕ) (b : ℕ) → IsUtf8 bytes → IsBetween (chars bytes) b
+    → rest ≡ drop b bytes → chars rest ≡ after_byte (chars bytes) b
+between_after bytes rest b utf8 between cut =
+    chars_back bytes rest (chars bytes) (byte_to_char (chars bytes) b) b utf8 refl (sym between) cut
 
 -- the bytes of a prefix give its length in characters
-pub front_place : (here : List ℕ) (n : ℕ) → n ≤ length here → byte_to_char here (byte_len (take n here)) ≡ n
+pub front_place : (here : List ℕ) (n : ℕ) → n ≤ length here
+    → byte_to_char here (byte_len (take n here)) ≡ n
 front_place here n within = byte_to_char-char_to_byte here n within
 
 -- a first line with a break is of a text with one
-pub some_break : (breaks : LineBreaks) (text : List ℕ) (info : TextInfo) → info ≡ info_of breaks (first_line breaks text) → 0 < info.break_count → 0 < break_count breaks text
+pub some_break : (breaks : LineBreaks) (text : List ℕ) (info : TextInfo)
+    → info ≡ info_of breaks (first_line breaks text) → 0 < info.break_count
+    → 0 < break_count breaks text
 some_break breaks text info e some = elim (cases_lt 0 (break_count breaks text)) [
   | inl less ↦ less
-  | inr none ↦ absurd (let all = ap (break_count breaks) (first_line-all breaks text (omega arith)) in let lines = ap (λ x. x.break_count) e in omega arith)
+  | inr none ↦ absurd (let all =
+      ap (break_count breaks) (first_line-all breaks text (omega arith)) in
+      let lines = ap (λ x. x.break_count) e in omega arith)
 ]
 
 -- a line that ends in the next chunk
-pub line_in_next : (breaks : LineBreaks) (p q : Place) (more : TextInfo) → AreChunks p → IsNext p q → more ≡ info_of breaks (first_line breaks q.here) → 0 < more.break_count
+pub line_in_next : (breaks : LineBreaks) (p q : Place) (more : TextInfo) → AreChunks p → IsNext p q
+    → more ≡ info_of breaks (first_line breaks q.here) → 0 < more.break_count
     → PassesLine breaks (concat p.before ++ p.here) (concat p.after) q more.bytes more
 line_in_next breaks p q more h n e some =
     let k : ℕ = line_start breaks q.here 1 in
     let within = line_start-le-length breaks q.here 1 in
-    let place : byte_to_char q.here more.bytes ≡ k = ap (byte_to_char q.here) (ap (λ x. x.bytes) e) ∙ front_place q.here k within in
+    let place : byte_to_char q.here more.bytes ≡ k = ap (byte_to_char q.here) (ap (λ x. x.bytes) e)
+    ∙ front_place q.here k within in
     let ahead : concat p.after ≡ q.here ++ concat q.after = ap concat n.after in
     let front : concat q.before ≡ concat p.before ++ p.here =
-    ap concat n.before ∙ concat-append p.before (p.here ∷ []) ∙ ap (λ t. concat p.before ++ t) (append-nil p.here) in
+    ap concat n.before ∙ concat-append p.before (p.here ∷ [])
+    ∙ ap (λ t. concat p.before ++ t) (append-nil p.here) in
     let line : first_line breaks (concat p.after) ≡ take k q.here =
-    ap (first_line breaks) ahead ∙ first_line-left breaks q.here (concat q.after) (here_apart q (chunks_next p q n h)) (some_break breaks q.here more e some) in
+    ap (first_line breaks) ahead
+    ∙ first_line-left breaks q.here (concat q.after) (here_apart q (chunks_next p q n h))
+    (some_break breaks q.here more e some) in
     record {
       caret = record {
         between = ap (λ j. byte_len (take j q.here)) place ∙ sym (ap (λ x. x.bytes) e);
         chunks = chunks_next p q n h;
       };
-      front_is = ap (λ j. concat q.before ++ take j q.here) place ∙ ap (λ t. t ++ take k q.here) front ∙ ap (λ t. (concat p.before ++ p.here) ++ t) (sym line);
-      back_is = ahead ∙ ap (λ t. t ++ concat q.after) (sym (take-append-drop k q.here)) ∙ append_assoc (take k q.here) (drop k q.here) (concat q.after)
-          ∙ ap (λ t. t ++ (drop k q.here ++ concat q.after)) (sym line) ∙ ap (λ j. first_line breaks (concat p.after) ++ (drop j q.here ++ concat q.after)) (sym place);
+      front_is = ap (λ j. concat q.before ++ take j q.here) place
+          ∙ ap (λ t. t ++ take k q.here) front
+          ∙ ap (λ t. (concat p.before ++ p.here) ++ t) (sym line);
+      back_is = ahead ∙ ap (λ t. t ++ concat q.after) (sym (take-append-drop k q.here))
+          ∙ append_assoc (take k q.here) (drop k q.here) (concat q.after)
+          ∙ ap (λ t. t ++ (drop k q.here ++ concat q.after)) (sym line)
+          ∙ ap (λ j. first_line breaks (concat p.after) ++ (drop j q.here ++ concat q.after))
+          (sym place);
       counts = e ∙ ap (info_of breaks) (sym line);
     }
 
 -- the start of the chunk here
 pub start_of_chunk : (p : Place) → AreChunks p → IsCaret p 0
-start_of_chunk p h = record { between = ap (λ j. byte_len (take j p.here)) (front_place p.here 0 (omega arith)); chunks = h }
+start_of_chunk p h =
+    record {
+      between = ap (λ j. byte_len (take j p.here)) (front_place p.here 0 (omega arith));
+      chunks = h;
+    }

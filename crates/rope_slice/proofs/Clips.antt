@@ -10,7 +10,8 @@ use Rattle.rope_text.proofs.Measures.{IsMeasure-byte_len, front_greatest, front_
 use Rattle.rope_text.proofs.ClipLaws.{slice_range_past, slice_range-slice_range, clip-clip}
 
 -- a clip that ends past the end keeps all
-pub clip_all : (chunks : List (List ℕ)) (b : ℕ) → All (λ chunk. 0 < length chunk) chunks → length (concat chunks) ≤ b → clip chunks 0 b ≡ chunks
+pub clip_all : (chunks : List (List ℕ)) (b : ℕ) → All (λ chunk. 0 < length chunk) chunks
+    → length (concat chunks) ≤ b → clip chunks 0 b ≡ chunks
 clip_all [] b full l = refl
 clip_all ([] ∷ chunks) b full l = absurd (omega (arith, full 0 [] (omega arith)))
 clip_all ((c ∷ cs) ∷ chunks) b full l =
@@ -18,34 +19,44 @@ clip_all ((c ∷ cs) ∷ chunks) b full l =
     let whole = length-append chunk (concat chunks) in
     let kept : slice_range chunk 0 b ≡ chunk = take_all (b - 0) chunk (omega arith) in
     let none : 0 - length chunk ≡ 0 = omega arith in
-    rw (kept, none) (ap (λ r. chunk ∷ r) (clip_all chunks (b - length chunk) (All-tail (λ part. 0 < length part) chunk chunks full) (omega arith)))
+    rw (kept, none) (ap (λ r. chunk ∷ r)
+    (clip_all chunks (b - length chunk) (All-tail (λ part. 0 < length part) chunk chunks full)
+    (omega arith)))
 
 -- a part of a text that is one chunk is one chunk, or none
-pub single_chunk-clip : (text : List ℕ) (a b : ℕ) → single_chunk (slice_range text a b) ≡ clip (single_chunk text) a b
+pub single_chunk-clip : (text : List ℕ) (a b : ℕ)
+    → single_chunk (slice_range text a b) ≡ clip (single_chunk text) a b
 single_chunk-clip [] a b = ap single_chunk (slice_range_past [] a b (omega arith))
 single_chunk-clip (c ∷ text) a b = refl
 
 -- a part of a part, and its chunks, are those of the whole at the added offsets
-pub part_of_part : (text : List ℕ) (a b s e x y : ℕ) → e ≤ b - a → x ≡ a + s → y ≡ a + e → slice_range text x y ≡ slice_range (slice_range text a b) s e
-part_of_part text a b s e x y l from to = rw (from, to) (sym (slice_range-slice_range text a b s e l))
+pub part_of_part : (text : List ℕ) (a b s e x y : ℕ) → e ≤ b - a → x ≡ a + s → y ≡ a + e
+    → slice_range text x y ≡ slice_range (slice_range text a b) s e
+part_of_part text a b s e x y l from to =
+    rw (from, to) (sym (slice_range-slice_range text a b s e l))
 
-pub clip_of_clip : (chunks : List (List ℕ)) (a b s e x y : ℕ) → e ≤ b - a → x ≡ a + s → y ≡ a + e → clip chunks x y ≡ clip (clip chunks a b) s e
+pub clip_of_clip : (chunks : List (List ℕ)) (a b s e x y : ℕ) → e ≤ b - a → x ≡ a + s → y ≡ a + e
+    → clip chunks x y ≡ clip (clip chunks a b) s e
 clip_of_clip chunks a b s e x y l from to = rw (from, to) (sym (clip-clip chunks a b s e l))
 
 -- the whole as a part, and all its chunks
 pub whole_part : (text : List ℕ) (x y : ℕ) → x ≡ 0 → y ≡ length text → slice_range text x y ≡ text
 whole_part text x y from to = rw (from, to) (take_all (length text - 0) text (omega arith))
 
-pub whole_clip : (chunks : List (List ℕ)) (x y : ℕ) → All (λ chunk. 0 < length chunk) chunks → x ≡ 0 → y ≡ length (concat chunks) → clip chunks x y ≡ chunks
-whole_clip chunks x y full from to = rw (from, to) (clip_all chunks (length (concat chunks)) full (omega arith))
+pub whole_clip : (chunks : List (List ℕ)) (x y : ℕ) → All (λ chunk. 0 < length chunk) chunks → x ≡ 0
+    → y ≡ length (concat chunks) → clip chunks x y ≡ chunks
+whole_clip chunks x y full from to =
+    rw (from, to) (clip_all chunks (length (concat chunks)) full (omega arith))
 
 pub no_chars : (text : List ℕ) → length text ≡ 0 → text ≡ []
 no_chars [] none = refl
 no_chars (c ∷ text) none = absurd (omega arith)
 
 -- a later byte is in a later character, or in the same one
-pub byte_to_char-mono : (text : List ℕ) (m n : ℕ) → m ≤ n → byte_to_char text m ≤ byte_to_char text n
+pub byte_to_char-mono : (text : List ℕ) (m n : ℕ) → m ≤ n
+    → byte_to_char text m ≤ byte_to_char text n
 unfolding byte_to_char
 byte_to_char-mono text m n l =
-    front_greatest byte_len IsMeasure-byte_len text n (byte_to_char text m) (front-le-length byte_len IsMeasure-byte_len text m)
+    front_greatest byte_len IsMeasure-byte_len text n (byte_to_char text m)
+    (front-le-length byte_len IsMeasure-byte_len text m)
     (let fits = front_fits byte_len IsMeasure-byte_len text m in omega arith)

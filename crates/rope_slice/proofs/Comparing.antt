@@ -34,18 +34,22 @@ same_tests true false f g = sym (f refl)
 same_tests true true f g = refl
 
 -- a test for equal texts compares their bytes one by one
-pub same_by_bytes : (r : Bool) (s t : List ℕ) → IsTrue r ↔ (s ≡ t) → r ≡ pointwise nat_eq (encode_utf8_all s) (encode_utf8_all t)
+pub same_by_bytes : (r : Bool) (s t : List ℕ) → IsTrue r ↔ (s ≡ t)
+    → r ≡ pointwise nat_eq (encode_utf8_all s) (encode_utf8_all t)
 same_by_bytes r s t same =
     let bytes = bytes_decides (encode_utf8_all s) (encode_utf8_all t) in
-    same_tests r _ (λ h. bytes.1 (ap encode_utf8_all (same.0 h))) (λ h. same.1 (encodes_same s t (bytes.0 h)))
+    same_tests r _ (λ h. bytes.1 (ap encode_utf8_all (same.0 h)))
+    (λ h. same.1 (encodes_same s t (bytes.0 h)))
 
-pub bytes_tell : (s t : List ℕ) → IsTrue (pointwise nat_eq (encode_utf8_all s) (encode_utf8_all t)) ↔ (s ≡ t)
+pub bytes_tell : (s t : List ℕ)
+    → IsTrue (pointwise nat_eq (encode_utf8_all s) (encode_utf8_all t)) ↔ (s ≡ t)
 bytes_tell s t =
     let bytes = bytes_decides (encode_utf8_all s) (encode_utf8_all t) in
     (λ h. encodes_same s t (bytes.0 h), λ e. bytes.1 (ap encode_utf8_all e))
 
 -- a tie means that two texts are equal
-pub ties_tell : (s t : List ℕ) (o : Ordering) (r : Bool) → o ≡ text_cmp s t → r ≡ is_eq o → IsTrue r ↔ (s ≡ t)
+pub ties_tell : (s t : List ℕ) (o : Ordering) (r : Bool) → o ≡ text_cmp s t → r ≡ is_eq o
+    → IsTrue r ↔ (s ≡ t)
 ties_tell s t o r e f = (
   λ h. same_from_text_cmp s t (sym e ∙ eq_tells o (sym f ∙ h)),
   λ g. f ∙ ap is_eq (e ∙ text_cmp_same s t g),

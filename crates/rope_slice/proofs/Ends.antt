@@ -6,7 +6,8 @@ use Rattle.rope_tree.specs.declared.search.Unit.TheVariants.{Byte, Char, CodeUni
 use Rattle.rope_tree.specs.Search.{count_of, IsSmall}
 use Rattle.rope_tree.specs.Conversions.{first_sought}
 
-pub end_fits : (unit : Unit) (info : TextInfo) → IsSmall info → count_of unit info + first_sought unit < 2 ^ 64
+pub end_fits : (unit : Unit) (info : TextInfo) → IsSmall info
+    → count_of unit info + first_sought unit < 2 ^ 64
 end_fits Byte info small = omega arith
 end_fits Char info small = omega arith
 end_fits CodeUnit info small = omega arith

@@ -32,14 +32,26 @@ never false = refl
 
 single_cut : (text : List ℕ) → IsCutting text (single_chunk text)
 single_cut [] = record { joined = refl; nonempty = All-nil (λ chunk. 0 < length chunk) }
-single_cut (c ∷ text) = record { joined = append-nil (c ∷ text); nonempty = All-cons (λ chunk. 0 < length chunk) (c ∷ text) [] (omega arith) (All-nil (λ chunk. 0 < length chunk)) }
+single_cut (c ∷ text) = record {
+  joined = append-nil (c ∷ text);
+  nonempty =
+      All-cons (λ chunk. 0 < length chunk) (c ∷ text) [] (omega arith)
+      (All-nil (λ chunk. 0 < length chunk));
+}
 
 single_whole : (text : List ℕ) → KeepsCrlf (single_chunk text)
 single_whole [] = tt
 single_whole (c ∷ text) = (never (ends_in_cr (c ∷ text)), tt)
 
-pub plain_kept : (breaks : LineBreaks) (text : List ℕ) → all_scalars text ≡ true → byte_len text < 2 ^ 63 → IsPart (record { text = text; chunks = single_chunk text; breaks = breaks })
-plain_kept breaks text scalars fits = record { cut = single_cut text; whole = single_whole text; scalars = scalars; fits = fits }
+pub plain_kept : (breaks : LineBreaks) (text : List ℕ) → all_scalars text ≡ true
+    → byte_len text < 2 ^ 63
+    → IsPart (record { text = text; chunks = single_chunk text; breaks = breaks })
+plain_kept breaks text scalars fits = record {
+  cut = single_cut text;
+  whole = single_whole text;
+  scalars = scalars;
+  fits = fits;
+}
 
 -- the chunks of a slice are its text
 pub chunks_join : (s : RopeSlice) → concat (chunks_of s) ≡ text_of s
@@ -47,22 +59,35 @@ chunks_join (InTree e) = concat-clip e.node.now.leaves e.start.chars e.end.chars
 chunks_join (Alone p) = (single_cut (chars p.text.now)).joined
 
 -- the text of a tree's leaves is one of scalar values
-scalars-append : (s t : List ℕ) → all_scalars s ≡ true → all_scalars t ≡ true → all_scalars (s ++ t) ≡ true
+scalars-append : (s t : List ℕ) → all_scalars s ≡ true → all_scalars t ≡ true
+    → all_scalars (s ++ t) ≡ true
 scalars-append [] t a b = b
-scalars-append (c ∷ s) t a b = and_from (scalar c) (all_scalars (s ++ t)) (first_scalar c s a) (scalars-append s t (rest_scalars c s a) b)
+scalars-append (c ∷ s) t a b =
+    and_from (scalar c) (all_scalars (s ++ t)) (first_scalar c s a)
+    (scalars-append s t (rest_scalars c s a) b)
 
-scalars-concat : (leaves : List (List ℕ)) → All IsLeafText leaves → all_scalars (concat leaves) ≡ true
+scalars-concat : (leaves : List (List ℕ)) → All IsLeafText leaves
+    → all_scalars (concat leaves) ≡ true
 scalars-concat [] a = refl
 scalars-concat (leaf ∷ leaves) a =
-    scalars-append leaf (concat leaves) (All-head IsLeafText leaf leaves a).scalars (scalars-concat leaves (All-tail IsLeafText leaf leaves a))
+    scalars-append leaf (concat leaves) (All-head IsLeafText leaf leaves a).scalars
+    (scalars-concat leaves (All-tail IsLeafText leaf leaves a))
 
-pub excerpt_kept : (t : Tree) (start end : TextInfo) → IsTree t → IsExcerpt t.breaks (text t) start end
-    → IsPart (record { text = slice_range (text t) start.chars end.chars; chunks = clip t.leaves start.chars end.chars; breaks = t.breaks })
+pub excerpt_kept : (t : Tree) (start end : TextInfo) → IsTree t
+    → IsExcerpt t.breaks (text t) start end
+    → IsPart (record {
+      text = slice_range (text t) start.chars end.chars;
+      chunks = clip t.leaves start.chars end.chars;
+      breaks = t.breaks;
+    })
 excerpt_kept t start end tree s =
     let m = measured t.breaks (text t) start end s in
     record {
-      cut = IsCutting-clip (text t) t.leaves start.chars end.chars (record { joined = refl; nonempty = nonempty_leaves t.leaves tree.leaves.each });
+      cut = IsCutting-clip (text t) t.leaves start.chars end.chars
+          (record { joined = refl; nonempty = nonempty_leaves t.leaves tree.leaves.each });
       whole = KeepsCrlf-clip t.leaves start.chars end.chars tree.leaves.whole;
-      scalars = all_scalars-take (end.chars - start.chars) (drop start.chars (text t)) (all_scalars-drop start.chars (text t) (scalars-concat t.leaves tree.leaves.each));
+      scalars =
+          all_scalars-take (end.chars - start.chars) (drop start.chars (text t))
+          (all_scalars-drop start.chars (text t) (scalars-concat t.leaves tree.leaves.each));
       fits = omega (arith, tree.fits);
     }

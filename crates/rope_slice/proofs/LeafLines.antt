@@ -17,20 +17,33 @@ use Rattle.rope_slice.proofs.Excerpts.{front_and_part}
 
 -- the counts up to the next line's start
 pub next_counts : (breaks : LineBreaks) (text : List ℕ) (l : ℕ) → l < line_count breaks text
-    → info_of breaks (take (line_start breaks text (l + 1)) text) ≡ info_sum (info_of breaks (take (line_start breaks text l) text)) (info_of breaks (slice_range text (line_start breaks text l) (line_start breaks text (l + 1))))
+    → info_of breaks (take (line_start breaks text (l + 1)) text)
+    ≡ info_sum (info_of breaks (take (line_start breaks text l) text))
+    (info_of breaks (slice_range text (line_start breaks text l) (line_start breaks text (l + 1))))
 next_counts breaks text l within =
     let s : ℕ = line_start breaks text l in
     let e : ℕ = line_start breaks text (l + 1) in
-    ap (info_of breaks) (sym (front_and_part text s e (line_start_mono breaks text l (l + 1) (omega arith))))
-    ∙ info_of-append_apart breaks (take s text) (slice_range text s e) (parts_crlf-take (take s text) (drop s text) (e - s) (line_start_apart breaks text l))
+    ap (info_of breaks) (sym
+    (front_and_part text s e (line_start_mono breaks text l (l + 1) (omega arith))))
+    ∙ info_of-append_apart breaks (take s text) (slice_range text s e)
+    (parts_crlf-take (take s text) (drop s text) (e - s) (line_start_apart breaks text l))
 
 -- a line that ends in the rest of its leaf is the first line there
-pub line_in_leaf : (t : Tree) (l : ℕ) (rest : List ℕ) (before line : TextInfo) (breaks : LineBreaks) → breaks ≡ t.breaks → l < line_count t.breaks (text t) → IsLeafFrom t (line_start t.breaks (text t) l) rest → 0 < break_count breaks rest
-    → before ≡ info_of t.breaks (take (line_start t.breaks (text t) l) (text t)) → line ≡ info_of breaks (first_line breaks rest)
+pub line_in_leaf : (t : Tree) (l : ℕ) (rest : List ℕ) (before line : TextInfo) (breaks : LineBreaks)
+    → breaks ≡ t.breaks → l < line_count t.breaks (text t)
+    → IsLeafFrom t (line_start t.breaks (text t) l) rest → 0 < break_count breaks rest
+    → before ≡ info_of t.breaks (take (line_start t.breaks (text t) l) (text t))
+    → line ≡ info_of breaks (first_line breaks rest)
     → info_sum before line ≡ info_of t.breaks (take (line_start t.breaks (text t) (l + 1)) (text t))
 line_in_leaf t l rest before line own same within from more b n =
     let breaks = t.breaks in
     let some : 0 < break_count breaks rest = omega (arith, ap (λ b. break_count b rest) same) in
-    let whole : first_line breaks rest ≡ slice_range (text t) (line_start breaks (text t) l) (line_start breaks (text t) (l + 1)) =
-    sym (first_line-left breaks rest from.more (from.apart (omega (arith, break_count-le-length breaks rest))) some) ∙ ap (first_line breaks) (sym from.text_is) ∙ first_line-drop breaks (text t) l within in
-    ap (λ x. info_sum x line) b ∙ ap (info_sum (info_of breaks (take (line_start breaks (text t) l) (text t)))) (n ∙ ap (λ b. info_of b (first_line b rest)) same ∙ ap (info_of breaks) whole) ∙ sym (next_counts breaks (text t) l within)
+    let whole : first_line breaks rest ≡ slice_range (text t) (line_start breaks (text t) l)
+    (line_start breaks (text t) (l + 1)) =
+    sym (first_line-left breaks rest from.more
+    (from.apart (omega (arith, break_count-le-length breaks rest))) some)
+    ∙ ap (first_line breaks) (sym from.text_is) ∙ first_line-drop breaks (text t) l within in
+    ap (λ x. info_sum x line) b
+    ∙ ap (info_sum (info_of breaks (take (line_start breaks (text t) l) (text t)))) (n
+    ∙ ap (λ b. info_of b (first_line b rest)) same ∙ ap (info_of breaks) whole)
+    ∙ sym (next_counts breaks (text t) l within)

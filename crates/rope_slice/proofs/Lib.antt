@@ -20,7 +20,7 @@ pub mod ChunkStarts
 pub mod ByteCursors
 pub mod CharCursors
 pub mod LeafStarts
-pub mod Ways
+pub mod PathLaws
 pub mod Points
 pub mod Spans
 pub mod LineSteps

@@ -17,25 +17,38 @@ use Rattle.rope_tree.proofs.Infos.{small_info}
 use Rattle.rope_slice.specs.Edge.{IsExcerpt}
 use Rattle.rope_slice.proofs.Measured.{measured}
 
-module _ (breaks : LineBreaks) (text : List ℕ) (start end : TextInfo) (s : IsExcerpt breaks text start end) (fits : byte_len text < 2 ^ 63) where
+module _ (breaks : LineBreaks) (text : List ℕ) (start end : TextInfo)
+    (s : IsExcerpt breaks text start end) (fits : byte_len text < 2 ^ 63) where
   -- the counts before it are in the bounds that those of a rope's text keep
   pub small_start : IsSmall start
   small_start =
       let m = measured breaks text start end s in
       let front : List ℕ = take start.chars text in
-      let small = small_info breaks front (omega (arith, size_le_all byte_len IsMeasure-byte_len text start.chars)) in
+      let small =
+      small_info breaks front (omega
+      (arith, size_le_all byte_len IsMeasure-byte_len text start.chars)) in
       let len : length front ≡ start.chars = length-take-le start.chars text (omega arith) in
       record {
         bytes = omega (arith, small.bytes);
         chars = omega (arith, small.chars);
         pairs = omega (arith, small.pairs, ap (λ x. x.utf16_surrogates) s.start_is);
-        breaks = omega (arith, m.start_breaks, char_to_line_upto breaks text start.chars (omega arith), length-upto_le (is_break_end breaks text) start.chars);
+        breaks = omega (
+          arith,
+          m.start_breaks,
+          char_to_line_upto breaks text start.chars
+              (omega arith),
+          length-upto_le (is_break_end breaks text) start.chars,
+        );
       }
 
   pub small_end : IsSmall end
-  small_end = rw s.end_is (small_info breaks (take end.chars text) (omega (arith, size_le_all byte_len IsMeasure-byte_len text end.chars)))
+  small_end =
+      rw s.end_is (small_info breaks (take end.chars text)
+      (omega (arith, size_le_all byte_len IsMeasure-byte_len text end.chars)))
 
-  pub place_fits : (unit : Unit) (idx : ℕ) → idx ≤ count_of unit (info_of breaks (slice_range text start.chars end.chars)) + 1 → count_of unit start + idx < 2 ^ 64
+  pub place_fits : (unit : Unit) (idx : ℕ)
+      → idx ≤ count_of unit (info_of breaks (slice_range text start.chars end.chars)) + 1
+      → count_of unit start + idx < 2 ^ 64
   place_fits Byte idx within = let m = measured breaks text start end s in omega arith
   place_fits Char idx within = let m = measured breaks text start end s in omega arith
   place_fits CodeUnit idx within = let m = measured breaks text start end s in omega arith

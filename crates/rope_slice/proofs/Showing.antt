@@ -13,8 +13,10 @@ module _ {W : Type 0} (took : W → List ℕ → W → Type 0) where
     pub plain : IsPlainFormatter start → HasWritten took start front now
     pub styled : IsFlush start → HasWrittenStyled took start front now
 
-  pub show_more : (start now next : Formatter W) (all ahead bytes rest : List ℕ) → IsShowing start now all ahead → ahead ≡ bytes ++ rest
-      → (IsPlainFormatter now → HasWritten took now bytes next) → (IsFlush now → HasWrittenStyled took now bytes next) → IsShowing start next all rest
+  pub show_more : (start now next : Formatter W) (all ahead bytes rest : List ℕ)
+      → IsShowing start now all ahead → ahead ≡ bytes ++ rest
+      → (IsPlainFormatter now → HasWritten took now bytes next)
+      → (IsFlush now → HasWrittenStyled took now bytes next) → IsShowing start next all rest
   show_more start now next all ahead bytes rest s e p q = record {
     front = s.front ++ bytes;
     whole = append_assoc s.front bytes rest ∙ ap (λ x. s.front ++ x) (sym e) ∙ s.whole;
@@ -22,7 +24,8 @@ module _ {W : Type 0} (took : W → List ℕ → W → Type 0) where
     styled = λ h. has_written_styled_append took _ _ _ _ _ (s.styled h) (q (s.styled h).flush);
   }
 
-  module _ (start now : Formatter W) (all rest : List ℕ) (s : IsShowing start now all rest) (e : rest ≡ []) where
+  module _ (start now : Formatter W) (all rest : List ℕ) (s : IsShowing start now all rest)
+      (e : rest ≡ []) where
     all_of : s.front ≡ all
     all_of = sym (append-nil s.front) ∙ ap (λ x. s.front ++ x) (sym e) ∙ s.whole
 

@@ -18,7 +18,11 @@ pub record Halves : Type 0 where
 
 -- before the byte b of the chunk here, and from it on
 abbrev pub halves_at : Place → ℕ → Halves
-halves_at p b = record { front = concat p.before ++ before_byte p.here b; back = after_byte p.here b ++ concat p.after; chunks = leaves p }
+halves_at p b = record {
+  front = concat p.before ++ before_byte p.here b;
+  back = after_byte p.here b ++ concat p.after;
+  chunks = leaves p;
+}
 
 -- some chunk contains these characters from the position on
 abbrev pub HoldsAhead : Halves → List ℕ → Type 0
@@ -35,21 +39,24 @@ pub record IsCaret (p : Place) (b : ℕ) : Type 0 where
 
 -- a line was passed: the text before and after it, up to a break and the rest, and the counts of
 -- the text passed
-pub record PassesLine (breaks : LineBreaks) (front back : List ℕ) (p : Place) (b : ℕ) (info : TextInfo) : Type 0 where
+pub record PassesLine (breaks : LineBreaks) (front back : List ℕ) (p : Place) (b : ℕ)
+    (info : TextInfo) : Type 0 where
   pub caret : IsCaret p b
   pub front_is : (halves_at p b).front ≡ front ++ first_line breaks back
   pub back_is : back ≡ first_line breaks back ++ (halves_at p b).back
   pub counts : info ≡ info_of breaks (first_line breaks back)
 
 -- line breaks were passed backward: up to the start of a line, `skip` breaks before the last
-pub record PassesBack (breaks : LineBreaks) (skip : ℕ) (front back : List ℕ) (p : Place) (b : ℕ) (info : TextInfo) : Type 0 where
+pub record PassesBack (breaks : LineBreaks) (skip : ℕ) (front back : List ℕ) (p : Place) (b : ℕ)
+    (info : TextInfo) : Type 0 where
   pub caret : IsCaret p b
   pub front_is : (halves_at p b).front ≡ take (last_start breaks front skip) front
   pub back_is : (halves_at p b).back ≡ drop (last_start breaks front skip) front ++ back
   pub counts : info ≡ info_of breaks (drop (last_start breaks front skip) front)
 
 -- between two positions a line was passed, up to its break, with the counts of the text before both
-pub record IsPassed (breaks : LineBreaks) (old : Halves) (before : TextInfo) (new : Halves) (after : TextInfo) : Type 0 where
+pub record IsPassed (breaks : LineBreaks) (old : Halves) (before : TextInfo) (new : Halves)
+    (after : TextInfo) : Type 0 where
   pub front : new.front ≡ old.front ++ first_line breaks old.back
   pub back : old.back ≡ first_line breaks old.back ++ new.back
   pub chunks : new.chunks ≡ old.chunks
@@ -57,8 +64,10 @@ pub record IsPassed (breaks : LineBreaks) (old : Halves) (before : TextInfo) (ne
 
 -- between two positions `skip` line breaks were passed backward, and the text up to the break
 -- before them
-pub record IsPassedBack (breaks : LineBreaks) (skip : ℕ) (old : Halves) (before : TextInfo) (new : Halves) (after : TextInfo) : Type 0 where
+pub record IsPassedBack (breaks : LineBreaks) (skip : ℕ) (old : Halves) (before : TextInfo)
+    (new : Halves) (after : TextInfo) : Type 0 where
   pub front : new.front ≡ take (last_start breaks old.front skip) old.front
   pub back : new.back ≡ drop (last_start breaks old.front skip) old.front ++ old.back
   pub chunks : new.chunks ≡ old.chunks
-  pub counts : info_sum (info_of breaks (drop (last_start breaks old.front skip) old.front)) after ≡ before
+  pub counts : info_sum (info_of breaks (drop (last_start breaks old.front skip) old.front)) after
+      ≡ before

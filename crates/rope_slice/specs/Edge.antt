@@ -8,7 +8,7 @@ use Rattle.rope_text.specs.TextInfo.{info_of}
 use Rattle.rope_text.specs.Lines.{line_start}
 use Rattle.rope_text.specs.Conversions.{char_to_line}
 use Rattle.rope_text.specs.Cutting.{parts_crlf, KeepsCrlf}
-use Rattle.rope_text.specs.Dense.{IsDenseBehind}
+use Rattle.rope_text.specs.Dense.{IsDenseAfter}
 use Rattle.rope_text.specs.declared.TheConstants.{MAX_HEIGHT}
 use Rattle.rope_tree.specs.Tree.{Tree, IsTree, text}
 
@@ -39,7 +39,8 @@ pub record IsExcerpt (breaks : LineBreaks) (text : List ℕ) (start end : TextIn
   pub end_is : end ≡ end_info breaks text end.chars
 
 -- there is at most one proof of it
-pub IsExcerpt-prop : {breaks : LineBreaks} {text : List ℕ} {start end : TextInfo} → IsProp (IsExcerpt breaks text start end)
+pub IsExcerpt-prop : {breaks : LineBreaks} {text : List ℕ} {start end : TextInfo}
+    → IsProp (IsExcerpt breaks text start end)
 IsExcerpt-prop = hlevel props
 
 -- an invariant of every tree
@@ -47,9 +48,10 @@ pub record IsLowTree (t : Tree) : Type 0 where
   pub low : t.height ≤ MAX_HEIGHT
   pub tree : IsTree t
 
-AreDense-prop : (before : ℕ) (chunks : List (List ℕ)) → IsProp (IsDenseBehind before chunks)
+AreDense-prop : (before : ℕ) (chunks : List (List ℕ)) → IsProp (IsDenseAfter before chunks)
 AreDense-prop before [] = hlevel props
-AreDense-prop before (chunk ∷ chunks) = let rest = AreDense-prop (byte_len chunk) chunks in hlevel (rest, props)
+AreDense-prop before (chunk ∷ chunks) = let rest = AreDense-prop (byte_len chunk) chunks in
+    hlevel (rest, props)
 
 KeepsCrlf-prop : (chunks : List (List ℕ)) → IsProp (KeepsCrlf chunks)
 KeepsCrlf-prop [] = hlevel props
@@ -58,7 +60,8 @@ KeepsCrlf-prop (chunk ∷ chunks) = let rest = KeepsCrlf-prop chunks in hlevel (
 pub IsLowTree-prop : {t : Tree} → IsProp (IsLowTree t)
 IsLowTree-prop = hlevel (AreDense-prop, KeepsCrlf-prop, props)
 
-pub IsInfo-prop : (breaks : LineBreaks) (text : List ℕ) (info : TextInfo) → IsProp (info ≡ info_of breaks text)
+pub IsInfo-prop : (breaks : LineBreaks) (text : List ℕ) (info : TextInfo)
+    → IsProp (info ≡ info_of breaks text)
 IsInfo-prop breaks text info = hlevel props
 
 -- the end of a leaf, from a character of the text on: the text after it continues it, and no CR LF

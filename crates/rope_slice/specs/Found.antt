@@ -43,7 +43,8 @@ GivesUnless error result P = MatchOption result (error ≢ None) (λ x. (error �
 
 -- the k-th chunk, with the bytes, characters and line breaks before it
 abbrev pub ShowsChunk : Content → ℕ → Bor (List ℕ) × ℕ × ℕ × ℕ → Type 0
-ShowsChunk c k answer = IsFoundChunk (found_chunk c.breaks c.chunks k) (chars answer.0.now) answer.1 answer.2 answer.3
+ShowsChunk c k answer =
+    IsFoundChunk (found_chunk c.breaks c.chunks k) (chars answer.0.now) answer.1 answer.2 answer.3
 
 -- a cursor over the chunks before the k-th, with the bytes, characters and line breaks before it
 abbrev pub StandsBefore : Content → ℕ → Sides (List ℕ) × ℕ × ℕ × ℕ → Type 0

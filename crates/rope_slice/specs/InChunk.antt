@@ -6,5 +6,7 @@ use Rattle.rope_text.specs.Cutting.{clip, single_chunk}
 -- some chunk contains the characters `held` from character i of the text on: a range that starts
 -- there is a prefix of them, as one chunk
 pub record IsInChunk (text : List ℕ) (chunks : List (List ℕ)) (i : ℕ) (held : List ℕ) : Type 0 where
-  pub text_is : (j : ℕ) → j ≤ length held → i + j ≤ length text → slice_range text i (i + j) ≡ take j held
-  pub chunks_are : (j : ℕ) → j ≤ length held → i + j ≤ length text → clip chunks i (i + j) ≡ single_chunk (take j held)
+  pub text_is : (j : ℕ) → j ≤ length held → i + j ≤ length text
+      → slice_range text i (i + j) ≡ take j held
+  pub chunks_are : (j : ℕ) → j ≤ length held → i + j ≤ length text
+      → clip chunks i (i + j) ≡ single_chunk (take j held)

@@ -8,7 +8,8 @@ use Rattle.rope_tree.specs.Tree.{Tree}
 
 -- the leaf contains the character i of the text, after `bytes` bytes and `chars` characters of the
 -- leaf
-pub record IsLeafPlace (t : Tree) (i : ℕ) (leaf : List ℕ) (before : TextInfo) (bytes chars : ℕ) : Type 0 where
+pub record IsLeafPlace (t : Tree) (i : ℕ) (leaf : List ℕ) (before : TextInfo)
+    (bytes chars : ℕ) : Type 0 where
   pub found : IsFound Char i t leaf before
   pub place : i ≡ before.chars + chars
   pub bytes_are : bytes ≡ char_to_byte leaf chars

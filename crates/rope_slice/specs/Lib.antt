@@ -9,7 +9,7 @@ pub mod Chunks
 pub mod Bytes
 pub mod Chars
 pub mod Path
-pub mod Way
+pub mod Descent
 pub mod Point
 pub mod Span
 pub mod Lines

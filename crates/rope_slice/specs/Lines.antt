@@ -12,7 +12,11 @@ use Rattle.rope_slice.specs.Caret.{Halves}
 
 -- the lines before line l, and those from it on
 abbrev pub at_line : Content → ℕ → Bool → Sides Content
-at_line c l is_backward = record { left = take l (lines_of c); right = drop l (lines_of c); is_backward = is_backward }
+at_line c l is_backward = record {
+  left = take l (lines_of c);
+  right = drop l (lines_of c);
+  is_backward = is_backward;
+}
 
 -- a position at the start of line l, or at the end of all the lines, whose number is known; and the
 -- counts before it
@@ -26,6 +30,7 @@ pub record IsLineStart (c : Content) (h : Halves) (before : TextInfo) (l total :
   pub fits : byte_len c.text < 2 ^ 63
 
 -- the start of a line, with a copy of the set of line breaks
-pub record IsLineCursor (c : Content) (breaks : LineBreaks) (h : Halves) (before : TextInfo) (l total : ℕ) : Type 0 where
+pub record IsLineCursor (c : Content) (breaks : LineBreaks) (h : Halves) (before : TextInfo)
+    (l total : ℕ) : Type 0 where
   pub start : IsLineStart c h before l total
   pub breaks_is : breaks ≡ c.breaks

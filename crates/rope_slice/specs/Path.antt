@@ -33,7 +33,8 @@ IsLast is_backward p = (if is_backward then p.before else p.after) ≡ []
 
 -- the leaf here contains an index of the text of all the leaves, counted in a unit; `info` are the
 -- counts of the text before it
-pub record HoldsPlace (unit : Unit) (breaks : LineBreaks) (at : ℕ) (before : List (List ℕ)) (here : List ℕ) (info : TextInfo) : Type 0 where
+pub record HoldsPlace (unit : Unit) (breaks : LineBreaks) (at : ℕ) (before : List (List ℕ))
+    (here : List ℕ) (info : TextInfo) : Type 0 where
   pub info_is : info ≡ info_of breaks (concat before)
   pub not_past : count_of unit info ≤ at
   pub past : at < count_of unit (info_of breaks (concat before ++ here))

@@ -7,7 +7,11 @@ use Rattle.rope_slice.specs.declared.plain.Plain.{Plain}
 
 -- one chunk, or none
 abbrev pub content_of : Plain → Content
-content_of p = record { text = chars p.text.now; chunks = single_chunk (chars p.text.now); breaks = p.breaks }
+content_of p = record {
+  text = chars p.text.now;
+  chunks = single_chunk (chars p.text.now);
+  breaks = p.breaks;
+}
 
 abbrev pub text_of : Plain → List ℕ
 text_of p = chars p.text.now

@@ -7,7 +7,8 @@ use Rattle.rope_text.specs.Text.{byte_len}
 use Rattle.rope_text.specs.Conversions.{byte_to_char}
 use Rattle.rope_text.specs.Edit.{range_start, range_end, char_range_error, byte_range_error}
 
--- a text has the characters of a range: no bound is past its end, and the range's start is not past its own end
+-- a text has the characters of a range: no bound is past its end, and the range's start is not past
+-- its own end
 abbrev pub HasCharRange : List ℕ → Option ℕ → Option ℕ → Type 0
 HasCharRange text start end = char_range_error start end (length text) ≡ None
 
@@ -28,7 +29,8 @@ pub record IsSlice (whole : Content) (a b : ℕ) (slice : Content) : Type 0 wher
 
 -- the characters of a range, given by its start and its excluded end
 abbrev pub IsCharRange : Content → Option ℕ → Option ℕ → Content → Type 0
-IsCharRange whole start end slice = IsSlice whole (range_start start) (range_end end (length whole.text)) slice
+IsCharRange whole start end slice =
+    IsSlice whole (range_start start) (range_end end (length whole.text)) slice
 
 -- the slice of a range of bytes, given by its start and its excluded end
 abbrev pub IsByteRange : Content → Option ℕ → Option ℕ → Content → Type 0

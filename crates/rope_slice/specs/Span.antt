@@ -29,7 +29,8 @@ abbrev pub clipped_place : Place → ℕ → ℕ → Place
 clipped_place p a b = record {
   before = clip p.before a b;
   here = slice_range p.here (a - length (concat p.before)) (b - length (concat p.before));
-  after = clip p.after (a - length (concat p.before) - length p.here) (b - length (concat p.before) - length p.here);
+  after = clip p.after (a - length (concat p.before) - length p.here)
+      (b - length (concat p.before) - length p.here);
 }
 
 -- the leaves, clipped from one byte up to another
@@ -64,4 +65,5 @@ pub record IsSpan (p : Place) (start : ℕ) (from to : Edge) : Type 0 where
 
 -- the slice from one byte up to another is within its leaves, or it is empty
 abbrev pub IsSpanFrom : Place → ℕ → ℕ → Type 0
-IsSpanFrom p from to = IsSpan p (byte_len (concat p.before)) (edge_at (leaves p) from) (edge_at (leaves p) to)
+IsSpanFrom p from to =
+    IsSpan p (byte_len (concat p.before)) (edge_at (leaves p) from) (edge_at (leaves p) to)

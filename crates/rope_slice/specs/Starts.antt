@@ -34,17 +34,20 @@ chunk_place LineBreak chunks idx = 0
 
 -- the numbers of bytes, characters and line breaks of a text in its first chunks; only breaks that
 -- end there are counted
-pub record AreBefore (breaks : LineBreaks) (text : List ℕ) (chunks : List (List ℕ)) (bytes chars count : ℕ) : Type 0 where
+pub record AreBefore (breaks : LineBreaks) (text : List ℕ) (chunks : List (List ℕ))
+    (bytes chars count : ℕ) : Type 0 where
   pub bytes_are : bytes ≡ byte_len (concat chunks)
   pub chars_are : chars ≡ length (concat chunks)
   pub count_is : count ≡ char_to_line breaks text chars
 
 -- the chunk here contains a byte or a character of a slice, or its end; with the numbers of bytes,
 -- characters and line breaks before it. A slice without chunks has the empty text there
-pub record IsHolding (unit : Unit) (idx : ℕ) (c : Content) (p : Place) (bytes chars count : ℕ) : Type 0 where
+pub record IsHolding (unit : Unit) (idx : ℕ) (c : Content) (p : Place)
+    (bytes chars count : ℕ) : Type 0 where
   pub text : concat (leaves p) ≡ c.text
   pub chunks : 0 < length c.text → leaves p ≡ c.chunks
   pub before : AreBefore c.breaks c.text p.before bytes chars count
   pub starts : size_in unit (concat p.before) ≤ idx
   pub within : idx ≤ size_in unit (concat p.before) + size_in unit p.here
-  pub inside : idx < size_in unit c.text → idx < size_in unit (concat p.before) + size_in unit p.here
+  pub inside : idx < size_in unit c.text
+      → idx < size_in unit (concat p.before) + size_in unit p.here

@@ -267,7 +267,7 @@ impl<'a> Excerpt<'a> {
     /// Returns the `start` counts of the slice from the character that begins at a byte. Returns
     /// `None` if the byte is inside a character.
     #[inline(always)]
-    pub(crate) fn start_of_byte(&self, byte_idx: usize) -> Option<TextInfo>
+    pub(crate) fn start_at_byte(&self, byte_idx: usize) -> Option<TextInfo>
         requires { byte_idx < byte_len (text_of self.now) }
         ensures some { IfSome result (λ start. start
             ≡ start_info self.now.node.now.breaks (text self.now.node.now)
@@ -283,7 +283,7 @@ impl<'a> Excerpt<'a> {
     /// Returns the `end` counts of the slice up to the character that begins at a byte. Returns
     /// `None` if the byte is inside a character.
     #[inline(always)]
-    pub(crate) fn end_of_byte(&self, byte_idx: usize) -> Option<TextInfo>
+    pub(crate) fn end_at_byte(&self, byte_idx: usize) -> Option<TextInfo>
         requires { byte_idx ≤ byte_len (text_of self.now) }
         ensures some { IfSome result (λ end. end
             ≡ end_info self.now.node.now.breaks (text self.now.node.now)

@@ -10,7 +10,7 @@ ghost use Rattle.rope_tree.specs.Search.{count_of};
 ghost use Rattle.rope_tree.specs.Tree.{Tree, IsTree, text};
 ghost use Rattle.rope_slice.specs.Excerpt.{content_of as excerpt_content, text_of as excerpt_text};
 ghost use Rattle.rope_slice.specs.Path.{leaves, IsBeside, IsLast, IsNext, HoldsPlace};
-ghost use Rattle.rope_slice.specs.Way.{IsLow, AreListed};
+ghost use Rattle.rope_slice.specs.Descent.{IsLow, AreListed};
 ghost use Rattle.rope_slice.specs.Starts.{IsItem, IsHolding, size_in};
 
 use crate::excerpt::{Before, Excerpt};
@@ -40,14 +40,14 @@ pub(crate) struct Path<'a> {
 impl<'a> Model for Path<'a> {
     ghost use Rattle.std.specs.Str.{chars};
     ghost use Rattle.rope_slice.specs.Path.{Place};
-    ghost use Rattle.rope_slice.specs.Way.{place_at, IsListedWay};
+    ghost use Rattle.rope_slice.specs.Descent.{place_at, IsListedDescent};
 
     ghost Value = { Place };
 
     ghost view = { λ a. place_at a.root.now.leaves (chars a.leaf.now) a.start };
 
     ghost invariant = { λ a.
-        IsListedWay a.root.now a.nodes.now a.totals a.at (chars a.leaf.now) a.start };
+        IsListedDescent a.root.now a.nodes.now a.totals a.at (chars a.leaf.now) a.start };
 }
 
 // Returns the text of a leaf in its list. Its length comes from the list's totals, so that no byte

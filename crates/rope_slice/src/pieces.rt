@@ -13,7 +13,7 @@ use std::marker::Model;
 #[derive(Drop)]
 pub(crate) struct Pieces<'a> {
     // none for a plain text
-    way: Option<Path<'a>>,
+    descent: Option<Path<'a>>,
     // the number of bytes of the slice in the leaves ahead
     left: usize,
 }
@@ -22,13 +22,13 @@ impl<'a> Model for Pieces<'a> {
     ghost use Rattle.std.specs.Prelude.{ℕ, List, ◌<◌, length, take, All};
     ghost use Rattle.std.specs.List.{concat};
     ghost use Rattle.std.specs.Str.{encode_utf8_all};
-    ghost use Rattle.rope_slice.specs.Pieces.{after_way};
+    ghost use Rattle.rope_slice.specs.Pieces.{after_descent};
 
     ghost Value = { List ℕ };
 
-    ghost view = { λ a. take a.left (encode_utf8_all (concat (after_way a.way))) };
+    ghost view = { λ a. take a.left (encode_utf8_all (concat (after_descent a.descent))) };
 
-    ghost invariant = { λ a. All (λ leaf. 0 < length leaf) (after_way a.way) };
+    ghost invariant = { λ a. All (λ leaf. 0 < length leaf) (after_descent a.descent) };
 }
 
 impl<'a> Pieces<'a> {
@@ -46,8 +46,8 @@ impl<'a> Pieces<'a> {
                 let (_, front) = path.leaf().as_bytes().split_at(start - before.bytes);
                 let count = front.len().min(size);
                 let (piece, _) = front.split_at(count);
-                let (way, left) = (Some(path), size - count);
-                (piece, Pieces { way, left })
+                let (descent, left) = (Some(path), size - count);
+                (piece, Pieces { descent, left })
             }
             RopeSlice::Alone(plain) => Pieces::of_text(plain.text),
         }
@@ -58,8 +58,8 @@ impl<'a> Pieces<'a> {
         ensures bytes { result.0.now ++ result.1 ≡ encode_utf8_all (chars text.now) }
         ensures some { length result.0.now ≡ 0 → result.1 ≡ [] }
     {
-        let (way, left) = (None, 0);
-        (text.as_bytes(), Pieces { way, left })
+        let (descent, left) = (None, 0);
+        (text.as_bytes(), Pieces { descent, left })
     }
 
     /// Returns the next piece, or an empty one at the end.
@@ -70,7 +70,7 @@ impl<'a> Pieces<'a> {
         if self.left == 0 {
             return &[];
         }
-        let Some(path) = &mut self.way else {
+        let Some(path) = &mut self.descent else {
             return &[];
         };
         if !path.step_on(heads) {

@@ -189,11 +189,11 @@ impl<'a> RopeSlice<'a> {
         match self {
             RopeSlice::InTree(excerpt) => {
                 if from == to {
-                    excerpt.end_of_byte(to)?;
+                    excerpt.end_at_byte(to)?;
                     return Some(RopeSlice::from_str_with("", excerpt.node.line_breaks()));
                 }
-                let start = excerpt.start_of_byte(from)?;
-                let end = excerpt.end_of_byte(to)?;
+                let start = excerpt.start_at_byte(from)?;
+                let end = excerpt.end_at_byte(to)?;
                 let node = excerpt.node;
                 Some(RopeSlice::InTree(Excerpt { node, start, end }))
             }

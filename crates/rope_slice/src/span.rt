@@ -23,7 +23,7 @@ use std::marker::Model;
 #[derive(Drop)]
 pub(crate) struct Span<'a> {
     chunk: &'a str,
-    way: Option<TreeSpan<'a>>,
+    descent: Option<TreeSpan<'a>>,
 }
 
 impl<'a> Model for Span<'a> {
@@ -34,9 +34,9 @@ impl<'a> Model for Span<'a> {
 
     ghost Value = { Place };
 
-    ghost view = { λ a. place_in (chars a.chunk.now) a.way };
+    ghost view = { λ a. place_in (chars a.chunk.now) a.descent };
 
-    ghost invariant = { λ a. IfSome a.way (λ p. p.here ≡ chars a.chunk.now) };
+    ghost invariant = { λ a. IfSome a.descent (λ p. p.here ≡ chars a.chunk.now) };
 }
 
 impl<'a> Span<'a> {
@@ -53,19 +53,19 @@ impl<'a> Span<'a> {
     {
         match slice {
             RopeSlice::InTree(excerpt) => {
-                let (way, before) = TreeSpan::holding(excerpt, unit, idx);
-                let chunk = way.chunk();
-                let way = Some(way);
-                (Span { chunk, way }, before)
+                let (descent, before) = TreeSpan::holding(excerpt, unit, idx);
+                let chunk = descent.chunk();
+                let descent = Some(descent);
+                (Span { chunk, descent }, before)
             }
             RopeSlice::Alone(plain) => {
-                let (chunk, way) = (plain.text, None);
+                let (chunk, descent) = (plain.text, None);
                 let before = Before {
                     bytes: 0,
                     chars: 0,
                     break_count: 0,
                 };
-                (Span { chunk, way }, before)
+                (Span { chunk, descent }, before)
             }
         }
     }
@@ -123,11 +123,11 @@ impl<'a> Span<'a> {
         ensures { result ≡ self.now }
     {
         let chunk = self.chunk;
-        let way = match &self.way {
-            Some(way) => Some(way.copy()),
+        let descent = match &self.descent {
+            Some(descent) => Some(descent.copy()),
             None => None,
         };
-        Span { chunk, way }
+        Span { chunk, descent }
     }
 
     /// Returns the chunk.
@@ -141,8 +141,8 @@ impl<'a> Span<'a> {
     /// line break. It may have one where this returns false: a caller looks elsewhere.
     #[inline(always)]
     pub(crate) fn has_break_beside(&self, is_backward: bool) -> bool {
-        match &self.way {
-            Some(way) => way.has_break_beside(is_backward),
+        match &self.descent {
+            Some(descent) => descent.has_break_beside(is_backward),
             None => false,
         }
     }
@@ -156,7 +156,7 @@ impl<'a> Span<'a> {
         ensures stays { OnFalse result (self.new ≡ self.old) }
         ensures ended { OnFalse result (IsLast is_backward self.old) }
     {
-        self.way.is_some() && self.step_in_tree(is_backward, heads)
+        self.descent.is_some() && self.step_in_tree(is_backward, heads)
     }
 
     // Moves to the adjacent chunk of a tree, in a call of its own.
@@ -177,13 +177,13 @@ impl<'a> Span<'a> {
         ensures stays { OnFalse result (self.new ≡ self.old) }
         ensures ended { OnFalse result (IsLast is_backward self.old) }
     {
-        let Some(way) = &mut self.way else {
+        let Some(descent) = &mut self.descent else {
             return false;
         };
-        if !way.step(is_backward, heads) {
+        if !descent.step(is_backward, heads) {
             return false;
         }
-        self.chunk = way.chunk();
+        self.chunk = descent.chunk();
         true
     }
 }

@@ -2,7 +2,8 @@
 use crate::cuts::{back, byte_back, byte_between, byte_front, front, part};
 use rope_plain::failure::{Failure, within};
 use rope_plain::same;
-use rope_plain::texts::repeated;
+use rope_plain::sums::plus;
+use rope_plain::texts::{repeated, rope_of};
 use ropey::{LineBreaks, Rope, RopeSlice};
 use std::alloc::Global;
 
@@ -22,7 +23,7 @@ fn lines(slice: Option<RopeSlice<'_>>) -> Option<usize> {
     }
 }
 
-fn cuts_one_pair(rope: &Rope) -> Result<(), Failure> {
+fn expect_one_pair_cut(rope: &Rope) -> Result<(), Failure> {
     same!(
         [lines(front(rope, 2)), lines(back(rope, 2))],
         [Some(2), Some(2)]
@@ -31,7 +32,7 @@ fn cuts_one_pair(rope: &Rope) -> Result<(), Failure> {
 }
 
 /// Fails unless inclusive ends after the CR count it.
-fn cuts_behind_the_cr(rope: &Rope) -> Result<(), Failure> {
+fn expect_cut_after_the_cr(rope: &Rope) -> Result<(), Failure> {
     let found = [
         counts(rope.get_slice(..=1)),
         counts(rope.get_slice(0..=1)),
@@ -44,8 +45,8 @@ fn cuts_behind_the_cr(rope: &Rope) -> Result<(), Failure> {
 #[test]
 fn a_slice_between_cr_and_lf_ends_a_line(rt: HostRuntime) -> Result<(), Failure> {
     let rope = Rope::from_str(rt.alloc(), "a\r\nb")?;
-    cuts_behind_the_cr(&rope)?;
-    cuts_one_pair(&rope)
+    expect_cut_after_the_cr(&rope)?;
+    expect_one_pair_cut(&rope)
 }
 
 /// Returns the line of a byte of a slice, if there is one.
@@ -58,19 +59,15 @@ fn line_of(slice: Option<RopeSlice<'_>>, byte_idx: usize) -> Option<usize> {
 
 /// Fails unless a prefix of `len` characters has its lines: of pairs, and of pairs by LF alone.
 fn expect_lines(rope: &Rope, lf: &Rope, len: usize) -> Result<(), Failure> {
-    let answers = [
+    let found = [
         line_of(byte_front(rope, len), len),
         lines(front(rope, len)),
         lines(front(lf, len)),
     ];
     let crs = len.div_ceil(2);
     same!(
-        answers,
-        [
-            Some(crs),
-            Some(crs.saturating_add(1)),
-            Some((len / 2).saturating_add(1)),
-        ]
+        found,
+        [Some(crs), Some(plus(crs, 1)), Some(plus(len / 2, 1))]
     );
     Ok(())
 }
@@ -82,12 +79,6 @@ fn expect_all_lines(rope: &Rope, lf: &Rope) -> Result<(), Failure> {
     Ok(())
 }
 
-/// Returns a rope of 15 pairs.
-fn pairs(alloc: Global) -> Result<Rope, Failure> {
-    let text = repeated(alloc, "\r\n", 15)?;
-    Ok(Rope::from_str(alloc, text.as_str())?)
-}
-
 /// Returns a rope of 15 pairs, with LF alone as line breaks.
 fn pairs_by_lf(alloc: Global) -> Result<Rope, Failure> {
     let text = repeated(alloc, "\r\n", 15)?;
@@ -96,12 +87,12 @@ fn pairs_by_lf(alloc: Global) -> Result<Rope, Failure> {
 
 #[test]
 fn fronts_of_pairs_count_a_bare_cr(rt: HostRuntime) -> Result<(), Failure> {
-    let rope = pairs(rt.alloc())?;
+    let rope = rope_of(rt.alloc(), "\r\n", 15)?;
     let lf = pairs_by_lf(rt.alloc())?;
     expect_all_lines(&rope, &lf)
 }
 
-fn expect_lines_behind(rope: &Rope) -> Result<(), Failure> {
+fn expect_lines_after(rope: &Rope) -> Result<(), Failure> {
     for start in 0..=29usize {
         same!(lines(back(rope, start)), Some(16 - start / 2));
     }
@@ -110,8 +101,8 @@ fn expect_lines_behind(rope: &Rope) -> Result<(), Failure> {
 
 #[test]
 fn backs_of_pairs_count_a_bare_lf(rt: HostRuntime) -> Result<(), Failure> {
-    let rope = pairs(rt.alloc())?;
-    expect_lines_behind(&rope)
+    let rope = rope_of(rt.alloc(), "\r\n", 15)?;
+    expect_lines_after(&rope)
 }
 
 /// Returns a rope of 983 letters, a pair, and more letters.

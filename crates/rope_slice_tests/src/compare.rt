@@ -1,31 +1,35 @@
 //! Slices compared with the model.
 use crate::cuts::lens;
 use rope_plain::failure::{Failure, within};
+use rope_plain::places::{
+    conversion_errors, expect_same_conversions, expected_conversions, first_byte, last_indices,
+};
 use rope_plain::plain_slice::PlainSlice;
 use rope_plain::plain_text::{Place, place_of};
+use rope_plain::sums::{minus, plus};
 use rope_plain::texts::expect_chars;
-use rope_plain::{same, some};
-use ropey::{Error, RopeSlice};
+use rope_plain::{conversions_at, conversions_inside, same, some};
+use ropey::RopeSlice;
 
-/// Compares the lengths, the set of line breaks, the text if it is one chunk, and the indices past
-/// the end.
-pub fn compare_whole(slice: &RopeSlice<'_>, plain: &PlainSlice<'_>) -> Result<(), Failure> {
+/// Fails unless the lengths, the set of line breaks, the text if it is one chunk, and the indices
+/// past the end are right.
+pub fn expect_whole(slice: &RopeSlice<'_>, plain: &PlainSlice<'_>) -> Result<(), Failure> {
     same!(slice.line_breaks(), plain.breaks);
-    compare_lengths(slice, plain)?;
-    compare_text(slice, plain)?;
-    compare_past(slice)
+    expect_lengths(slice, plain)?;
+    expect_as_str(slice, plain)?;
+    expect_refused_past_the_end(slice)
 }
 
-fn compare_lengths(slice: &RopeSlice<'_>, plain: &PlainSlice<'_>) -> Result<(), Failure> {
+fn expect_lengths(slice: &RopeSlice<'_>, plain: &PlainSlice<'_>) -> Result<(), Failure> {
     let chars = plain.text.len();
     let end = place_of(plain.text, chars, plain.breaks);
-    let lines = end.line.saturating_add(1);
+    let lines = plus(end.line, 1);
     same!(lens(slice), [end.byte, chars, lines, end.unit]);
     Ok(())
 }
 
 /// Fails unless `as_str` returns the text if it is one chunk or none, and else `None`.
-fn compare_text(slice: &RopeSlice<'_>, plain: &PlainSlice<'_>) -> Result<(), Failure> {
+fn expect_as_str(slice: &RopeSlice<'_>, plain: &PlainSlice<'_>) -> Result<(), Failure> {
     let (_, end) = plain.chunk_at(0);
     same!(slice.as_str().is_some(), end == plain.text.len());
     if let Some(text) = slice.as_str() {
@@ -35,105 +39,68 @@ fn compare_text(slice: &RopeSlice<'_>, plain: &PlainSlice<'_>) -> Result<(), Fai
 }
 
 /// Fails unless the first index past the end is refused.
-fn compare_past(slice: &RopeSlice<'_>) -> Result<(), Failure> {
-    let [bytes, chars, lines, units] = lens(slice);
-    let byte = bytes.saturating_add(1);
-    let char_idx = chars.saturating_add(1);
-    let line = lines.saturating_add(1);
-    let unit = units.saturating_add(1);
-    let past_byte = Err(Error::ByteIndexOutOfBounds(byte, bytes));
-    let past_char = Err(Error::CharIndexOutOfBounds(char_idx, chars));
-    let past_line = Err(Error::LineIndexOutOfBounds(line, lines));
-    let past_unit = Err(Error::Utf16IndexOutOfBounds(unit, units));
-    let of_bytes = [slice.try_byte_to_char(byte), slice.try_byte_to_line(byte)];
-    let of_chars = [
-        slice.try_char_to_byte(char_idx),
-        slice.try_char_to_line(char_idx),
-        slice.try_char_to_utf16_cu(char_idx),
+fn expect_refused_past_the_end(slice: &RopeSlice<'_>) -> Result<(), Failure> {
+    let lens = lens(slice);
+    let [bytes, chars, lines, units] = lens;
+    let past = [
+        plus(bytes, 1),
+        plus(chars, 1),
+        plus(lines, 1),
+        plus(units, 1),
     ];
-    let of_lines = [slice.try_line_to_byte(line), slice.try_line_to_char(line)];
-    same!(of_bytes, [past_byte; 2]);
-    same!(of_chars, [past_char; 3]);
-    same!(of_lines, [past_line; 2]);
-    same!(slice.try_utf16_cu_to_char(unit), past_unit);
-    Ok(())
+    let [byte, char_idx, line, unit] = past;
+    let conversions = conversions_at!(slice, char_idx, byte, unit, line);
+    expect_same_conversions(conversions, conversion_errors(past, lens))
 }
 
-/// Compares all lookups at a character or at the end.
-pub fn compare_at(
+/// Fails unless all lookups at a character or at the end are right.
+pub fn expect_lookups_at(
     slice: &RopeSlice<'_>,
     plain: &PlainSlice<'_>,
     char_idx: usize,
 ) -> Result<(), Failure> {
-    let outcome = compare_all_at(slice, plain, char_idx);
+    let outcome = expect_all_lookups_at(slice, plain, char_idx);
     within(format_args!("at character {char_idx}"), outcome)
 }
 
-fn compare_all_at(
+fn expect_all_lookups_at(
     slice: &RopeSlice<'_>,
     plain: &PlainSlice<'_>,
     char_idx: usize,
 ) -> Result<(), Failure> {
     let place = place_of(plain.text, char_idx, plain.breaks);
-    compare_place(slice, char_idx, place)?;
+    expect_conversions(slice, char_idx, place)?;
     match plain.text.get(char_idx) {
-        Some(c) => compare_char(slice, char_idx, place, *c)?,
-        None => compare_end(slice, char_idx, place)?,
+        Some(c) => expect_char(slice, char_idx, place, *c)?,
+        None => expect_end(slice, char_idx, place)?,
     }
-    compare_chunk(slice, plain, char_idx, place.byte)?;
-    compare_break(slice, plain, place.line)
+    expect_chunks_at(slice, plain, char_idx, place.byte)?;
+    expect_chunk_at_break(slice, plain, place.line)
 }
 
-/// Compares the conversions from and to an index.
-fn compare_place(slice: &RopeSlice<'_>, char_idx: usize, place: Place) -> Result<(), Failure> {
-    let conversions = [
-        slice.try_char_to_byte(char_idx),
-        slice.try_char_to_line(char_idx),
-        slice.try_char_to_utf16_cu(char_idx),
-        slice.try_byte_to_char(place.byte),
-        slice.try_byte_to_line(place.byte),
-        slice.try_utf16_cu_to_char(place.unit),
-        slice.try_line_to_char(place.line),
-        slice.try_line_to_byte(place.line),
-    ];
-    let wanted = [
-        Ok(place.byte),
-        Ok(place.line),
-        Ok(place.unit),
-        Ok(char_idx),
-        Ok(place.line),
-        Ok(char_idx),
-        Ok(place.line_start_char),
-        Ok(place.line_start_byte),
-    ];
-    same!(conversions, wanted);
-    Ok(())
+/// Fails unless the conversions from and to an index are right.
+fn expect_conversions(slice: &RopeSlice<'_>, char_idx: usize, place: Place) -> Result<(), Failure> {
+    let conversions = conversions_at!(slice, char_idx, place.byte, place.unit, place.line);
+    expect_same_conversions(conversions, expected_conversions(char_idx, place))
 }
 
-/// Compares the character at an index, its first byte, and the indices inside it.
-fn compare_char(
+/// Fails unless the character at an index, its first byte, and the indices inside it are right.
+fn expect_char(
     slice: &RopeSlice<'_>,
     char_idx: usize,
     place: Place,
     c: char,
 ) -> Result<(), Failure> {
-    let mut bytes = [0; 4];
-    let first_byte = c.encode_utf8(&mut bytes).as_bytes().first().copied();
     same!(slice.get_char(char_idx), Some(c));
-    same!(slice.get_byte(place.byte), first_byte);
-    let last_byte = place.byte.saturating_add(c.len_utf8()).saturating_sub(1);
-    let last_unit = place.unit.saturating_add(c.len_utf16()).saturating_sub(1);
-    let inside = [
-        slice.try_byte_to_char(last_byte),
-        slice.try_byte_to_line(last_byte),
-        slice.try_utf16_cu_to_char(last_unit),
-    ];
+    same!(slice.get_byte(place.byte), first_byte(c));
+    let (last_byte, last_unit) = last_indices(place, c);
+    let inside = conversions_inside!(slice, last_byte, last_unit);
     same!(inside, [Ok(char_idx), Ok(place.line), Ok(char_idx)]);
     Ok(())
 }
 
 /// Fails unless there is no character and no byte at the end.
-fn compare_end(slice: &RopeSlice<'_>, char_idx: usize, place: Place) -> Result<(), Failure> {
+fn expect_end(slice: &RopeSlice<'_>, char_idx: usize, place: Place) -> Result<(), Failure> {
     same!(slice.get_char(char_idx), None);
     same!(slice.get_byte(place.byte), None);
     Ok(())
@@ -153,8 +120,8 @@ fn expect_chunk(
     expect_chars(chunk, chars)
 }
 
-/// Compares the chunk at a character and at its first byte.
-fn compare_chunk(
+/// Fails unless the chunk at a character and at its first byte is right.
+fn expect_chunks_at(
     slice: &RopeSlice<'_>,
     plain: &PlainSlice<'_>,
     char_idx: usize,
@@ -167,8 +134,8 @@ fn compare_chunk(
     expect_chunk(slice.try_chunk_at_byte(byte).ok(), chars, counts)
 }
 
-/// Compares the chunk at a line break.
-fn compare_break(
+/// Fails unless the chunk at a line break is right.
+fn expect_chunk_at_break(
     slice: &RopeSlice<'_>,
     plain: &PlainSlice<'_>,
     line: usize,

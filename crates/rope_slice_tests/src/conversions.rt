@@ -1,47 +1,26 @@
 //! Conversions of slices of ropes, against rows worked by hand.
 use crate::cuts::{between, lens, part};
 use rope_plain::failure::Failure;
+use rope_plain::samples::{FOUR_LINES, FROG_UNITS, FROGS, SENTENCE_BYTES, SENTENCES};
 use rope_plain::{same, some};
 use ropey::{Error, Rope, RopeSlice};
-
-const FROGS: &str =
-    "Hello there!🐸  How're you doing?🐸  It's a fine day, isn't it?🐸  Aren't you glad we're alive?🐸  こんにちは、みんなさん！";
-
-const SENTENCES: &str =
-    "Hello there!  How're you doing?  It's a fine day, isn't it?  Aren't you glad we're alive?  こんにちは、みんなさん！";
-
-/// Four lines, in 124 bytes and 100 characters.
-const LINES: &str =
-    "Hello there!  How're you doing?\nIt's a fine day, isn't it?\nAren't you glad we're alive?\nこんにちは、みんなさん！";
 
 /// Fails unless each character of a row starts at its code unit, and the code unit converts back to
 /// it.
 fn expect_all_units(slice: &RopeSlice<'_>, rows: &[(usize, usize)]) -> Result<(), Failure> {
     for (char_idx, unit) in rows {
-        let answers = [
+        let found = [
             slice.try_char_to_utf16_cu(*char_idx),
             slice.try_utf16_cu_to_char(*unit),
         ];
-        same!(answers, [Ok(*unit), Ok(*char_idx)]);
+        same!(found, [Ok(*unit), Ok(*char_idx)]);
     }
     Ok(())
 }
 
 fn expect_units(slice: Option<RopeSlice<'_>>) -> Result<(), Failure> {
-    let rows = [
-        (0, 0),
-        (11, 11),
-        (12, 13),
-        (31, 32),
-        (32, 34),
-        (60, 62),
-        (61, 64),
-        (91, 94),
-        (92, 96),
-        (105, 109),
-    ];
     let slice = some!(slice);
-    expect_all_units(&slice, &rows)
+    expect_all_units(&slice, &FROG_UNITS)
 }
 
 #[test]
@@ -59,23 +38,8 @@ fn expect_all_chars(slice: &RopeSlice<'_>, rows: &[(usize, usize)]) -> Result<()
 }
 
 fn expect_chars(slice: Option<RopeSlice<'_>>) -> Result<(), Failure> {
-    let rows = [
-        (0, 0),
-        (1, 1),
-        (2, 2),
-        (3, 3),
-        (4, 3),
-        (5, 3),
-        (6, 4),
-        (7, 4),
-        (8, 4),
-        (33, 13),
-        (34, 13),
-        (35, 13),
-        (36, 14),
-    ];
     let slice = some!(slice);
-    expect_all_chars(&slice, &rows)
+    expect_all_chars(&slice, &SENTENCE_BYTES)
 }
 
 fn expect_letters(slice: Option<RopeSlice<'_>>) -> Result<(), Failure> {
@@ -94,8 +58,8 @@ fn bytes_of_a_slice_belong_to_their_characters(rt: HostRuntime) -> Result<(), Fa
 /// Fails unless each line of a row starts at its byte and at its character.
 fn expect_all_starts(slice: &RopeSlice<'_>, rows: &[(usize, usize, usize)]) -> Result<(), Failure> {
     for (line, byte_idx, char_idx) in rows {
-        let answers = [slice.try_line_to_byte(*line), slice.try_line_to_char(*line)];
-        same!(answers, [Ok(*byte_idx), Ok(*char_idx)]);
+        let found = [slice.try_line_to_byte(*line), slice.try_line_to_char(*line)];
+        same!(found, [Ok(*byte_idx), Ok(*char_idx)]);
     }
     Ok(())
 }
@@ -114,7 +78,7 @@ fn expect_starts(slice: Option<RopeSlice<'_>>) -> Result<(), Failure> {
 
 #[test]
 fn lines_of_a_slice_start_at_their_bytes(rt: HostRuntime) -> Result<(), Failure> {
-    let rope = Rope::from_str(rt.alloc(), LINES)?;
+    let rope = Rope::from_str(rt.alloc(), FOUR_LINES)?;
     expect_starts(between(&rope, 34, 96))?;
     same!(
         [rope.len_bytes(), rope.len_chars(), rope.len_lines()],
@@ -149,7 +113,7 @@ fn expect_lines(slice: Option<RopeSlice<'_>>) -> Result<(), Failure> {
 
 #[test]
 fn lines_are_cut_out_of_a_slice(rt: HostRuntime) -> Result<(), Failure> {
-    let rope = Rope::from_str(rt.alloc(), LINES)?;
+    let rope = Rope::from_str(rt.alloc(), FOUR_LINES)?;
     expect_lines(between(&rope, 34, 96))
 }
 
@@ -164,6 +128,6 @@ fn expect_last_line(slice: Option<RopeSlice<'_>>) -> Result<(), Failure> {
 
 #[test]
 fn a_slice_may_end_in_an_empty_line(rt: HostRuntime) -> Result<(), Failure> {
-    let rope = Rope::from_str(rt.alloc(), LINES)?;
+    let rope = Rope::from_str(rt.alloc(), FOUR_LINES)?;
     expect_last_line(between(&rope, 34, 59))
 }

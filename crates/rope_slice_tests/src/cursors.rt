@@ -2,7 +2,8 @@
 use crate::cuts::{back, between};
 use rope_plain::failure::Failure;
 use rope_plain::items::{bytes_of_chunks, bytes_of_lines, count_byte, count_char};
-use rope_plain::texts::repeated;
+use rope_plain::samples::FOUR_LINES;
+use rope_plain::texts::{repeated, rope_of};
 use rope_plain::{holds, same, some};
 use ropey::iter::{Chars, Lines};
 use ropey::{Rope, RopeSlice};
@@ -31,7 +32,7 @@ fn lens(line: Option<RopeSlice<'_>>) -> Option<[usize; 2]> {
 }
 
 /// Fails unless no chunk, byte or character is returned.
-fn gives_nothing(rope: &Rope) -> Result<(), Failure> {
+fn expect_nothing(rope: &Rope) -> Result<(), Failure> {
     let are_none = [
         rope.chunks().next().is_none(),
         rope.bytes().next().is_none(),
@@ -42,14 +43,14 @@ fn gives_nothing(rope: &Rope) -> Result<(), Failure> {
 }
 
 /// Fails unless an empty line is returned, forward from the start and back from the end.
-fn gives_an_empty_line(rope: &Rope) -> Result<(), Failure> {
+fn expect_an_empty_line(rope: &Rope) -> Result<(), Failure> {
     let mut lines = rope.lines();
     let from_start = [text(lines.next()), text(lines.next())];
     same!(from_start, [one_chunk(""), None]);
-    gives_an_empty_line_back(rope.get_lines_at(1))
+    expect_an_empty_line_back(rope.get_lines_at(1))
 }
 
-fn gives_an_empty_line_back(from_end: Option<Lines<'_>>) -> Result<(), Failure> {
+fn expect_an_empty_line_back(from_end: Option<Lines<'_>>) -> Result<(), Failure> {
     let mut lines = some!(from_end);
     same!(
         [text(lines.next()), text(lines.prev()), text(lines.prev())],
@@ -59,13 +60,13 @@ fn gives_an_empty_line_back(from_end: Option<Lines<'_>>) -> Result<(), Failure> 
 }
 
 #[test]
-fn the_empty_rope_gives_one_empty_line(rt: HostRuntime) -> Result<(), Failure> {
+fn the_empty_rope_has_one_empty_line(rt: HostRuntime) -> Result<(), Failure> {
     let rope = Rope::new(rt.alloc())?;
-    gives_nothing(&rope)?;
-    gives_an_empty_line(&rope)
+    expect_nothing(&rope)?;
+    expect_an_empty_line(&rope)
 }
 
-fn steps_from_the_lf(slice: Option<RopeSlice<'_>>) -> Result<(), Failure> {
+fn expect_lines_from_the_lf(slice: Option<RopeSlice<'_>>) -> Result<(), Failure> {
     let slice = some!(slice);
     let mut lines = slice.lines();
     same!(
@@ -78,10 +79,10 @@ fn steps_from_the_lf(slice: Option<RopeSlice<'_>>) -> Result<(), Failure> {
 #[test]
 fn a_slice_that_starts_at_the_lf_begins_with_a_line(rt: HostRuntime) -> Result<(), Failure> {
     let rope = Rope::from_str(rt.alloc(), "a\r\nb")?;
-    steps_from_the_lf(back(&rope, 2))
+    expect_lines_from_the_lf(back(&rope, 2))
 }
 
-fn steps_both_ways(from_last: Option<Lines<'_>>) -> Result<(), Failure> {
+fn expect_lines_both_ways(from_last: Option<Lines<'_>>) -> Result<(), Failure> {
     let mut lines = some!(from_last);
     let ahead = [text(lines.next()), text(lines.next())];
     let back = [text(lines.prev()), text(lines.prev()), text(lines.prev())];
@@ -90,28 +91,28 @@ fn steps_both_ways(from_last: Option<Lines<'_>>) -> Result<(), Failure> {
     Ok(())
 }
 
-fn steps_back_from_the_end(from_end: Option<Lines<'_>>) -> Result<(), Failure> {
+fn expect_last_line_back(from_end: Option<Lines<'_>>) -> Result<(), Failure> {
     let mut lines = some!(from_end);
     same!(lens(lines.prev()), Some([1, 1]));
     Ok(())
 }
 
 fn expect_lines(rope: &Rope) -> Result<(), Failure> {
-    steps_both_ways(rope.get_lines_at(1))?;
+    expect_lines_both_ways(rope.get_lines_at(1))?;
     holds!(rope.get_lines_at(3).is_none());
     holds!(rope.get_line(2).is_none());
     Ok(())
 }
 
 #[test]
-fn lines_are_given_both_ways(rt: HostRuntime) -> Result<(), Failure> {
+fn lines_are_returned_forward_and_backward(rt: HostRuntime) -> Result<(), Failure> {
     let rope = Rope::from_str(rt.alloc(), "ab\ncd")?;
     let slice = RopeSlice::from("a\nb");
-    steps_back_from_the_end(slice.get_lines_at(2))?;
+    expect_last_line_back(slice.get_lines_at(2))?;
     expect_lines(&rope)
 }
 
-fn steps_back_over_chars(from_third: Option<Chars<'_>>) -> Result<(), Failure> {
+fn expect_chars_back(from_third: Option<Chars<'_>>) -> Result<(), Failure> {
     let cursor = some!(from_third);
     let mut chars = cursor.reversed();
     same!(chars.size_hint(), (2, Some(2)));
@@ -121,20 +122,20 @@ fn steps_back_over_chars(from_third: Option<Chars<'_>>) -> Result<(), Failure> {
     Ok(())
 }
 
-fn expect_no_places_past_the_end(rope: &Rope) -> Result<(), Failure> {
+fn expect_none_past_the_end(rope: &Rope) -> Result<(), Failure> {
     holds!(rope.get_chars_at(6).is_none());
     holds!(rope.get_bytes_at(6).is_none());
     Ok(())
 }
 
 #[test]
-fn characters_are_given_backward_when_turned_round(rt: HostRuntime) -> Result<(), Failure> {
+fn characters_are_returned_backward_by_a_reversed_cursor(rt: HostRuntime) -> Result<(), Failure> {
     let rope = Rope::from_str(rt.alloc(), "ab\ncd")?;
-    expect_no_places_past_the_end(&rope)?;
-    steps_back_over_chars(rope.get_chars_at(2))
+    expect_none_past_the_end(&rope)?;
+    expect_chars_back(rope.get_chars_at(2))
 }
 
-fn steps_from_the_end(rope: &Rope) -> Result<(), Failure> {
+fn expect_chunks_from_the_end(rope: &Rope) -> Result<(), Failure> {
     let (last, _, _, _) = some!(rope.get_chunk_at_byte(20_000));
     let (mut chunks, bytes, chars, break_count) = some!(rope.get_chunks_at_byte(20_000));
     let steps = [chunks.next(), chunks.prev(), chunks.next(), chunks.next()];
@@ -143,7 +144,7 @@ fn steps_from_the_end(rope: &Rope) -> Result<(), Failure> {
     Ok(())
 }
 
-fn steps_from_the_end_of_a_text(slice: RopeSlice<'_>) -> Result<(), Failure> {
+fn expect_chunks_from_the_end_of_a_text(slice: RopeSlice<'_>) -> Result<(), Failure> {
     let (mut chunks, bytes, chars, break_count) = some!(slice.get_chunks_at_line_break(1));
     let steps = [chunks.next(), chunks.prev(), chunks.prev()];
     same!([bytes, chars, break_count], [3, 3, 0]);
@@ -151,17 +152,11 @@ fn steps_from_the_end_of_a_text(slice: RopeSlice<'_>) -> Result<(), Failure> {
     Ok(())
 }
 
-/// Returns a rope of `count` letters.
-fn letters(alloc: Global, count: usize) -> Result<Rope, Failure> {
-    let text = repeated(alloc, "a", count)?;
-    Ok(Rope::from_str(alloc, text.as_str())?)
-}
-
 #[test]
-fn chunks_are_given_backward_from_the_end(rt: HostRuntime) -> Result<(), Failure> {
-    let rope = letters(rt.alloc(), 20_000)?;
-    steps_from_the_end_of_a_text(RopeSlice::from("abc"))?;
-    steps_from_the_end(&rope)
+fn chunks_are_returned_backward_from_the_end(rt: HostRuntime) -> Result<(), Failure> {
+    let rope = rope_of(rt.alloc(), "a", 20_000)?;
+    expect_chunks_from_the_end_of_a_text(RopeSlice::from("abc"))?;
+    expect_chunks_from_the_end(&rope)
 }
 
 /// Returns a rope of two lines of 3,000 letters.
@@ -179,7 +174,7 @@ fn expect_first_of_long_lines(rope: &Rope) -> Result<(), Failure> {
     Ok(())
 }
 
-fn steps_over_long_lines(from_end: Option<Lines<'_>>) -> Result<(), Failure> {
+fn expect_long_lines(from_end: Option<Lines<'_>>) -> Result<(), Failure> {
     let mut lines = some!(from_end);
     let steps = [lens(lines.prev()), lens(lines.prev()), lens(lines.prev())];
     same!(steps, [Some([3_000, 1]), Some([3_001, 2]), None]);
@@ -189,14 +184,11 @@ fn steps_over_long_lines(from_end: Option<Lines<'_>>) -> Result<(), Failure> {
 }
 
 #[test]
-fn lines_of_several_chunks_are_given_whole(rt: HostRuntime) -> Result<(), Failure> {
+fn lines_of_several_chunks_are_returned_whole(rt: HostRuntime) -> Result<(), Failure> {
     let rope = two_long_lines(rt.alloc())?;
     expect_first_of_long_lines(&rope)?;
-    steps_over_long_lines(rope.get_lines_at(2))
+    expect_long_lines(rope.get_lines_at(2))
 }
-
-const FOUR_LINES: &str =
-    "Hello there!  How're you doing?\nIt's a fine day, isn't it?\nAren't you glad we're alive?\nこんにちは、みんなさん！";
 
 /// Returns the text and the number of lines of a line.
 fn line_and_count<'a>(line: Option<RopeSlice<'a>>) -> Option<(Option<&'a str>, usize)> {
@@ -206,7 +198,7 @@ fn line_and_count<'a>(line: Option<RopeSlice<'a>>) -> Option<(Option<&'a str>, u
     }
 }
 
-fn steps_over_three_lines(slice: Option<RopeSlice<'_>>) -> Result<(), Failure> {
+fn expect_three_lines(slice: Option<RopeSlice<'_>>) -> Result<(), Failure> {
     let slice = some!(slice);
     let mut lines = slice.lines();
     let steps = [
@@ -225,7 +217,7 @@ fn steps_over_three_lines(slice: Option<RopeSlice<'_>>) -> Result<(), Failure> {
     Ok(())
 }
 
-fn steps_over_an_empty_line(slice: Option<RopeSlice<'_>>) -> Result<(), Failure> {
+fn expect_line_and_empty_line(slice: Option<RopeSlice<'_>>) -> Result<(), Failure> {
     let slice = some!(slice);
     let mut lines = slice.lines();
     same!(
@@ -238,27 +230,27 @@ fn steps_over_an_empty_line(slice: Option<RopeSlice<'_>>) -> Result<(), Failure>
 #[test]
 fn lines_of_a_slice_are_cut_at_its_ends(rt: HostRuntime) -> Result<(), Failure> {
     let rope = Rope::from_str(rt.alloc(), FOUR_LINES)?;
-    steps_over_three_lines(between(&rope, 34, 96))?;
-    steps_over_an_empty_line(between(&rope, 34, 59))
+    expect_three_lines(between(&rope, 34, 96))?;
+    expect_line_and_empty_line(between(&rope, 34, 59))
 }
 
-fn steps_with_a_clone(rope: &Rope) -> Result<(), Failure> {
+fn expect_clone_steps(rope: &Rope) -> Result<(), Failure> {
     let mut chars = rope.chars();
-    let mut twin = chars.clone()?;
+    let mut copied = chars.clone()?;
     same!(
-        [chars.next(), chars.next(), twin.next(), chars.next()],
+        [chars.next(), chars.next(), copied.next(), chars.next()],
         [Some('a'), Some('b'), Some('a'), Some('\n')]
     );
     Ok(())
 }
 
 #[test]
-fn clones_go_their_own_way(rt: HostRuntime) -> Result<(), Failure> {
+fn clones_step_independently(rt: HostRuntime) -> Result<(), Failure> {
     let rope = Rope::from_str(rt.alloc(), "ab\ncd")?;
-    steps_with_a_clone(&rope)
+    expect_clone_steps(&rope)
 }
 
-fn loops_over_all(rope: &Rope) -> Result<(), Failure> {
+fn expect_all_looped_over(rope: &Rope) -> Result<(), Failure> {
     let bytes = [bytes_of_chunks(rope.chunks()), bytes_of_lines(rope.lines())];
     let counts = [
         count_byte(rope.bytes(), 0xA9),
@@ -270,7 +262,7 @@ fn loops_over_all(rope: &Rope) -> Result<(), Failure> {
 }
 
 #[test]
-fn loops_give_every_item(rt: HostRuntime) -> Result<(), Failure> {
+fn loops_visit_every_item(rt: HostRuntime) -> Result<(), Failure> {
     let rope = Rope::from_str(rt.alloc(), "ab\ncdb\u{e9}")?;
-    loops_over_all(&rope)
+    expect_all_looped_over(&rope)
 }

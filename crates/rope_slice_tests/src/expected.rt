@@ -58,6 +58,6 @@ impl Told {
 }
 
 /// Returns the excluded end of a range whose last index is `last`, at most the greatest index.
-pub fn behind(last: usize) -> usize {
+pub fn after(last: usize) -> usize {
     last.saturating_add(1)
 }

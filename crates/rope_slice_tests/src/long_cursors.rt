@@ -1,6 +1,7 @@
 //! Cursors over texts of 2^62 bytes, started at both ends and in the middle.
-use crate::long_texts::{Long, Place, Unit, WHOLE, of_each};
+use crate::long_texts::{Long, Place, Unit, WHOLE, with_each_long};
 use rope_plain::failure::{Failure, within};
+use rope_plain::sums::{minus, plus};
 use rope_plain::{holds, same, some};
 use ropey::{Rope, RopeSlice};
 
@@ -16,7 +17,7 @@ pub fn char_at(unit: &Unit, char_idx: usize) -> Option<char> {
 /// it, and the number left.
 fn expect_chars(rope: &Rope, unit: &Unit, place: Place) -> Result<(), Failure> {
     let mut chars = some!(rope.get_chars_at(place.char_idx));
-    let left = unit.char_count().saturating_sub(place.char_idx);
+    let left = minus(unit.char_count(), place.char_idx);
     same!(chars.len(), left);
     same!(chars.size_hint(), (left, Some(left)));
     let next = chars.next();
@@ -36,7 +37,7 @@ fn expect_chars(rope: &Rope, unit: &Unit, place: Place) -> Result<(), Failure> {
 /// and the number left.
 fn expect_bytes(rope: &Rope, place: Place) -> Result<(), Failure> {
     let mut bytes = some!(rope.get_bytes_at(place.byte_idx));
-    let left = WHOLE.saturating_sub(place.byte_idx);
+    let left = minus(WHOLE, place.byte_idx);
     same!(bytes.len(), left);
     same!(bytes.size_hint(), (left, Some(left)));
     let next = bytes.next();
@@ -52,7 +53,7 @@ fn expect_bytes(rope: &Rope, place: Place) -> Result<(), Failure> {
     Ok(())
 }
 
-fn bytes_and_chars_of_one(long: &Long) -> Result<(), Failure> {
+fn expect_all_bytes_and_chars(long: &Long) -> Result<(), Failure> {
     for place in &long.unit.places() {
         within(
             format_args!("character {}", place.char_idx),
@@ -66,7 +67,7 @@ fn bytes_and_chars_of_one(long: &Long) -> Result<(), Failure> {
     Ok(())
 }
 
-fn bytes_and_chars_past_the_end_of_one(long: &Long) -> Result<(), Failure> {
+fn expect_no_bytes_or_chars_past_the_end(long: &Long) -> Result<(), Failure> {
     let are_none = [
         long.rope.get_chars_at(WHOLE + 1).is_none(),
         long.rope.get_chars_at(usize::MAX).is_none(),
@@ -78,10 +79,10 @@ fn bytes_and_chars_past_the_end_of_one(long: &Long) -> Result<(), Failure> {
 }
 
 #[test]
-fn cursors_of_2_to_the_62_bytes_count_what_is_left(rt: HostRuntime) -> Result<(), Failure> {
-    of_each(rt.alloc(), |long| {
-        bytes_and_chars_of_one(long)?;
-        bytes_and_chars_past_the_end_of_one(long)
+fn cursors_of_2_to_the_62_bytes_count_the_items_left(rt: HostRuntime) -> Result<(), Failure> {
+    with_each_long(rt.alloc(), |long| {
+        expect_all_bytes_and_chars(long)?;
+        expect_no_bytes_or_chars_past_the_end(long)
     })
 }
 
@@ -103,7 +104,7 @@ fn expect_chunks(rope: &Rope, unit: &Unit, place: Place) -> Result<(), Failure> 
     Ok(())
 }
 
-fn chunks_of_one(long: &Long) -> Result<(), Failure> {
+fn expect_all_chunks(long: &Long) -> Result<(), Failure> {
     for place in &long.unit.places() {
         within(
             format_args!("character {}", place.char_idx),
@@ -113,7 +114,7 @@ fn chunks_of_one(long: &Long) -> Result<(), Failure> {
     Ok(())
 }
 
-fn chunks_past_the_end_of_one(long: &Long) -> Result<(), Failure> {
+fn expect_no_chunks_past_the_end(long: &Long) -> Result<(), Failure> {
     let are_none = [
         long.rope.get_chunks_at_byte(usize::MAX).is_none(),
         long.rope.get_chunks_at_char(usize::MAX).is_none(),
@@ -125,14 +126,14 @@ fn chunks_past_the_end_of_one(long: &Long) -> Result<(), Failure> {
 
 #[test]
 fn cursors_of_2_to_the_62_bytes_start_at_chunks(rt: HostRuntime) -> Result<(), Failure> {
-    of_each(rt.alloc(), |long| {
-        chunks_of_one(long)?;
-        chunks_past_the_end_of_one(long)
+    with_each_long(rt.alloc(), |long| {
+        expect_all_chunks(long)?;
+        expect_no_chunks_past_the_end(long)
     })
 }
 
 /// Fails unless a cursor after `lines` lines is at the end of the text.
-fn expect_chunks_behind(rope: &Rope, unit: &Unit, lines: usize) -> Result<(), Failure> {
+fn expect_chunks_after(rope: &Rope, unit: &Unit, lines: usize) -> Result<(), Failure> {
     let (mut chunks, byte_idx, char_idx, before) = some!(rope.get_chunks_at_line_break(lines));
     same!(
         [byte_idx, char_idx, before],
@@ -143,20 +144,16 @@ fn expect_chunks_behind(rope: &Rope, unit: &Unit, lines: usize) -> Result<(), Fa
     Ok(())
 }
 
-fn chunks_past_the_last_line_of_one(long: &Long) -> Result<(), Failure> {
-    let lines = long.unit.break_count().saturating_add(1);
-    expect_chunks_behind(&long.rope, &long.unit, lines)?;
-    holds!(
-        long.rope
-            .get_chunks_at_line_break(lines.saturating_add(1))
-            .is_none()
-    );
+fn expect_chunks_past_the_last_line(long: &Long) -> Result<(), Failure> {
+    let lines = plus(long.unit.break_count(), 1);
+    expect_chunks_after(&long.rope, &long.unit, lines)?;
+    holds!(long.rope.get_chunks_at_line_break(plus(lines, 1)).is_none());
     Ok(())
 }
 
 #[test]
-fn chunks_past_the_last_line_are_the_end(rt: HostRuntime) -> Result<(), Failure> {
-    of_each(rt.alloc(), chunks_past_the_last_line_of_one)
+fn a_cursor_over_chunks_past_the_last_line_is_at_the_end(rt: HostRuntime) -> Result<(), Failure> {
+    with_each_long(rt.alloc(), expect_chunks_past_the_last_line)
 }
 
 /// Returns the number of characters of a line that a cursor returned.
@@ -170,7 +167,7 @@ fn chars_of_line(line: Option<RopeSlice<'_>>) -> Option<usize> {
 /// Fails unless a cursor over the lines from one on has the right number of lines left.
 fn expect_lines_left(rope: &Rope, line_idx: usize, all: usize) -> Result<(), Failure> {
     let lines = some!(rope.get_lines_at(line_idx));
-    same!(lines.len(), all.saturating_sub(line_idx));
+    same!(lines.len(), minus(all, line_idx));
     Ok(())
 }
 
@@ -199,7 +196,7 @@ fn expect_line(line: Option<RopeSlice<'_>>, text: &str) -> Result<(), Failure> {
 fn expect_lines_at(rope: &Rope, unit: &Unit, line_idx: usize) -> Result<(), Failure> {
     let break_count = unit.break_count();
     let is_within = 0 < line_idx && line_idx < break_count;
-    expect_lines_left(rope, line_idx, break_count.saturating_add(1))?;
+    expect_lines_left(rope, line_idx, plus(break_count, 1))?;
     if is_within {
         expect_lines_beside(rope, unit, line_idx)?;
         expect_line(rope.get_line(line_idx), unit.text())?;
@@ -207,18 +204,18 @@ fn expect_lines_at(rope: &Rope, unit: &Unit, line_idx: usize) -> Result<(), Fail
     Ok(())
 }
 
-fn lines_of_one(long: &Long) -> Result<(), Failure> {
+fn expect_all_lines(long: &Long) -> Result<(), Failure> {
     let last = long.unit.break_count();
-    for line_idx in [0, last / 2, last, last.saturating_add(1)] {
+    for line_idx in [0, last / 2, last, plus(last, 1)] {
         expect_lines_at(&long.rope, &long.unit, line_idx)?;
     }
     Ok(())
 }
 
-fn lines_past_the_end_of_one(long: &Long) -> Result<(), Failure> {
-    let all = long.unit.break_count().saturating_add(1);
+fn expect_no_lines_past_the_end(long: &Long) -> Result<(), Failure> {
+    let all = plus(long.unit.break_count(), 1);
     let are_none = [
-        long.rope.get_lines_at(all.saturating_add(1)).is_none(),
+        long.rope.get_lines_at(plus(all, 1)).is_none(),
         long.rope.get_lines_at(usize::MAX).is_none(),
         long.rope.get_line(all).is_none(),
         long.rope.get_line(usize::MAX).is_none(),
@@ -228,10 +225,12 @@ fn lines_past_the_end_of_one(long: &Long) -> Result<(), Failure> {
 }
 
 #[test]
-fn lines_of_2_to_the_62_bytes_are_given_both_ways(rt: HostRuntime) -> Result<(), Failure> {
-    of_each(rt.alloc(), |long| {
-        lines_of_one(long)?;
-        lines_past_the_end_of_one(long)
+fn lines_of_2_to_the_62_bytes_are_returned_forward_and_backward(
+    rt: HostRuntime,
+) -> Result<(), Failure> {
+    with_each_long(rt.alloc(), |long| {
+        expect_all_lines(long)?;
+        expect_no_lines_past_the_end(long)
     })
 }
 
@@ -249,7 +248,7 @@ fn expect_last_lines(rope: &Rope, unit: &Unit) -> Result<(), Failure> {
     Ok(())
 }
 
-fn the_last_lines_of_texts_with_breaks_of_one(long: &Long) -> Result<(), Failure> {
+fn expect_last_lines_after_breaks(long: &Long) -> Result<(), Failure> {
     if long.unit.break_count() == 0 {
         return Ok(());
     }
@@ -258,5 +257,5 @@ fn the_last_lines_of_texts_with_breaks_of_one(long: &Long) -> Result<(), Failure
 
 #[test]
 fn the_last_line_of_2_to_the_62_bytes_is_empty(rt: HostRuntime) -> Result<(), Failure> {
-    of_each(rt.alloc(), the_last_lines_of_texts_with_breaks_of_one)
+    with_each_long(rt.alloc(), expect_last_lines_after_breaks)
 }

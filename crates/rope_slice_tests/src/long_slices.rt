@@ -1,8 +1,10 @@
 //! Slices of texts of 2^62 bytes, from both ends and across the middle.
 use crate::long_cursors::char_at;
-use crate::long_texts::{Long, Place, UNITS, Unit, WHOLE, of_each};
+use crate::long_texts::{Long, Place, UNITS, Unit, WHOLE, with_each_long};
 use rope_plain::failure::{Failure, within};
-use rope_plain::{same, some};
+use rope_plain::places::{expect_same_conversions, expected_conversions};
+use rope_plain::sums::minus;
+use rope_plain::{conversions_at, same, some};
 use ropey::{Rope, RopeSlice};
 
 /// Returns a slice's bytes, characters and code units, if there is one.
@@ -23,7 +25,7 @@ fn expected(unit: &Unit, chars: usize) -> [usize; 3] {
 /// counts.
 fn expect_parts(rope: &Rope, unit: &Unit, place: Place) -> Result<(), Failure> {
     let before = expected(unit, place.char_idx);
-    let behind = expected(unit, unit.char_count().saturating_sub(place.char_idx));
+    let following = expected(unit, minus(unit.char_count(), place.char_idx));
     let fronts = [
         counts(rope.get_slice(..place.char_idx)),
         counts(rope.get_byte_slice(..place.byte_idx)),
@@ -33,11 +35,11 @@ fn expect_parts(rope: &Rope, unit: &Unit, place: Place) -> Result<(), Failure> {
         counts(rope.get_byte_slice(place.byte_idx..)),
     ];
     same!(fronts, [Some(before), Some(before)]);
-    same!(backs, [Some(behind), Some(behind)]);
+    same!(backs, [Some(following), Some(following)]);
     Ok(())
 }
 
-fn lengths_of_fronts_and_backs_of_one(long: &Long) -> Result<(), Failure> {
+fn expect_all_parts(long: &Long) -> Result<(), Failure> {
     for place in &long.unit.places() {
         within(
             format_args!("character {}", place.char_idx),
@@ -51,7 +53,7 @@ fn lengths_of_fronts_and_backs_of_one(long: &Long) -> Result<(), Failure> {
 fn fronts_and_backs_of_2_to_the_62_bytes_have_their_lengths(
     rt: HostRuntime,
 ) -> Result<(), Failure> {
-    of_each(rt.alloc(), lengths_of_fronts_and_backs_of_one)
+    with_each_long(rt.alloc(), expect_all_parts)
 }
 
 /// Returns the lines of a slice, if there is one.
@@ -64,12 +66,12 @@ fn lines_of(slice: Option<RopeSlice<'_>>) -> Option<usize> {
 
 /// Fails unless the slices before and after a position have their numbers of lines.
 fn expect_lines(pairs: &Rope, row: (usize, usize, usize)) -> Result<(), Failure> {
-    let (char_idx, before, behind) = row;
+    let (char_idx, before, following) = row;
     let found = [
         lines_of(pairs.get_slice(..char_idx)),
         lines_of(pairs.get_slice(char_idx..)),
     ];
-    same!(found, [Some(before), Some(behind)]);
+    same!(found, [Some(before), Some(following)]);
     Ok(())
 }
 
@@ -101,40 +103,23 @@ fn cut_pairs_of_2_to_the_62_bytes_have_their_lines(rt: HostRuntime) -> Result<()
 }
 
 /// Fails unless each conversion of the back half is right at a position of its own.
-fn expect_converted(back: &RopeSlice<'_>, place: Place) -> Result<(), Failure> {
-    let of_char = [
-        back.try_char_to_byte(place.char_idx),
-        back.try_char_to_utf16_cu(place.char_idx),
-        back.try_char_to_line(place.char_idx),
-    ];
-    let of_others = [
-        back.try_byte_to_char(place.byte_idx),
-        back.try_byte_to_line(place.byte_idx),
-        back.try_utf16_cu_to_char(place.unit_idx),
-    ];
-    same!(
-        of_char,
-        [Ok(place.byte_idx), Ok(place.unit_idx), Ok(place.line_idx)]
-    );
-    same!(
-        of_others,
-        [Ok(place.char_idx), Ok(place.line_idx), Ok(place.char_idx)]
-    );
-    same!(back.try_line_to_char(place.line_idx), Ok(place.line_char));
-    Ok(())
+fn expect_converted(back: &RopeSlice<'_>, unit: &Unit, place: Place) -> Result<(), Failure> {
+    let plain = unit.plain_place(place);
+    let conversions = conversions_at!(back, place.char_idx, plain.byte, plain.unit, plain.line);
+    expect_same_conversions(conversions, expected_conversions(place.char_idx, plain))
 }
 
-fn conversions_of_backs_of_one(long: &Long) -> Result<(), Failure> {
+fn expect_back_converted(long: &Long) -> Result<(), Failure> {
     let middle = long.unit.place(long.unit.char_count() / 2);
     let back = some!(long.rope.get_slice(middle.char_idx..));
-    expect_converted(&back, long.unit.place(0))?;
-    expect_converted(&back, long.unit.place(1))?;
-    expect_converted(&back, middle)
+    expect_converted(&back, &long.unit, long.unit.place(0))?;
+    expect_converted(&back, &long.unit, long.unit.place(1))?;
+    expect_converted(&back, &long.unit, middle)
 }
 
 #[test]
 fn backs_of_2_to_the_62_bytes_convert_from_their_start(rt: HostRuntime) -> Result<(), Failure> {
-    of_each(rt.alloc(), conversions_of_backs_of_one)
+    with_each_long(rt.alloc(), expect_back_converted)
 }
 
 /// Fails unless the slice has the characters of the text, repeated.
@@ -164,13 +149,13 @@ fn expect_thousand(slice: &RopeSlice<'_>, unit: &Unit) -> Result<(), Failure> {
     expect_repeated(slice, unit)
 }
 
-fn texts_across_the_middle_of_one(long: &Long) -> Result<(), Failure> {
-    let start = (long.unit.char_count() / 2).saturating_sub(400);
+fn expect_text_across_the_middle(long: &Long) -> Result<(), Failure> {
+    let start = minus(long.unit.char_count() / 2, 400);
     let slice = some!(front(long.rope.get_slice(start..), 1_000));
     expect_thousand(&slice, &long.unit)
 }
 
 #[test]
 fn slices_across_the_middle_have_their_text(rt: HostRuntime) -> Result<(), Failure> {
-    of_each(rt.alloc(), texts_across_the_middle_of_one)
+    with_each_long(rt.alloc(), expect_text_across_the_middle)
 }

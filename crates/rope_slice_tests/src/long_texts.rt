@@ -2,7 +2,10 @@
 //! the middle.
 use rope_plain::compare::lens;
 use rope_plain::failure::{Failure, within};
-use rope_plain::{holds, same, some};
+use rope_plain::places::{conversion_errors, expect_same_conversions, expected_conversions};
+use rope_plain::sums::{minus, plus};
+use rope_plain::texts::doubled;
+use rope_plain::{conversions_at, conversions_inside, holds, plain_text, same, some};
 use rope_position::{Position, Positions};
 use ropey::{Error, Rope};
 use std::alloc::{AllocError, Global};
@@ -80,15 +83,6 @@ pub struct Place {
     pub line_char: usize,
 }
 
-/// Joins a rope to itself `times` times.
-fn double(rope: &mut Rope, times: u32) -> Result<(), Failure> {
-    for _ in 0..times {
-        let copy = rope.clone()?;
-        rope.append(copy)?;
-    }
-    Ok(())
-}
-
 impl Unit {
     /// Returns the text that is repeated.
     pub fn text(&self) -> &'static str {
@@ -102,9 +96,7 @@ impl Unit {
 
     /// Returns the text, repeated to 2^62 bytes.
     pub fn whole(&self, alloc: Global) -> Result<Rope, Failure> {
-        let mut rope = Rope::from_str(alloc, self.text())?;
-        double(&mut rope, self.times)?;
-        Ok(rope)
+        Ok(doubled(alloc, self.text(), self.times as usize)?)
     }
 
     /// Returns the number of characters of the long text.
@@ -131,6 +123,17 @@ impl Unit {
         }
     }
 
+    /// Returns a position's indices, and the start of its line.
+    pub fn plain_place(&self, place: Place) -> plain_text::Place {
+        plain_text::Place {
+            byte: place.byte_idx,
+            unit: place.unit_idx,
+            line: place.line_idx,
+            line_start_char: place.line_char,
+            line_start_byte: place.line_char.saturating_mul(self.bytes_a_char),
+        }
+    }
+
     /// Returns the positions tested: both ends, the middle, and those next to them.
     pub fn places(&self) -> [Place; 8] {
         let end = self.char_count();
@@ -138,11 +141,11 @@ impl Unit {
         [
             self.place(0),
             self.place(1),
-            self.place(middle.saturating_sub(1)),
+            self.place(minus(middle, 1)),
             self.place(middle),
-            self.place(middle.saturating_add(1)),
-            self.place(end.saturating_sub(2)),
-            self.place(end.saturating_sub(1)),
+            self.place(plus(middle, 1)),
+            self.place(minus(end, 2)),
+            self.place(minus(end, 1)),
             self.place(end),
         ]
     }
@@ -176,23 +179,26 @@ fn all(alloc: Global) -> Result<Vec<Long>, Failure> {
 }
 
 /// Fails unless a test passes for each text.
-fn ask_each<F: Fn(&Long) -> Result<(), Failure>>(all: &[Long], ask: F) -> Result<(), Failure>
+fn with_each_of<F: Fn(&Long) -> Result<(), Failure>>(all: &[Long], ask: F) -> Result<(), Failure>
     requires { F.IsAlwaysCallable ask }
 {
     for long in all {
-        let answered = ask(long);
-        within(format_args!("text {:?}", long.unit.text()), answered)?;
+        let outcome = ask(long);
+        within(format_args!("text {:?}", long.unit.text()), outcome)?;
     }
     Ok(())
 }
 
 /// Makes one of each, and fails unless a test passes for it. The texts are dropped only here, since
 /// each return of a function that owns ropes is proved to drop them.
-pub fn of_each<F: Fn(&Long) -> Result<(), Failure>>(alloc: Global, ask: F) -> Result<(), Failure>
+pub fn with_each_long<F: Fn(&Long) -> Result<(), Failure>>(
+    alloc: Global,
+    ask: F,
+) -> Result<(), Failure>
     requires { F.IsAlwaysCallable ask }
 {
     let all = all(alloc)?;
-    ask_each(&all, ask)
+    with_each_of(&all, ask)
 }
 
 /// Fails unless a long text has these counts, in a tree that is not deep.
@@ -234,68 +240,36 @@ fn texts_of_2_to_the_62_bytes_have_their_lengths(rt: HostRuntime) -> Result<(), 
 }
 
 /// Fails unless each conversion is right at a position.
-fn expect_converted(rope: &Rope, place: Place) -> Result<(), Failure> {
-    let of_char = [
-        rope.try_char_to_byte(place.char_idx),
-        rope.try_char_to_utf16_cu(place.char_idx),
-        rope.try_char_to_line(place.char_idx),
-    ];
-    let of_bytes_and_units = [
-        rope.try_byte_to_char(place.byte_idx),
-        rope.try_byte_to_line(place.byte_idx),
-        rope.try_utf16_cu_to_char(place.unit_idx),
-    ];
+fn expect_converted(rope: &Rope, unit: &Unit, place: Place) -> Result<(), Failure> {
+    let plain = unit.plain_place(place);
+    let conversions = conversions_at!(rope, place.char_idx, plain.byte, plain.unit, plain.line);
+    expect_same_conversions(conversions, expected_conversions(place.char_idx, plain))
+}
+
+/// Fails unless the indices within a character convert to it.
+fn expect_whole(rope: &Rope, unit: &Unit, place: Place) -> Result<(), Failure> {
+    let last_byte = plus(place.byte_idx, minus(unit.bytes_a_char, 1));
+    let last_unit = plus(place.unit_idx, minus(unit.units_a_char, 1));
+    let inside = conversions_inside!(rope, last_byte, last_unit);
     same!(
-        of_char,
-        [Ok(place.byte_idx), Ok(place.unit_idx), Ok(place.line_idx)]
-    );
-    same!(
-        of_bytes_and_units,
+        inside,
         [Ok(place.char_idx), Ok(place.line_idx), Ok(place.char_idx)]
     );
     Ok(())
 }
 
-/// Fails unless the indices within a character convert to it.
-fn expect_whole(rope: &Rope, unit: &Unit, place: Place) -> Result<(), Failure> {
-    let last_byte = place
-        .byte_idx
-        .saturating_add(unit.bytes_a_char.saturating_sub(1));
-    let last_unit = place
-        .unit_idx
-        .saturating_add(unit.units_a_char.saturating_sub(1));
-    let answers = [
-        rope.try_byte_to_char(last_byte),
-        rope.try_utf16_cu_to_char(last_unit),
-    ];
-    same!(answers, [Ok(place.char_idx), Ok(place.char_idx)]);
-    Ok(())
-}
-
-/// Fails unless the line of a position starts at its character and at that character's byte.
-fn expect_line_start(rope: &Rope, unit: &Unit, place: Place) -> Result<(), Failure> {
-    let byte_idx = place.line_char.saturating_mul(unit.bytes_a_char);
-    let answers = [
-        rope.try_line_to_char(place.line_idx),
-        rope.try_line_to_byte(place.line_idx),
-    ];
-    same!(answers, [Ok(place.line_char), Ok(byte_idx)]);
-    Ok(())
-}
-
 fn expect_converted_within(rope: &Rope, unit: &Unit, place: Place) -> Result<(), Failure> {
     let is_within = place.char_idx < unit.char_count();
-    expect_converted(rope, place)?;
+    expect_converted(rope, unit, place)?;
     if is_within {
         expect_whole(rope, unit, place)?;
-        expect_line_start(rope, unit, place)?;
     }
     Ok(())
 }
 
 /// Fails unless each position is converted, and those within the text with the indices inside their
 /// characters.
-fn each_conversion_of_one(long: &Long) -> Result<(), Failure> {
+fn expect_all_converted(long: &Long) -> Result<(), Failure> {
     for place in &long.unit.places() {
         within(
             format_args!("character {}", place.char_idx),
@@ -306,13 +280,13 @@ fn each_conversion_of_one(long: &Long) -> Result<(), Failure> {
 }
 
 #[test]
-fn each_place_of_2_to_the_62_bytes_is_converted(rt: HostRuntime) -> Result<(), Failure> {
-    of_each(rt.alloc(), each_conversion_of_one)
+fn each_index_of_2_to_the_62_bytes_is_converted(rt: HostRuntime) -> Result<(), Failure> {
+    with_each_long(rt.alloc(), expect_all_converted)
 }
 
-fn the_start_past_the_last_line_of_one(long: &Long) -> Result<(), Failure> {
-    let lines = long.unit.break_count().saturating_add(1);
-    let past = lines.saturating_add(1);
+fn expect_start_past_the_last_line(long: &Long) -> Result<(), Failure> {
+    let lines = plus(long.unit.break_count(), 1);
+    let past = plus(lines, 1);
     let refused = Error::LineIndexOutOfBounds(past, lines);
     let starts = [
         long.rope.try_line_to_char(lines),
@@ -334,23 +308,13 @@ fn the_start_past_the_last_line_of_one(long: &Long) -> Result<(), Failure> {
 
 #[test]
 fn the_line_past_the_last_starts_at_the_end(rt: HostRuntime) -> Result<(), Failure> {
-    of_each(rt.alloc(), the_start_past_the_last_line_of_one)
+    with_each_long(rt.alloc(), expect_start_past_the_last_line)
 }
 
-/// Fails unless an index past the end, and the greatest possible one, are refused.
-fn refuses(rope: &Rope, past: usize, chars: usize, units: usize) -> Result<(), Failure> {
-    let char_error = Err(Error::CharIndexOutOfBounds(past, chars));
-    let byte_error = Err(Error::ByteIndexOutOfBounds(past, WHOLE));
-    let unit_error = Err(Error::Utf16IndexOutOfBounds(past, units));
-    let of_chars = [
-        rope.try_char_to_byte(past),
-        rope.try_char_to_utf16_cu(past),
-        rope.try_char_to_line(past),
-    ];
-    let of_bytes = [rope.try_byte_to_char(past), rope.try_byte_to_line(past)];
-    same!(of_chars, [char_error; 3]);
-    same!(of_bytes, [byte_error; 2]);
-    same!(rope.try_utf16_cu_to_char(past), unit_error);
+/// Fails unless an index past the end of a text of these lengths is refused.
+fn expect_refused(rope: &Rope, past: usize, lens: [usize; 4]) -> Result<(), Failure> {
+    let conversions = conversions_at!(rope, past, past, past, past);
+    expect_same_conversions(conversions, conversion_errors([past; 4], lens))?;
     let are_none = [
         rope.get_byte(past).is_none(),
         rope.get_char(past).is_none(),
@@ -362,18 +326,19 @@ fn refuses(rope: &Rope, past: usize, chars: usize, units: usize) -> Result<(), F
     Ok(())
 }
 
-fn past_the_end_of_one(long: &Long) -> Result<(), Failure> {
+fn expect_refused_past_the_end(long: &Long) -> Result<(), Failure> {
     let chars = long.unit.char_count();
+    let lines = plus(long.unit.break_count(), 1);
     let units = chars.saturating_mul(long.unit.units_a_char);
     for past in [WHOLE + 1, isize::MAX as usize, usize::MAX] {
-        refuses(&long.rope, past, chars, units)?;
+        expect_refused(&long.rope, past, [WHOLE, chars, lines, units])?;
     }
     Ok(())
 }
 
 #[test]
 fn indices_past_2_to_the_62_bytes_are_refused(rt: HostRuntime) -> Result<(), Failure> {
-    of_each(rt.alloc(), past_the_end_of_one)
+    with_each_long(rt.alloc(), expect_refused_past_the_end)
 }
 
 /// Fails unless the character at a position and its first byte are right.
@@ -390,7 +355,7 @@ fn expect_items(rope: &Rope, unit: &Unit, place: Place) -> Result<(), Failure> {
     Ok(())
 }
 
-fn items_of_one(long: &Long) -> Result<(), Failure> {
+fn expect_all_items(long: &Long) -> Result<(), Failure> {
     for place in &long.unit.places() {
         if place.char_idx < long.unit.char_count() {
             within(
@@ -406,7 +371,7 @@ fn items_of_one(long: &Long) -> Result<(), Failure> {
 
 #[test]
 fn items_of_2_to_the_62_bytes_are_found(rt: HostRuntime) -> Result<(), Failure> {
-    of_each(rt.alloc(), items_of_one)
+    with_each_long(rt.alloc(), expect_all_items)
 }
 
 /// Fails unless a chunk contains a position, or ends there at the text's end, and begins where the
@@ -418,7 +383,7 @@ fn expect_held(
 ) -> Result<(), Failure> {
     let (chunk, byte_idx, char_idx, break_count) = found;
     let start = unit.place(char_idx);
-    let end = byte_idx.saturating_add(chunk.len());
+    let end = plus(byte_idx, chunk.len());
     holds!(place.byte_idx < end || (end == WHOLE && place.byte_idx == end));
     same!(start.byte_idx, byte_idx);
     same!(start.line_idx, break_count);
@@ -434,7 +399,7 @@ fn expect_chunk(rope: &Rope, unit: &Unit, place: Place) -> Result<(), Failure> {
     expect_held(by_byte, unit, place)
 }
 
-fn chunks_of_one(long: &Long) -> Result<(), Failure> {
+fn expect_all_chunks(long: &Long) -> Result<(), Failure> {
     for place in &long.unit.places() {
         within(
             format_args!("character {}", place.char_idx),
@@ -446,7 +411,7 @@ fn chunks_of_one(long: &Long) -> Result<(), Failure> {
 
 #[test]
 fn chunks_of_2_to_the_62_bytes_are_found(rt: HostRuntime) -> Result<(), Failure> {
-    of_each(rt.alloc(), chunks_of_one)
+    with_each_long(rt.alloc(), expect_all_chunks)
 }
 
 /// Fails unless a chunk has a line break, if there is one before it, and begins where the counts
@@ -459,7 +424,7 @@ fn expect_break(
 ) -> Result<(), Failure> {
     let (chunk, byte_idx, char_idx, before) = found;
     let start = unit.place(char_idx);
-    let end = rope.try_byte_to_line(byte_idx.saturating_add(chunk.len()))?;
+    let end = rope.try_byte_to_line(plus(byte_idx, chunk.len()))?;
     holds!(line_break <= end);
     same!([start.byte_idx, start.line_idx], [byte_idx, before]);
     holds!(before < line_break || byte_idx == 0);
@@ -471,7 +436,7 @@ fn expect_chunk_at_break(rope: &Rope, unit: &Unit, line_break: usize) -> Result<
     expect_break(rope, unit, found, line_break)
 }
 
-fn chunks_at_line_breaks_of_one(long: &Long) -> Result<(), Failure> {
+fn expect_chunks_at_breaks(long: &Long) -> Result<(), Failure> {
     let last = long.unit.break_count();
     for line_break in [0, 1.min(last), last / 2, last] {
         expect_chunk_at_break(&long.rope, &long.unit, line_break)?;
@@ -481,7 +446,7 @@ fn chunks_at_line_breaks_of_one(long: &Long) -> Result<(), Failure> {
 
 #[test]
 fn chunks_of_2_to_the_62_bytes_are_found_by_line_breaks(rt: HostRuntime) -> Result<(), Failure> {
-    of_each(rt.alloc(), chunks_at_line_breaks_of_one)
+    with_each_long(rt.alloc(), expect_chunks_at_breaks)
 }
 
 /// Fails unless a position has its line and column, and they convert back to it.
@@ -489,14 +454,14 @@ fn expect_position(rope: &Rope, unit: &Unit, place: Place) -> Result<(), Failure
     let start = unit.place(place.line_char);
     let position = Position {
         line: place.line_idx,
-        column: place.unit_idx.saturating_sub(start.unit_idx),
+        column: minus(place.unit_idx, start.unit_idx),
     };
     same!(rope.try_char_to_position(place.char_idx), Ok(position));
     same!(rope.try_position_to_char(position), Ok(place.char_idx));
     Ok(())
 }
 
-fn positions_of_one(long: &Long) -> Result<(), Failure> {
+fn expect_all_positions(long: &Long) -> Result<(), Failure> {
     for place in &long.unit.places() {
         within(
             format_args!("character {}", place.char_idx),
@@ -507,7 +472,7 @@ fn positions_of_one(long: &Long) -> Result<(), Failure> {
 }
 
 /// Fails unless a line past the last one is refused.
-fn refuses_line(rope: &Rope, line: usize, lines: usize) -> Result<(), Failure> {
+fn expect_line_refused(rope: &Rope, line: usize, lines: usize) -> Result<(), Failure> {
     let refused = Err(Error::LineIndexOutOfBounds(line, lines));
     same!(
         rope.try_position_to_char(Position { line, column: 0 }),
@@ -516,19 +481,19 @@ fn refuses_line(rope: &Rope, line: usize, lines: usize) -> Result<(), Failure> {
     Ok(())
 }
 
-fn positions_past_the_end_of_one(long: &Long) -> Result<(), Failure> {
-    let lines = long.unit.break_count().saturating_add(1);
+fn expect_positions_refused(long: &Long) -> Result<(), Failure> {
+    let lines = plus(long.unit.break_count(), 1);
     let refused = Err(Error::CharIndexOutOfBounds(usize::MAX, long.unit.char_count()));
-    refuses_line(&long.rope, lines, lines)?;
-    refuses_line(&long.rope, usize::MAX, lines)?;
+    expect_line_refused(&long.rope, lines, lines)?;
+    expect_line_refused(&long.rope, usize::MAX, lines)?;
     same!(long.rope.try_char_to_position(usize::MAX), refused);
     Ok(())
 }
 
 #[test]
 fn positions_of_2_to_the_62_bytes_lead_back(rt: HostRuntime) -> Result<(), Failure> {
-    of_each(rt.alloc(), |long| {
-        positions_of_one(long)?;
-        positions_past_the_end_of_one(long)
+    with_each_long(rt.alloc(), |long| {
+        expect_all_positions(long)?;
+        expect_positions_refused(long)
     })
 }

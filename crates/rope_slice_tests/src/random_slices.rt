@@ -1,5 +1,5 @@
 //! Random slices of slices, of ropes and of plain texts, against the model.
-use crate::compare::{compare_at, compare_whole};
+use crate::compare::{expect_lookups_at, expect_whole};
 use crate::cuts::{between, byte_between, byte_part, part};
 use rope_plain::compare::SETS;
 use rope_plain::failure::{Failure, within};
@@ -8,6 +8,7 @@ use rope_plain::pair::Pair;
 use rope_plain::plain_slice::PlainSlice;
 use rope_plain::plain_text::char_to_byte;
 use rope_plain::some;
+use rope_plain::sums::{minus, plus};
 use rope_plain::texts::{chars_of, random_edit_text, random_text};
 use ropey::{Error, LineBreaks, RopeSlice};
 use std::alloc::Global;
@@ -31,9 +32,7 @@ fn insert(pair: &mut Pair, alloc: Global, numbers: &mut Numbers) -> Result<(), E
 /// Removes up to 300 characters.
 fn remove(pair: &mut Pair, alloc: Global, numbers: &mut Numbers) -> Result<(), Error> {
     let start = pair.place(numbers);
-    let end = start
-        .saturating_add(numbers.up_to(300))
-        .min(pair.plain.len());
+    let end = plus(start, numbers.up_to(300)).min(pair.plain.len());
     pair.remove(alloc, start, end)
 }
 
@@ -60,13 +59,13 @@ pub fn random_range(numbers: &mut Numbers, len: usize) -> (usize, usize) {
     } else {
         numbers.up_to(len / 8)
     };
-    let rest = len.saturating_sub(start);
+    let rest = minus(len, start);
     let left_out = if numbers.up_to(1) == 0 {
         numbers.up_to(rest)
     } else {
         numbers.up_to(rest / 8)
     };
-    (start, len.saturating_sub(left_out))
+    (start, minus(len, left_out))
 }
 
 /// Returns a range of a rope, given in characters or in bytes.
@@ -107,10 +106,10 @@ fn expect_slice(
     plain: &PlainSlice<'_>,
 ) -> Result<(), Failure> {
     for _ in 0..PLACES {
-        compare_at(slice, plain, numbers.up_to(plain.text.len()))?;
+        expect_lookups_at(slice, plain, numbers.up_to(plain.text.len()))?;
     }
-    compare_whole(slice, plain)?;
-    compare_at(slice, plain, plain.text.len())
+    expect_whole(slice, plain)?;
+    expect_lookups_at(slice, plain, plain.text.len())
 }
 
 /// Fails unless a slice is right, and slices each within the one before.
@@ -203,7 +202,7 @@ fn expect_rope_sliced_by_each_set(alloc: Global, numbers: &mut Numbers) -> Resul
 }
 
 #[test]
-fn slices_of_random_ropes_are_their_lists(rt: HostRuntime) -> Result<(), Failure> {
+fn slices_of_random_ropes_equal_their_lists(rt: HostRuntime) -> Result<(), Failure> {
     let seed = 0x9E37_79B9_7F4A_7C15;
     let mut numbers = Numbers::new(seed);
     for round in 0..40usize {
@@ -227,7 +226,7 @@ fn expect_str_sliced_by_each_set(alloc: Global, numbers: &mut Numbers) -> Result
 }
 
 #[test]
-fn slices_of_random_plain_texts_are_their_lists(rt: HostRuntime) -> Result<(), Failure> {
+fn slices_of_random_plain_texts_equal_their_lists(rt: HostRuntime) -> Result<(), Failure> {
     let seed = 0xD1B5_4A32_D192_ED03;
     let mut numbers = Numbers::new(seed);
     for round in 0..100usize {

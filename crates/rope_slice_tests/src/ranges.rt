@@ -1,8 +1,9 @@
 //! Ranges of all six kinds, with bounds at the ends of a text, past them, reversed, and at the
 //! greatest index.
-use crate::expected::{Told, behind};
+use crate::expected::{Told, after};
 use crate::long_texts::{UNITS, WHOLE};
 use rope_plain::failure::{Failure, within};
+use rope_plain::sums::minus;
 use rope_plain::{holds, same};
 use ropey::{IndexRange, Rope, RopeSlice};
 use std::alloc::Global;
@@ -40,14 +41,14 @@ fn expect_removed<R: IndexRange>(rope: &mut Rope, range: R, told: Told) -> Resul
     same!(answer.err(), told.char_error(CHARS));
     let left = match told.char_error(CHARS) {
         Some(_) => CHARS,
-        None => CHARS.saturating_sub(told.count(CHARS)),
+        None => minus(CHARS, told.count(CHARS)),
     };
     same!(rope.len_chars(), left);
     holds!(left != CHARS || rope.eq_str(TEXT));
     Ok(())
 }
 
-fn removes<R: IndexRange>(alloc: Global, range: R, told: Told) -> Result<(), Failure> {
+fn expect_range_removed<R: IndexRange>(alloc: Global, range: R, told: Told) -> Result<(), Failure> {
     let mut rope = Rope::from_str(alloc, TEXT)?;
     expect_removed(&mut rope, range, told)
 }
@@ -83,7 +84,7 @@ fn expect_byte_sliced(answer: ropey::Result<RopeSlice<'_>>, told: Told) -> Resul
 }
 
 /// Fails unless slices of a text by the range are as expected, by characters and by bytes.
-macro_rules! cut {
+macro_rules! expect_cut {
     ($text:ident, $range:expr, $told:ident) => {
         expect_sliced($text.get_slice($range), $told)?;
         expect_byte_sliced($text.try_byte_slice($range), $told)?;
@@ -95,97 +96,97 @@ macro_rules! cut {
 }
 
 /// Fails unless slices of a rope and of a plain text are as expected.
-macro_rules! both_cut {
+macro_rules! expect_both_cut {
     ($rope:ident, $range:expr, $told:ident) => {{
         let slice = RopeSlice::from(TEXT);
-        cut!($rope, $range, $told);
-        cut!(slice, $range, $told);
+        expect_cut!($rope, $range, $told);
+        expect_cut!(slice, $range, $told);
     }};
 }
 
 /// Tests ranges with a start and an excluded end.
-fn half_open(alloc: Global, rope: &Rope, start: usize, end: usize) -> Result<(), Failure> {
+fn expect_half_open(alloc: Global, rope: &Rope, start: usize, end: usize) -> Result<(), Failure> {
     let told = Told {
         start: Some(start),
         end: Some(end),
     };
-    removes(alloc, start..end, told)?;
-    both_cut!(rope, start..end, told);
+    expect_range_removed(alloc, start..end, told)?;
+    expect_both_cut!(rope, start..end, told);
     Ok(())
 }
 
 /// Tests ranges with a start and a last index.
-fn closed(alloc: Global, rope: &Rope, start: usize, end: usize) -> Result<(), Failure> {
+fn expect_closed(alloc: Global, rope: &Rope, start: usize, end: usize) -> Result<(), Failure> {
     let told = Told {
         start: Some(start),
-        end: Some(behind(end)),
+        end: Some(after(end)),
     };
-    removes(alloc, start..=end, told)?;
-    both_cut!(rope, start..=end, told);
+    expect_range_removed(alloc, start..=end, told)?;
+    expect_both_cut!(rope, start..=end, told);
     Ok(())
 }
 
 /// Tests ranges with a start and no end.
-fn open_behind(alloc: Global, rope: &Rope, start: usize) -> Result<(), Failure> {
+fn expect_open_after(alloc: Global, rope: &Rope, start: usize) -> Result<(), Failure> {
     let told = Told {
         start: Some(start),
         end: None,
     };
-    removes(alloc, start.., told)?;
-    both_cut!(rope, start.., told);
+    expect_range_removed(alloc, start.., told)?;
+    expect_both_cut!(rope, start.., told);
     Ok(())
 }
 
 /// Tests ranges with an excluded end and no start.
-fn open_before(alloc: Global, rope: &Rope, end: usize) -> Result<(), Failure> {
+fn expect_open_before(alloc: Global, rope: &Rope, end: usize) -> Result<(), Failure> {
     let told = Told {
         start: None,
         end: Some(end),
     };
-    removes(alloc, ..end, told)?;
-    both_cut!(rope, ..end, told);
+    expect_range_removed(alloc, ..end, told)?;
+    expect_both_cut!(rope, ..end, told);
     Ok(())
 }
 
 /// Tests ranges with a last index and no start.
-fn up_to(alloc: Global, rope: &Rope, end: usize) -> Result<(), Failure> {
+fn expect_up_to(alloc: Global, rope: &Rope, end: usize) -> Result<(), Failure> {
     let told = Told {
         start: None,
-        end: Some(behind(end)),
+        end: Some(after(end)),
     };
-    removes(alloc, ..=end, told)?;
-    both_cut!(rope, ..=end, told);
+    expect_range_removed(alloc, ..=end, told)?;
+    expect_both_cut!(rope, ..=end, told);
     Ok(())
 }
 
 /// Tests the range with no bound.
-fn open(alloc: Global, rope: &Rope) -> Result<(), Failure> {
+fn expect_open(alloc: Global, rope: &Rope) -> Result<(), Failure> {
     let told = Told {
         start: None,
         end: None,
     };
-    removes(alloc, .., told)?;
-    both_cut!(rope, .., told);
+    expect_range_removed(alloc, .., told)?;
+    expect_both_cut!(rope, .., told);
     Ok(())
 }
 
-fn from_one_start(alloc: Global, rope: &Rope, start: usize) -> Result<(), Failure> {
+fn expect_from_one_start(alloc: Global, rope: &Rope, start: usize) -> Result<(), Failure> {
     for end in &BOUNDS {
         within(
             format_args!("{start}..{end}"),
-            half_open(alloc, rope, start, *end),
+            expect_half_open(alloc, rope, start, *end),
         )?;
         within(
             format_args!("{start}..={end}"),
-            closed(alloc, rope, start, *end),
+            expect_closed(alloc, rope, start, *end),
         )?;
     }
     Ok(())
 }
 
-fn from_each_start(alloc: Global, rope: &Rope) -> Result<(), Failure> {
+fn expect_from_each_start(alloc: Global, rope: &Rope) -> Result<(), Failure> {
     for start in &BOUNDS {
-        from_one_start(alloc, rope, *start)?;
+        expect_from_one_start(alloc, rope, *start)?;
     }
     Ok(())
 }
@@ -193,14 +194,23 @@ fn from_each_start(alloc: Global, rope: &Rope) -> Result<(), Failure> {
 #[test]
 fn ranges_of_two_bounds_cut_or_are_refused(rt: HostRuntime) -> Result<(), Failure> {
     let rope = Rope::from_str(rt.alloc(), TEXT)?;
-    from_each_start(rt.alloc(), &rope)
+    expect_from_each_start(rt.alloc(), &rope)
 }
 
-fn from_or_to_each_bound(alloc: Global, rope: &Rope) -> Result<(), Failure> {
+fn expect_from_or_to_each_bound(alloc: Global, rope: &Rope) -> Result<(), Failure> {
     for bound in &BOUNDS {
-        within(format_args!("{bound}.."), open_behind(alloc, rope, *bound))?;
-        within(format_args!("..{bound}"), open_before(alloc, rope, *bound))?;
-        within(format_args!("..={bound}"), up_to(alloc, rope, *bound))?;
+        within(
+            format_args!("{bound}.."),
+            expect_open_after(alloc, rope, *bound),
+        )?;
+        within(
+            format_args!("..{bound}"),
+            expect_open_before(alloc, rope, *bound),
+        )?;
+        within(
+            format_args!("..={bound}"),
+            expect_up_to(alloc, rope, *bound),
+        )?;
     }
     Ok(())
 }
@@ -208,8 +218,8 @@ fn from_or_to_each_bound(alloc: Global, rope: &Rope) -> Result<(), Failure> {
 #[test]
 fn ranges_of_one_bound_or_none_cut_or_are_refused(rt: HostRuntime) -> Result<(), Failure> {
     let rope = Rope::from_str(rt.alloc(), TEXT)?;
-    open(rt.alloc(), &rope)?;
-    from_or_to_each_bound(rt.alloc(), &rope)
+    expect_open(rt.alloc(), &rope)?;
+    expect_from_or_to_each_bound(rt.alloc(), &rope)
 }
 
 /// Fails unless a range within the text is valid by its excluded end, and not by a last index that

@@ -12,7 +12,7 @@ const REFUSALS: [Option<Error>; 4] = [
 ];
 
 /// Fails unless the ranges of the bytes of `é` have these errors.
-macro_rules! refuses {
+macro_rules! expect_refused {
     ($text:ident) => {{
         let refused = [
             $text.try_byte_slice(1..1).err(),
@@ -25,25 +25,25 @@ macro_rules! refuses {
     }};
 }
 
-fn refuses_bytes(rope: &Rope) -> Result<(), Failure> {
-    refuses!(rope);
+fn expect_bytes_refused(rope: &Rope) -> Result<(), Failure> {
+    expect_refused!(rope);
     Ok(())
 }
 
 #[test]
 fn ranges_within_a_character_of_a_rope_are_refused(rt: HostRuntime) -> Result<(), Failure> {
     let rope = Rope::from_str(rt.alloc(), "é")?;
-    refuses_bytes(&rope)
+    expect_bytes_refused(&rope)
 }
 
 #[test]
 fn ranges_within_a_character_of_a_slice_are_refused() -> Result<(), Failure> {
     let slice = RopeSlice::from("é");
-    refuses!(slice);
+    expect_refused!(slice);
     Ok(())
 }
 
-fn refuses_chars(rope: &Rope, slice: RopeSlice<'_>) -> Result<(), Failure> {
+fn expect_chars_refused(rope: &Rope, slice: RopeSlice<'_>) -> Result<(), Failure> {
     let are_none = [
         rope.get_slice(2..1).is_none(),
         slice.get_slice(2..1).is_none(),
@@ -61,5 +61,5 @@ fn refuses_chars(rope: &Rope, slice: RopeSlice<'_>) -> Result<(), Failure> {
 #[test]
 fn ranges_of_characters_past_the_end_are_refused(rt: HostRuntime) -> Result<(), Failure> {
     let rope = Rope::from_str(rt.alloc(), "éa")?;
-    refuses_chars(&rope, RopeSlice::from("éa"))
+    expect_chars_refused(&rope, RopeSlice::from("éa"))
 }

@@ -1,6 +1,6 @@
 //! Random walks of cursors over random ropes, slices and plain texts, against plain lists of their
 //! items.
-use crate::compare::compare_whole;
+use crate::compare::expect_whole;
 use crate::random_slices::{edited, random_range, slice_of};
 use rope_plain::compare::SETS;
 use rope_plain::failure::{Failure, within};
@@ -9,6 +9,7 @@ use rope_plain::pair::Pair;
 use rope_plain::plain_cursor::PlainCursor;
 use rope_plain::plain_slice::PlainSlice;
 use rope_plain::plain_text::{char_to_byte, char_to_line, line_to_char};
+use rope_plain::sums::plus;
 use rope_plain::texts::{chars_of, expect_chars, random_text};
 use rope_plain::walker::{Item, Walker};
 use rope_plain::{same, some};
@@ -69,7 +70,7 @@ impl<'p> Items<'p> {
         let mut start: usize = 0;
         for end in &self.ends {
             if *end <= char_idx {
-                index = index.saturating_add(1);
+                index = plus(index, 1);
                 start = *end;
             }
         }
@@ -90,10 +91,10 @@ impl<'p> Items<'p> {
 
     /// Fails unless this is the line with that index.
     fn expect_line(&self, line: &RopeSlice<'_>, index: usize) -> Result<(), Failure> {
-        let next = index.saturating_add(1);
+        let next = plus(index, 1);
         let start = line_to_char(self.plain.text, index, self.plain.breaks);
         let end = line_to_char(self.plain.text, next, self.plain.breaks);
-        compare_whole(line, &self.plain.part(start, end))
+        expect_whole(line, &self.plain.part(start, end))
     }
 
     /// Fails unless this is the item with that index.
@@ -113,7 +114,7 @@ impl<'p> Items<'p> {
     }
 
     /// Fails unless a step of the cursor and one of the model returned the same.
-    fn agree(&self, item: Option<Item<'_>>, index: Option<usize>) -> Result<(), Failure> {
+    fn expect_step(&self, item: Option<Item<'_>>, index: Option<usize>) -> Result<(), Failure> {
         match (item, index) {
             (Some(item), Some(index)) => self.expect_item(item, index),
             (None, None) => Ok(()),
@@ -125,7 +126,7 @@ impl<'p> Items<'p> {
 
 /// Fails unless a random step of a cursor and of its model return the same, with the same number of
 /// items left.
-fn steps_agree<'a, W: Walker<'a>>(
+fn expect_random_step<'a, W: Walker<'a>>(
     numbers: &mut Numbers,
     walker: &mut W,
     plain: &mut PlainCursor,
@@ -137,10 +138,10 @@ fn steps_agree<'a, W: Walker<'a>>(
             plain.reverse();
         }
         1 | 2 | 3 => {
-            within("prev", items.agree(walker.back(), plain.prev()))?;
+            within("prev", items.expect_step(walker.back(), plain.prev()))?;
         }
         _ => {
-            within("next", items.agree(walker.ahead(), plain.next()))?;
+            within("next", items.expect_step(walker.ahead(), plain.next()))?;
         }
     }
     if let Some(count) = walker.left_over() {
@@ -160,13 +161,13 @@ fn expect_walk<'a, W: Walker<'a>>(
     for step in 0..STEPS {
         within(
             format_args!("step {step}"),
-            steps_agree(numbers, walker, &mut plain, items),
+            expect_random_step(numbers, walker, &mut plain, items),
         )?;
     }
     Ok(())
 }
 
-fn walks_bytes(
+fn expect_walk_over_bytes(
     numbers: &mut Numbers,
     slice: &RopeSlice<'_>,
     items: &Items<'_>,
@@ -178,7 +179,7 @@ fn walks_bytes(
     expect_walk(numbers, &mut cursor, partner, items)
 }
 
-fn walks_chars(
+fn expect_walk_over_chars(
     numbers: &mut Numbers,
     slice: &RopeSlice<'_>,
     items: &Items<'_>,
@@ -189,7 +190,7 @@ fn walks_chars(
     expect_walk(numbers, &mut cursor, partner, items)
 }
 
-fn walks_lines(
+fn expect_walk_over_lines(
     numbers: &mut Numbers,
     slice: &RopeSlice<'_>,
     items: &Items<'_>,
@@ -201,7 +202,7 @@ fn walks_lines(
 }
 
 /// Tests a walk over chunks from the one that contains a character, or from the end.
-fn walks_chunks(
+fn expect_walk_over_chunks(
     numbers: &mut Numbers,
     slice: &RopeSlice<'_>,
     items: &Items<'_>,
@@ -219,7 +220,7 @@ fn walks_chunks(
 
 /// Fails unless a walk of each kind over a slice succeeds, each from a random position or from an
 /// end.
-fn walks_all(
+fn expect_walks(
     numbers: &mut Numbers,
     slice: &RopeSlice<'_>,
     items: &Items<'_>,
@@ -230,15 +231,15 @@ fn walks_all(
     let from_start = PlainCursor::at(items.ends.len(), 0);
     within(
         format_args!("bytes from character {char_idx}"),
-        walks_bytes(numbers, slice, items, char_idx),
+        expect_walk_over_bytes(numbers, slice, items, char_idx),
     )?;
     within(
         format_args!("chars from character {char_idx}"),
-        walks_chars(numbers, slice, items, char_idx),
+        expect_walk_over_chars(numbers, slice, items, char_idx),
     )?;
     within(
         format_args!("lines from line {line_idx}"),
-        walks_lines(numbers, slice, items, line_idx),
+        expect_walk_over_lines(numbers, slice, items, line_idx),
     )?;
     within(
         "chunks from the start",
@@ -246,13 +247,13 @@ fn walks_all(
     )?;
     within(
         format_args!("chunks from character {char_idx}"),
-        walks_chunks(numbers, slice, items, char_idx),
+        expect_walk_over_chunks(numbers, slice, items, char_idx),
     )?;
-    walks_chunks(numbers, slice, items, chars)
+    expect_walk_over_chunks(numbers, slice, items, chars)
 }
 
 /// Fails unless walks over a slice succeed, if there is one.
-fn walks_slice(
+fn expect_walks_over_slice(
     alloc: Global,
     numbers: &mut Numbers,
     slice: Option<RopeSlice<'_>>,
@@ -260,11 +261,11 @@ fn walks_slice(
 ) -> Result<(), Failure> {
     let items = Items::new(alloc, plain)?;
     let slice = some!(slice);
-    walks_all(numbers, &slice, &items)
+    expect_walks(numbers, &slice, &items)
 }
 
 /// Fails unless walks over three random slices of a rope succeed.
-fn walks_slices(
+fn expect_walks_over_slices(
     alloc: Global,
     numbers: &mut Numbers,
     pair: &Pair,
@@ -275,73 +276,81 @@ fn walks_slices(
         let slice = slice_of(numbers, pair, start, end);
         within(
             format_args!("slice {start}..{end}"),
-            walks_slice(alloc, numbers, slice, all.part(start, end)),
+            expect_walks_over_slice(alloc, numbers, slice, all.part(start, end)),
         )?;
     }
     Ok(())
 }
 
 /// Fails unless walks over three slices of a random rope succeed.
-fn walks_rope(alloc: Global, numbers: &mut Numbers, breaks: LineBreaks) -> Result<(), Failure> {
+fn expect_walks_over_rope(
+    alloc: Global,
+    numbers: &mut Numbers,
+    breaks: LineBreaks,
+) -> Result<(), Failure> {
     let pair = edited(alloc, numbers, breaks)?;
     let ends = pair.chunk_ends(alloc)?;
     let all = PlainSlice::whole(&pair.plain, &ends, breaks);
-    walks_slices(alloc, numbers, &pair, &all)
+    expect_walks_over_slices(alloc, numbers, &pair, &all)
 }
 
 /// Fails unless walks over a random plain text succeed.
-fn walks_str(alloc: Global, numbers: &mut Numbers, breaks: LineBreaks) -> Result<(), Failure> {
+fn expect_walks_over_text(
+    alloc: Global,
+    numbers: &mut Numbers,
+    breaks: LineBreaks,
+) -> Result<(), Failure> {
     let text = random_text(alloc, numbers, 300)?;
     let plain = chars_of(alloc, text.as_str())?;
     let ends = [plain.len()];
     let all = PlainSlice::whole(&plain, &ends, breaks);
     let slice = RopeSlice::from_str_with(text.as_str(), breaks);
-    walks_slice(alloc, numbers, Some(slice), all)
+    expect_walks_over_slice(alloc, numbers, Some(slice), all)
 }
 
 /// Fails unless walks over random ropes succeed, by each set of line breaks.
-fn walks_rope_by_each_set(alloc: Global, numbers: &mut Numbers) -> Result<(), Failure> {
+fn expect_walks_over_ropes(alloc: Global, numbers: &mut Numbers) -> Result<(), Failure> {
     for breaks in SETS {
         within(
             format_args!("line breaks {breaks:?}"),
-            walks_rope(alloc, numbers, breaks),
+            expect_walks_over_rope(alloc, numbers, breaks),
         )?;
     }
     Ok(())
 }
 
 #[test]
-fn cursors_over_slices_of_ropes_walk_as_places_do(rt: HostRuntime) -> Result<(), Failure> {
+fn cursors_over_slices_of_ropes_step_as_plain_ones(rt: HostRuntime) -> Result<(), Failure> {
     let seed = 0x2545_F491_4F6C_DD1D;
     let mut numbers = Numbers::new(seed);
     for round in 0..115usize {
         within(
             format_args!("seed {seed:#x}, round {round}"),
-            walks_rope_by_each_set(rt.alloc(), &mut numbers),
+            expect_walks_over_ropes(rt.alloc(), &mut numbers),
         )?;
     }
     Ok(())
 }
 
 /// Fails unless walks over random plain texts succeed, by each set of line breaks.
-fn walks_str_by_each_set(alloc: Global, numbers: &mut Numbers) -> Result<(), Failure> {
+fn expect_walks_over_texts(alloc: Global, numbers: &mut Numbers) -> Result<(), Failure> {
     for breaks in SETS {
         within(
             format_args!("line breaks {breaks:?}"),
-            walks_str(alloc, numbers, breaks),
+            expect_walks_over_text(alloc, numbers, breaks),
         )?;
     }
     Ok(())
 }
 
 #[test]
-fn cursors_over_plain_texts_walk_as_places_do(rt: HostRuntime) -> Result<(), Failure> {
+fn cursors_over_plain_texts_step_as_plain_ones(rt: HostRuntime) -> Result<(), Failure> {
     let seed = 0x8CB9_2BA7_2F3D_8DD7;
     let mut numbers = Numbers::new(seed);
     for round in 0..330usize {
         within(
             format_args!("seed {seed:#x}, round {round}"),
-            walks_str_by_each_set(rt.alloc(), &mut numbers),
+            expect_walks_over_texts(rt.alloc(), &mut numbers),
         )?;
     }
     Ok(())

@@ -1,5 +1,5 @@
 //! Commands on many ropes, their replies, and the line language.
-ghost use Rattle.std.specs.Prelude.{◌≡◌, ◌++◌, ◌∷◌, [], List, codes, length, IfOk, Some};
+ghost use Rattle.std.specs.Prelude.{◌≡◌, ◌++◌, ◌∷◌, [], List, codes, length, IfOk, OnErr, Some};
 ghost use Rattle.std.specs.Str.{chars};
 ghost use Rattle.std.specs.String.{string_bytes};
 ghost use Rattle.rope_text.specs.Content.{Content};
@@ -10,10 +10,10 @@ ghost use Rattle.rope_text.specs.Text.{byte_len, utf16_len};
 ghost use Rattle.rope_text.specs.Position.{char_to_column, position_error, position_to_char};
 ghost use Rattle.rope_script.specs.Ask.{Answers, IsChunkReply, refusal_or};
 ghost use Rattle.rope_script.specs.Step.{Asks, Copies, Cuts, Inserts, Joins, Removes, RunsKeepRopes, Step};
-ghost use Rattle.rope_language.specs.EndedText.{ended_text};
+ghost use Rattle.rope_protocol.specs.EndedText.{ended_text};
 ghost use Rattle.std.specs.Fmt.{decimal};
 
-use rope_language::{Ended, serve};
+use rope_protocol::{Ended, serve};
 use rope_script::{At, Command, Conv, Item, Move, Part, Query, Reply, Session, Unit, laws};
 use ropey::{Error, LineBreaks};
 use std::alloc::{AllocError, Global};
@@ -261,6 +261,13 @@ pub fn position_of(reply: &Reply) -> Option<(usize, usize)>
 pub fn run(alloc: Global, commands: &[Command], replies: &mut Vec<Reply>) -> Result<(), Error> {
     let mut session: Session = Session::new(alloc);
     session.run(commands, replies)
+}
+
+/// Runs one command on a session.
+pub fn step(session: &mut Session, command: &Command) -> Result<Reply, Error>
+    ensures { OnErr result (session.new ≡ session.old) }
+{
+    session.step(command)
 }
 
 /// Holds by the law of runs.

@@ -1,4 +1,4 @@
-//! Every public item of `ropey`, `rope_position`, `rope_script`, `rope_language`, `rope_changes`,
+//! Every public item of `ropey`, `rope_position`, `rope_script`, `rope_protocol`, `rope_changes`,
 //! `rope_history`, `rope_documents` and `rope_files`, used under its name, with its arguments in
 //! their order and with its types.
 //!

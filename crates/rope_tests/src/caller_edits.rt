@@ -1,5 +1,5 @@
 //! The callers that make or change a text.
-use crate::ropes::{asks, asks_made, becomes};
+use crate::ropes::{with_changed, with_made, with_rope};
 use rope_callers::copies::copy_without;
 use rope_callers::edits::titled;
 use rope_callers::first_edit::with_flowers;
@@ -16,21 +16,21 @@ use std::alloc::Global;
 #[test]
 fn a_title_stands_before_its_text(rt: HostRuntime) -> Result<(), Failure> {
     let made = titled(rt.alloc(), "one\ntwo\n", "list\n");
-    asks_made(made, |rope| {
+    with_made(made, |rope| {
         holds!(rope.eq_str("list\none\ntwo\n"));
         Ok(())
     })
 }
 
 #[test]
-fn a_line_stands_in_anothers_place(rt: HostRuntime) -> Result<(), Failure> {
-    asks_made(with_flowers(rt.alloc()), |rope| {
+fn a_line_is_replaced_by_another(rt: HostRuntime) -> Result<(), Failure> {
+    with_made(with_flowers(rt.alloc()), |rope| {
         holds!(rope.eq_str("one\nflowers\nthree\n"));
         Ok(())
     })
 }
 
-fn edits_inside(rope: &mut Rope) -> Result<(), Failure> {
+fn expect_edits_inside(rope: &mut Rope) -> Result<(), Failure> {
     put_at_end(rope, "c\nd")?;
     holds!(rope.eq_str("ä\nb\nc\nd"));
     holds!(1 <= rope.len_bytes());
@@ -39,7 +39,7 @@ fn edits_inside(rope: &mut Rope) -> Result<(), Failure> {
     Ok(())
 }
 
-fn removes_lines(rope: &mut Rope) -> Result<(), Failure> {
+fn expect_lines_removed(rope: &mut Rope) -> Result<(), Failure> {
     holds!(6 <= rope.len_chars());
     same!(line_start_of(rope, 6), 5);
     same!(remove_line(rope, 1), Ok(true));
@@ -48,19 +48,19 @@ fn removes_lines(rope: &mut Rope) -> Result<(), Failure> {
     Ok(())
 }
 
-fn edits_and_removes(rope: &mut Rope) -> Result<(), Failure> {
-    edits_inside(rope)?;
-    removes_lines(rope)
+fn expect_edits_and_removals(rope: &mut Rope) -> Result<(), Failure> {
+    expect_edits_inside(rope)?;
+    expect_lines_removed(rope)
 }
 
 #[test]
-fn edits_go_to_places_that_are_inside(rt: HostRuntime) -> Result<(), Failure> {
-    becomes(rt.alloc(), "ä\nb\n", edits_and_removes)
+fn edits_are_made_at_indices_inside_the_text(rt: HostRuntime) -> Result<(), Failure> {
+    with_changed(rt.alloc(), "ä\nb\n", expect_edits_and_removals)
 }
 
 fn expect_a_copy(rope: &Rope) -> Result<(), Failure> {
     holds!(rope.len_chars() == 4);
-    asks_made(copy_without(rope, 1, 3), |copy| {
+    with_made(copy_without(rope, 1, 3), |copy| {
         holds!(copy.eq_str("ad"));
         Ok(())
     })?;
@@ -70,10 +70,10 @@ fn expect_a_copy(rope: &Rope) -> Result<(), Failure> {
 
 #[test]
 fn a_copy_lacks_the_part_and_the_rope_keeps_it(rt: HostRuntime) -> Result<(), Failure> {
-    asks(rt.alloc(), "abcd", expect_a_copy)
+    with_rope(rt.alloc(), "abcd", expect_a_copy)
 }
 
-fn inserts_two(history: &mut History) -> Result<(), Failure> {
+fn expect_two_inserts(history: &mut History) -> Result<(), Failure> {
     history.insert(0, "a")?;
     holds!(history.text.len_chars() == 2);
     history.insert(2, "c")?;
@@ -81,7 +81,7 @@ fn inserts_two(history: &mut History) -> Result<(), Failure> {
     Ok(())
 }
 
-fn undoes_all(history: &mut History) -> Result<(), Failure> {
+fn expect_all_undone(history: &mut History) -> Result<(), Failure> {
     holds!(history.undo());
     holds!(history.text.eq_str("ab"));
     holds!(history.undo());
@@ -96,8 +96,8 @@ fn expect_undone(alloc: Global) -> Result<(), Failure> {
     let text = Rope::from_str(alloc, "b")?;
     let past = Vec::new(alloc);
     let mut history = History { text, past };
-    inserts_two(&mut history)?;
-    undoes_all(&mut history)
+    expect_two_inserts(&mut history)?;
+    expect_all_undone(&mut history)
 }
 
 #[test]
@@ -105,14 +105,14 @@ fn edits_are_undone_the_last_one_first(rt: HostRuntime) -> Result<(), Failure> {
     expect_undone(rt.alloc())
 }
 
-fn inserts_before(rope: &mut Rope) -> Result<(), Failure> {
+fn expect_inserts_before(rope: &mut Rope) -> Result<(), Failure> {
     same!(insert_before_char(rope, '=', " "), Ok(Some(1)));
     same!(insert_before_char(rope, 'x', " "), Ok(None));
     holds!(rope.eq_str("ä =b=c"));
     Ok(())
 }
 
-fn inserts_at_positions(rope: &mut Rope) -> Result<(), Failure> {
+fn expect_inserts_at_positions(rope: &mut Rope) -> Result<(), Failure> {
     let past = Position { line: 2, column: 0 };
     insert_at_position(rope, Position { line: 1, column: 2 }, "x")?;
     holds!(rope.eq_str("a\n𝔸xb"));
@@ -124,7 +124,7 @@ fn inserts_at_positions(rope: &mut Rope) -> Result<(), Failure> {
 }
 
 #[test]
-fn edits_go_to_places_that_are_sought(rt: HostRuntime) -> Result<(), Failure> {
-    becomes(rt.alloc(), "ä=b=c", inserts_before)?;
-    becomes(rt.alloc(), "a\n𝔸b", inserts_at_positions)
+fn edits_are_made_at_characters_and_positions_found(rt: HostRuntime) -> Result<(), Failure> {
+    with_changed(rt.alloc(), "ä=b=c", expect_inserts_before)?;
+    with_changed(rt.alloc(), "a\n𝔸b", expect_inserts_at_positions)
 }

@@ -1,10 +1,10 @@
 //! The callers that query, and the one that reads and writes.
-use crate::ropes::asks;
+use crate::ropes::with_rope;
+use rope_callers::checked::line_length;
 use rope_callers::files::{CopyError, copy_text};
 use rope_callers::lines::{all_fit, long_line_before};
 use rope_callers::positions::position_of_byte;
 use rope_callers::search::find_char;
-use rope_callers::twins::line_length;
 use rope_plain::failure::Failure;
 use rope_plain::{holds, same, some};
 use rope_position::Position;
@@ -39,7 +39,7 @@ fn expect_lines_both_ways(rope: &Rope) -> Result<(), Failure> {
 
 #[test]
 fn lines_are_read_forward_and_back(rt: HostRuntime) -> Result<(), Failure> {
-    asks(rt.alloc(), "one\nfour\nä\n", expect_lines_both_ways)
+    with_rope(rt.alloc(), "one\nfour\nä\n", expect_lines_both_ways)
 }
 
 fn expect_places(rope: &Rope) -> Result<(), Failure> {
@@ -56,7 +56,7 @@ fn expect_places(rope: &Rope) -> Result<(), Failure> {
 
 #[test]
 fn characters_and_positions_are_found(rt: HostRuntime) -> Result<(), Failure> {
-    asks(rt.alloc(), "a\n𝔸b", expect_places)
+    with_rope(rt.alloc(), "a\n𝔸b", expect_places)
 }
 
 fn expect_copied(alloc: Global, text: &[u8]) -> Result<(), Failure> {

@@ -1,7 +1,8 @@
 //! Equality and order, which depend on the text, not on its chunks.
-use crate::ropes::{asks, asks_by, asks_of_padded, becomes};
+use crate::ropes::{with_changed, with_padded, with_rope, with_rope_by};
 use rope_plain::failure::{Failure, within};
 use rope_plain::numbers::Numbers;
+use rope_plain::sums::plus;
 use rope_plain::texts::{padded, random_text, repeated};
 use rope_plain::{holds, same, some};
 use ropey::{LineBreaks, Rope, RopeSlice};
@@ -10,7 +11,7 @@ use std::cmp::Ordering;
 use std::hash::{FoldHasher, Hash, Hasher};
 
 /// Appends each character of the text.
-fn types(rope: &mut Rope, text: &str) -> Result<(), Failure> {
+fn type_text(rope: &mut Rope, text: &str) -> Result<(), Failure> {
     for c in text.chars() {
         let end = rope.len_chars();
         rope.insert_char(end, c)?;
@@ -54,7 +55,7 @@ fn expect_ordered_as_texts((a, b): (&Rope, &Rope), (s, t): (&str, &str)) -> Resu
 }
 
 /// Fails unless the ropes compare as the texts do.
-fn compare_as_texts(ropes: (&Rope, &Rope), texts: (&str, &str)) -> Result<(), Failure> {
+fn expect_compared_as_texts(ropes: (&Rope, &Rope), texts: (&str, &str)) -> Result<(), Failure> {
     expect_equal_as_texts(ropes, texts)?;
     expect_ordered_as_texts(ropes, texts)
 }
@@ -79,9 +80,9 @@ fn expect_ordered_as_numbers(
 const BY_BYTES: [&str; 4] = ["", "z", "é", "こ"];
 
 /// Fails unless a rope of the text with this number has that position in the order.
-fn expect_its_place(alloc: Global, left: &Rope, i: usize) -> Result<(), Failure> {
+fn expect_its_position(alloc: Global, left: &Rope, i: usize) -> Result<(), Failure> {
     for (k, text) in BY_BYTES.iter().enumerate() {
-        asks(
+        with_rope(
             alloc,
             text,
             |right| expect_ordered_as_numbers((left, i), (right, k)),
@@ -90,20 +91,20 @@ fn expect_its_place(alloc: Global, left: &Rope, i: usize) -> Result<(), Failure>
     Ok(())
 }
 
-fn expect_their_places(alloc: Global) -> Result<(), Failure> {
+fn expect_their_positions(alloc: Global) -> Result<(), Failure> {
     for (i, text) in BY_BYTES.iter().enumerate() {
-        asks(alloc, text, |left| expect_its_place(alloc, left, i))?;
+        with_rope(alloc, text, |left| expect_its_position(alloc, left, i))?;
     }
     Ok(())
 }
 
 #[test]
 fn ropes_are_ordered_by_bytes(rt: HostRuntime) -> Result<(), Failure> {
-    expect_their_places(rt.alloc())
+    expect_their_positions(rt.alloc())
 }
 
 /// Fails unless a slice of two chunks equals one chunk, `ab`.
-fn equals_one_chunk(two: &RopeSlice<'_>) -> Result<(), Failure> {
+fn expect_equal_to_one_chunk(two: &RopeSlice<'_>) -> Result<(), Failure> {
     let one = RopeSlice::from("ab");
     let are_equal = [one == *two, *two == one, two.eq_str("ab"), one.eq_str("ab")];
     same!(are_equal, [true; 4]);
@@ -113,7 +114,7 @@ fn equals_one_chunk(two: &RopeSlice<'_>) -> Result<(), Failure> {
 }
 
 /// Fails unless a slice whose text is `ab` is unequal to other texts, and ordered as the texts are.
-fn differs(two: &RopeSlice<'_>) -> Result<(), Failure> {
+fn expect_unequal_to_others(two: &RopeSlice<'_>) -> Result<(), Failure> {
     for text in ["", "a", "aa", "ac", "abb", "bb"] {
         let other = RopeSlice::from(text);
         let order = "ab".cmp(text);
@@ -125,13 +126,13 @@ fn differs(two: &RopeSlice<'_>) -> Result<(), Failure> {
 
 fn expect_two_chunks(rope: &Rope) -> Result<(), Failure> {
     let two = some!(rope.get_slice(983..985));
-    equals_one_chunk(&two)?;
-    differs(&two)
+    expect_equal_to_one_chunk(&two)?;
+    expect_unequal_to_others(&two)
 }
 
 #[test]
 fn a_part_of_two_chunks_compares_as_its_text(rt: HostRuntime) -> Result<(), Failure> {
-    asks_of_padded(rt.alloc(), 985, "b", expect_two_chunks)
+    with_padded(rt.alloc(), 985, "b", expect_two_chunks)
 }
 
 /// A rope, one that is less and one that is more.
@@ -169,49 +170,49 @@ fn expect_its_order(
     Ok(())
 }
 
-fn part_has_its_order(
+fn expect_order_of_part(
     rope: &Rope,
     shift: usize,
     text: &str,
     ropes: Three<'_>,
 ) -> Result<(), Failure> {
-    let part = some!(rope.get_slice(shift..shift.saturating_add(2_500)));
+    let part = some!(rope.get_slice(shift..plus(shift, 2_500)));
     expect_its_order(&part, text, ropes)
 }
 
 /// Fails unless the order holds after a growing number of letters, with seams elsewhere each time.
-fn keeps_its_order(longer: &mut Rope, text: &str, ropes: Three<'_>) -> Result<(), Failure> {
+fn expect_order_kept(longer: &mut Rope, text: &str, ropes: Three<'_>) -> Result<(), Failure> {
     for shift in 1..=984 {
         longer.try_insert_char(0, 'a')?;
         longer.shrink_to_fit()?;
         within(
             format_args!("shift {shift}"),
-            part_has_its_order(longer, shift, text, ropes),
+            expect_order_of_part(longer, shift, text, ropes),
         )?;
     }
     Ok(())
 }
 
-fn keep_their_order(alloc: Global, ropes: Three<'_>) -> Result<(), Failure> {
+fn expect_order_after_letters(alloc: Global, ropes: Three<'_>) -> Result<(), Failure> {
     let text = padded(alloc, "", 2_500, "b")?;
-    becomes(
+    with_changed(
         alloc,
         text.as_str(),
-        |longer| keeps_its_order(longer, text.as_str(), ropes),
+        |longer| expect_order_kept(longer, text.as_str(), ropes),
     )
 }
 
 fn expect_less_with_seams(alloc: Global, rope: &Rope, less: &Rope) -> Result<(), Failure> {
-    asks_of_padded(
+    with_padded(
         alloc,
         2_501,
         "bc",
-        |more| keep_their_order(alloc, (rope, less, more)),
+        |more| expect_order_after_letters(alloc, (rope, less, more)),
     )
 }
 
-fn compares_with_seams(alloc: Global, rope: &Rope) -> Result<(), Failure> {
-    asks_of_padded(
+fn expect_order_with_seams(alloc: Global, rope: &Rope) -> Result<(), Failure> {
+    with_padded(
         alloc,
         2_500,
         "a",
@@ -220,9 +221,14 @@ fn compares_with_seams(alloc: Global, rope: &Rope) -> Result<(), Failure> {
 }
 
 #[test]
-fn order_does_not_change_with_where_seams_lie(rt: HostRuntime) -> Result<(), Failure> {
+fn order_does_not_depend_on_chunk_boundaries(rt: HostRuntime) -> Result<(), Failure> {
     let alloc = rt.alloc();
-    asks_of_padded(alloc, 2_500, "b", |rope| compares_with_seams(alloc, rope))
+    with_padded(
+        alloc,
+        2_500,
+        "b",
+        |rope| expect_order_with_seams(alloc, rope),
+    )
 }
 
 fn expect_equal_by_texts(lf: &Rope, unicode: &Rope) -> Result<(), Failure> {
@@ -237,8 +243,8 @@ fn expect_equal_by_texts(lf: &Rope, unicode: &Rope) -> Result<(), Failure> {
     Ok(())
 }
 
-fn equals_by_text(alloc: Global, lf: &Rope) -> Result<(), Failure> {
-    asks(
+fn expect_equal_to_unicode(alloc: Global, lf: &Rope) -> Result<(), Failure> {
+    with_rope(
         alloc,
         "a\r\nb",
         |unicode| expect_equal_by_texts(lf, unicode),
@@ -248,17 +254,17 @@ fn equals_by_text(alloc: Global, lf: &Rope) -> Result<(), Failure> {
 #[test]
 fn ropes_of_two_sets_are_equal_by_their_texts(rt: HostRuntime) -> Result<(), Failure> {
     let alloc = rt.alloc();
-    asks_by(
+    with_rope_by(
         alloc,
         "a\r\nb",
         LineBreaks::Lf,
-        |lf| equals_by_text(alloc, lf),
+        |lf| expect_equal_to_unicode(alloc, lf),
     )
 }
 
 /// Fails unless the longer text alone is that of a rope of it.
 fn expect_text_alone(alloc: Global, long: &str, short: &str) -> Result<(), Failure> {
-    asks(alloc, long, |rope| {
+    with_rope(alloc, long, |rope| {
         holds!(rope.eq_str(long));
         holds!(!rope.eq_str(short));
         Ok(())
@@ -276,50 +282,55 @@ fn expect_text_of_thousand(alloc: Global) -> Result<(), Failure> {
 }
 
 #[test]
-fn a_text_is_not_equal_to_its_front(rt: HostRuntime) -> Result<(), Failure> {
+fn a_text_is_not_equal_to_its_prefix(rt: HostRuntime) -> Result<(), Failure> {
     expect_text_of_thousand(rt.alloc())
 }
 
 /// Fails unless a rope compares with one that was changed as their texts do.
-fn compares_with_changed(
+fn expect_compared_with_changed(
     alloc: Global,
     (rope, text): (&Rope, &str),
     other: &Rope,
 ) -> Result<(), Failure> {
     let changed = other.try_to_string(alloc)?;
-    compare_as_texts((rope, other), (text, changed.as_str()))
+    expect_compared_as_texts((rope, other), (text, changed.as_str()))
 }
 
 /// Fails unless another rope of the text, typed character by character, compares so, before and
 /// after an insert.
-fn compares_with_typed(
+fn expect_compared_with_typed(
     alloc: Global,
     other: &mut Rope,
     (rope, text): (&Rope, &str),
     numbers: &mut Numbers,
 ) -> Result<(), Failure> {
-    types(other, text)?;
-    compare_as_texts((rope, other), (text, text))?;
+    type_text(other, text)?;
+    expect_compared_as_texts((rope, other), (text, text))?;
     let place = numbers.up_to(other.len_chars());
     other.try_insert_char(place, 'é')?;
-    compares_with_changed(alloc, (rope, text), other)
+    expect_compared_with_changed(alloc, (rope, text), other)
 }
 
 /// Fails unless a rope of the text compares so with one that starts empty.
-fn compares(alloc: Global, rope: &Rope, text: &str, numbers: &mut Numbers) -> Result<(), Failure> {
-    becomes(
+fn expect_compared(
+    alloc: Global,
+    rope: &Rope,
+    text: &str,
+    numbers: &mut Numbers,
+) -> Result<(), Failure> {
+    with_changed(
         alloc,
         "",
-        |other| compares_with_typed(alloc, other, (rope, text), numbers),
+        |other| expect_compared_with_typed(alloc, other, (rope, text), numbers),
     )
 }
 
-fn compares_of_text(alloc: Global, numbers: &mut Numbers) -> Result<(), Failure> {
+fn expect_random_compared(alloc: Global, numbers: &mut Numbers) -> Result<(), Failure> {
     let text = random_text(alloc, numbers, 3_000)?;
-    asks(
+    with_rope(
         alloc,
         text.as_str(),
-        |rope| compares(alloc, rope, text.as_str(), numbers),
+        |rope| expect_compared(alloc, rope, text.as_str(), numbers),
     )
 }
 
@@ -332,7 +343,7 @@ fn random_ropes_compare_as_their_texts(rt: HostRuntime) -> Result<(), Failure> {
     for round in 0..6 {
         within(
             format_args!("seed {SEED:#x}, round {round}"),
-            compares_of_text(rt.alloc(), &mut numbers),
+            expect_random_compared(rt.alloc(), &mut numbers),
         )?;
     }
     Ok(())

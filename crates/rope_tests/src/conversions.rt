@@ -1,5 +1,6 @@
 //! The counts and conversions of plain texts against the model.
 use rope_plain::failure::{Failure, within};
+use rope_plain::sums::plus;
 use rope_plain::{plain_text, same};
 use rope_text::{LineBreaks, TextInfo, str_utils};
 use std::alloc::Global;
@@ -47,7 +48,7 @@ impl Sample {
 
 /// Fails unless the whole text has its characters, code units and surrogate pairs.
 fn expect_counts(text: &str, chars: &[char]) -> Result<(), Failure> {
-    let answers = [
+    let found = [
         str_utils::count_chars(text),
         str_utils::count_utf16(text),
         str_utils::count_surrogates(text),
@@ -57,15 +58,15 @@ fn expect_counts(text: &str, chars: &[char]) -> Result<(), Failure> {
         plain_text::char_to_utf16(chars, chars.len()),
         plain_text::surrogates_before(chars, chars.len()),
     ];
-    same!(answers, expected);
+    same!(found, expected);
     Ok(())
 }
 
 /// Fails unless a byte and a code unit convert to their characters.
-fn belong(text: &str, chars: &[char], byte: usize, unit: usize) -> Result<(), Failure> {
+fn expect_chars_at(text: &str, chars: &[char], byte: usize, unit: usize) -> Result<(), Failure> {
     let place = plain_text::byte_to_char(chars, byte);
     let pairs = TextInfo::from_str(text, LineBreaks::Lf).utf16_surrogates;
-    let answers = [
+    let found = [
         str_utils::byte_to_char_idx(text, byte),
         str_utils::byte_to_surrogates_of(text, pairs, byte),
         str_utils::utf16_to_char_idx(text, unit),
@@ -75,7 +76,7 @@ fn belong(text: &str, chars: &[char], byte: usize, unit: usize) -> Result<(), Fa
         plain_text::surrogates_before(chars, place),
         plain_text::utf16_to_char(chars, unit),
     ];
-    same!(answers, expected);
+    same!(found, expected);
     Ok(())
 }
 
@@ -84,13 +85,13 @@ fn belong(text: &str, chars: &[char], byte: usize, unit: usize) -> Result<(), Fa
 fn expect_place(text: &str, chars: &[char], i: usize) -> Result<(), Failure> {
     let byte = plain_text::char_to_byte(chars, i);
     let unit = plain_text::char_to_utf16(chars, i);
-    let answers = [
+    let found = [
         str_utils::char_to_byte_idx(text, i),
         str_utils::char_to_utf16_idx(text, i),
     ];
-    same!(answers, [byte, unit]);
-    belong(text, chars, byte, unit)?;
-    belong(text, chars, byte.saturating_add(1), unit.saturating_add(1))
+    same!(found, [byte, unit]);
+    expect_chars_at(text, chars, byte, unit)?;
+    expect_chars_at(text, chars, plus(byte, 1), plus(unit, 1))
 }
 
 /// Fails unless the conversions that don't depend on the set of line breaks are right, from the
@@ -103,42 +104,42 @@ fn expect_places(text: &str, chars: &[char], from: usize) -> Result<(), Failure>
 }
 
 /// Fails unless a character and its byte are on their line.
-fn lies_on_line(text: &str, chars: &[char], i: usize, breaks: LineBreaks) -> Result<(), Failure> {
+fn expect_line(text: &str, chars: &[char], i: usize, breaks: LineBreaks) -> Result<(), Failure> {
     let byte = plain_text::char_to_byte(chars, i);
     let line = plain_text::char_to_line(chars, i, breaks);
-    let answers = [
+    let found = [
         str_utils::char_to_line_with(text, i, breaks),
         str_utils::byte_to_line_with(text, byte, breaks),
     ];
-    same!(answers, [line, line]);
+    same!(found, [line, line]);
     Ok(())
 }
 
 /// Fails unless a line starts at its character and its byte.
-fn starts_there(
+fn expect_start(
     text: &str,
     chars: &[char],
     line: usize,
     breaks: LineBreaks,
 ) -> Result<(), Failure> {
     let start = plain_text::line_to_char(chars, line, breaks);
-    let answers = [
+    let found = [
         str_utils::line_to_char_with(text, line, breaks),
         str_utils::line_to_byte_with(text, line, breaks),
     ];
-    same!(answers, [start, plain_text::char_to_byte(chars, start)]);
+    same!(found, [start, plain_text::char_to_byte(chars, start)]);
     Ok(())
 }
 
 /// Fails unless all characters from `from` on are on their lines.
-fn lie_on_lines(
+fn expect_lines_from(
     text: &str,
     chars: &[char],
     from: usize,
     breaks: LineBreaks,
 ) -> Result<(), Failure> {
     for i in from..=chars.len() {
-        within(format_args!("i {i}"), lies_on_line(text, chars, i, breaks))?;
+        within(format_args!("i {i}"), expect_line(text, chars, i, breaks))?;
     }
     Ok(())
 }
@@ -146,10 +147,10 @@ fn lie_on_lines(
 /// Fails unless all lines start where they should, and two past the last.
 fn expect_starts(text: &str, chars: &[char], breaks: LineBreaks) -> Result<(), Failure> {
     let break_count = plain_text::char_to_line(chars, chars.len(), breaks);
-    for line in 0..=break_count.saturating_add(2) {
+    for line in 0..=plus(break_count, 2) {
         within(
             format_args!("line {line}"),
-            starts_there(text, chars, line, breaks),
+            expect_start(text, chars, line, breaks),
         )?;
     }
     same!(str_utils::count_breaks(text, breaks), break_count);
@@ -159,7 +160,7 @@ fn expect_starts(text: &str, chars: &[char], breaks: LineBreaks) -> Result<(), F
 /// Fails unless lines are right, by each set of line breaks.
 fn expect_lines(text: &str, chars: &[char], from: usize) -> Result<(), Failure> {
     for breaks in [LineBreaks::Lf, LineBreaks::CrLf, LineBreaks::Unicode] {
-        lie_on_lines(text, chars, from, breaks)?;
+        expect_lines_from(text, chars, from, breaks)?;
         expect_starts(text, chars, breaks)?;
     }
     Ok(())
@@ -221,7 +222,7 @@ fn every_text_across_a_block_is_counted(rt: HostRuntime) -> Result<(), Failure> 
 }
 
 #[test]
-fn every_text_behind_a_block_is_counted(rt: HostRuntime) -> Result<(), Failure> {
+fn every_text_after_a_block_is_counted(rt: HostRuntime) -> Result<(), Failure> {
     for padding in 31..34 {
         within(
             format_args!("padding {padding}"),

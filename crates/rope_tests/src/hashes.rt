@@ -2,9 +2,10 @@
 ghost use Rattle.std.specs.Prelude.{◌+◌, ◌*◌, ◌%◌, ◌^◌, length};
 ghost use Rattle.rope_tests.specs.Writes.{first_or};
 
-use crate::ropes::{asks_made, asks_of_many, becomes};
+use crate::ropes::{with_changed, with_made, with_repeated};
 use rope_plain::failure::Failure;
 use rope_plain::same;
+use rope_plain::sums::plus;
 use ropey::{Rope, RopeSlice};
 use std::alloc::Global;
 use std::cmp::Ordering;
@@ -57,11 +58,11 @@ fn expect_hashed_as_empty(rope: &Rope) -> Result<(), Failure> {
 }
 
 #[test]
-fn the_empty_rope_writes_its_end_alone(rt: HostRuntime) -> Result<(), Failure> {
-    asks_made(Rope::new(rt.alloc()), expect_hashed_as_empty)
+fn the_empty_rope_writes_only_its_end(rt: HostRuntime) -> Result<(), Failure> {
+    with_made(Rope::new(rt.alloc()), expect_hashed_as_empty)
 }
 
-fn types_letters(rope: &mut Rope) -> Result<(), Failure> {
+fn type_letters(rope: &mut Rope) -> Result<(), Failure> {
     for i in 0..257 {
         rope.try_insert_char(i, 'a')?;
     }
@@ -81,7 +82,7 @@ fn expect_all_hashed_alike(made: &Rope, typed: &Rope) -> Result<(), Failure> {
 /// Fails unless a typed text is hashed as one that was made at once, and without its first letter
 /// as one block.
 fn expect_hashed_alike(made: &Rope, typed: &mut Rope) -> Result<(), Failure> {
-    types_letters(typed)?;
+    type_letters(typed)?;
     expect_all_hashed_alike(made, typed)?;
     typed.try_remove(..1)?;
     same!(writes_of(typed), (256_001, 0xff));
@@ -89,13 +90,13 @@ fn expect_hashed_alike(made: &Rope, typed: &mut Rope) -> Result<(), Failure> {
 }
 
 fn expect_hashed_as_typed(alloc: Global, made: &Rope) -> Result<(), Failure> {
-    becomes(alloc, "", |typed| expect_hashed_alike(made, typed))
+    with_changed(alloc, "", |typed| expect_hashed_alike(made, typed))
 }
 
 #[test]
-fn a_hash_is_written_in_blocks_however_the_rope_is_cut(rt: HostRuntime) -> Result<(), Failure> {
+fn a_hash_is_written_in_blocks_whatever_the_chunks(rt: HostRuntime) -> Result<(), Failure> {
     let alloc = rt.alloc();
-    asks_of_many(alloc, "a", 257, |made| expect_hashed_as_typed(alloc, made))
+    with_repeated(alloc, "a", 257, |made| expect_hashed_as_typed(alloc, made))
 }
 
 /// Returns the writes of a slice, if there is one.
@@ -106,15 +107,15 @@ fn writes_of_slice(slice: Option<RopeSlice<'_>>) -> Option<(u64, u8)> {
     }
 }
 
-fn hashes_slices(rope: &Rope) -> Result<(), Failure> {
+fn expect_slices_hashed_alike(rope: &Rope) -> Result<(), Failure> {
     for start in 0..1_000usize {
-        let slice = rope.get_slice(start..start.saturating_add(600));
+        let slice = rope.get_slice(start..plus(start, 600));
         same!(writes_of_slice(slice), Some((256_256_088_001, 0xff)));
     }
     Ok(())
 }
 
 #[test]
-fn a_slice_is_hashed_alike_wherever_its_seams_lie(rt: HostRuntime) -> Result<(), Failure> {
-    asks_of_many(rt.alloc(), "a", 2_600, hashes_slices)
+fn a_slice_is_hashed_alike_whatever_its_chunks(rt: HostRuntime) -> Result<(), Failure> {
+    with_repeated(rt.alloc(), "a", 2_600, expect_slices_hashed_alike)
 }

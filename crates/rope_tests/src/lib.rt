@@ -6,8 +6,8 @@
 //!   of nine;
 //! - the `Debug` texts, and that the proved callers of docs/CALLING.md run.
 //!
-//! The proofs show these too, and they are run to test the compiler: counts and conversions at each
-//! position of a block, UTF-8 at each position, seams of builders, order and equality.
+//! The proofs show these too, and they are run to test the compiler: counts and UTF-8 at each
+//! position of a block, pieces of builders, order and equality.
 //!
 //! Ropes are made in `ropes`, and passed by reference. Each return of a function that owns a rope
 //! is proved to drop it, which takes long.
@@ -35,8 +35,6 @@ mod hashes;
 mod lookups;
 #[cfg(test)]
 mod makers;
-#[cfg(test)]
-mod nearer_end;
 #[cfg(test)]
 mod node_text;
 #[cfg(test)]

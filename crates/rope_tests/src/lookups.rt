@@ -1,15 +1,12 @@
 //! Conversions and lookups of ropes, against rows worked by hand.
-use crate::ropes::{asks, asks_made};
+use crate::ropes::{with_made, with_rope};
 use rope_plain::compare::lens;
 use rope_plain::failure::{Failure, within};
+use rope_plain::samples::{BREAK_LINES, GREETING};
 use rope_plain::texts::BREAKS;
 use rope_plain::{holds, same};
 use ropey::{Error, Rope};
 use std::alloc::Global;
-
-/// Lines that end in CR LF, in 209 bytes.
-const PAIRS: &str =
-    "\r\nHello there!  How're you doing?  It's a fine day, isn't it?  Aren't you glad we're alive?\r\nこんにちは！元気ですか？日はいいですね。私たちが生きだって嬉しいではないか？\r\n";
 
 fn expect_empty(rope: &Rope) -> Result<(), Failure> {
     same!(lens(rope), [0, 0, 1, 0]);
@@ -36,8 +33,8 @@ fn expect_empty_to_its_end(rope: &Rope) -> Result<(), Failure> {
 
 #[test]
 fn an_empty_rope_has_nothing_past_its_end(rt: HostRuntime) -> Result<(), Failure> {
-    asks_made(Rope::new(rt.alloc()), expect_empty_to_its_end)?;
-    asks(rt.alloc(), "", expect_empty_to_its_end)
+    with_made(Rope::new(rt.alloc()), expect_empty_to_its_end)?;
+    with_rope(rt.alloc(), "", expect_empty_to_its_end)
 }
 
 /// Texts, and their numbers of bytes, characters, lines and code units.
@@ -45,7 +42,7 @@ const LENGTHS: [(&str, [usize; 4]); 5] = [
     ("", [0, 0, 1, 0]),
     ("a\r\nb", [4, 4, 2, 4]),
     (BREAKS, [48, 37, 9, 37]),
-    (PAIRS, [209, 133, 4, 133]),
+    (GREETING, [209, 133, 4, 133]),
     ("🐸", [4, 1, 1, 2]),
 ];
 
@@ -53,7 +50,7 @@ fn expect_lengths(alloc: Global) -> Result<(), Failure> {
     for (row, (text, expected)) in LENGTHS.iter().enumerate() {
         within(
             format_args!("row {row}"),
-            asks(alloc, text, |rope| {
+            with_rope(alloc, text, |rope| {
                 same!(lens(rope), *expected);
                 Ok(())
             }),
@@ -97,29 +94,17 @@ fn expect_lines_of_a_pair(rope: &Rope) -> Result<(), Failure> {
 
 #[test]
 fn a_pair_ends_one_line(rt: HostRuntime) -> Result<(), Failure> {
-    asks(rt.alloc(), "a\r\nb", expect_lines_of_a_pair)
+    with_rope(rt.alloc(), "a\r\nb", expect_lines_of_a_pair)
 }
 
-const PLACES: [(usize, usize); 9] = [
-    (0, 0),
-    (1, 1),
-    (8, 2),
-    (9, 3),
-    (11, 4),
-    (13, 5),
-    (15, 6),
-    (23, 7),
-    (37, 8),
-];
-
 fn expect_every_break(rope: &Rope) -> Result<(), Failure> {
-    expect_all_lines(rope, &PLACES)?;
+    expect_all_lines(rope, &BREAK_LINES)?;
     expect_all_starts(rope, &[0, 1, 8, 9, 11, 13, 15, 23, 37, 37])
 }
 
 #[test]
 fn each_break_ends_a_line(rt: HostRuntime) -> Result<(), Failure> {
-    asks(rt.alloc(), BREAKS, expect_every_break)
+    with_rope(rt.alloc(), BREAKS, expect_every_break)
 }
 
 fn expect_starts_after_pairs(rope: &Rope) -> Result<(), Failure> {
@@ -133,23 +118,23 @@ fn expect_starts_after_pairs(rope: &Rope) -> Result<(), Failure> {
 }
 
 #[test]
-fn lines_start_behind_pairs(rt: HostRuntime) -> Result<(), Failure> {
-    asks(rt.alloc(), PAIRS, expect_starts_after_pairs)
+fn lines_start_after_pairs(rt: HostRuntime) -> Result<(), Failure> {
+    with_rope(rt.alloc(), GREETING, expect_starts_after_pairs)
 }
 
 fn expect_units(rope: &Rope) -> Result<(), Failure> {
-    let answers = [
+    let found = [
         rope.try_utf16_cu_to_char(0),
         rope.try_utf16_cu_to_char(1),
         rope.try_utf16_cu_to_char(2),
         rope.try_utf16_cu_to_char(3),
     ];
     let past = Err(Error::Utf16IndexOutOfBounds(3, 2));
-    same!(answers, [Ok(0), Ok(0), Ok(1), past]);
+    same!(found, [Ok(0), Ok(0), Ok(1), past]);
     Ok(())
 }
 
 #[test]
 fn both_units_of_a_pair_are_its_character(rt: HostRuntime) -> Result<(), Failure> {
-    asks(rt.alloc(), "🐸", expect_units)
+    with_rope(rt.alloc(), "🐸", expect_units)
 }

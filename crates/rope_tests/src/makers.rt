@@ -1,6 +1,6 @@
 //! Ropes of texts that are owned, borrowed, or yielded by an iterator.
-use crate::ropes::asks_made;
-use rope_plain::compare::{compare_unicode, expect_few_chunks, lens};
+use crate::ropes::with_made;
+use rope_plain::compare::{expect_few_chunks, expect_plain_unicode, lens};
 use rope_plain::failure::Failure;
 use rope_plain::same;
 use rope_plain::texts::repeated;
@@ -13,49 +13,49 @@ fn owned(alloc: Global, text: &str) -> Result<String, AllocError> {
 
 /// Fails unless the rope has the text `ab`.
 fn expect_ab(rope: &Rope) -> Result<(), Failure> {
-    compare_unicode(rope, &['a', 'b'])
+    expect_plain_unicode(rope, &['a', 'b'])
 }
 
-fn of_an_owned_text(alloc: Global) -> Result<(), Failure> {
+fn expect_rope_of_owned_text(alloc: Global) -> Result<(), Failure> {
     let text = owned(alloc, "ab")?;
-    asks_made(Rope::from_string(alloc, text), expect_ab)
+    with_made(Rope::from_string(alloc, text), expect_ab)
 }
 
-fn of_a_text_given(alloc: Global) -> Result<(), Failure> {
+fn expect_rope_of_owned_cow(alloc: Global) -> Result<(), Failure> {
     let text = owned(alloc, "ab")?;
-    asks_made(Rope::from_cow(alloc, CowStr::Owned(text)), expect_ab)
+    with_made(Rope::from_cow(alloc, CowStr::Owned(text)), expect_ab)
 }
 
 #[test]
-fn a_rope_is_made_of_one_text_lent_or_owned(rt: HostRuntime) -> Result<(), Failure> {
-    of_an_owned_text(rt.alloc())?;
-    asks_made(
+fn a_rope_is_made_of_one_text_borrowed_or_owned(rt: HostRuntime) -> Result<(), Failure> {
+    expect_rope_of_owned_text(rt.alloc())?;
+    with_made(
         Rope::from_cow(rt.alloc(), CowStr::Borrowed("ab")),
         expect_ab,
     )?;
-    of_a_text_given(rt.alloc())
+    expect_rope_of_owned_cow(rt.alloc())
 }
 
 #[test]
-fn a_rope_is_made_of_texts_in_a_row(rt: HostRuntime) -> Result<(), Failure> {
-    asks_made(Rope::from_str_iter(rt.alloc(), ["a", "b"]), expect_ab)
+fn a_rope_is_made_of_several_texts(rt: HostRuntime) -> Result<(), Failure> {
+    with_made(Rope::from_str_iter(rt.alloc(), ["a", "b"]), expect_ab)
 }
 
-fn of_two_owned_texts(alloc: Global) -> ropey::Result<Rope> {
+fn rope_of_two_owned_texts(alloc: Global) -> ropey::Result<Rope> {
     let first = owned(alloc, "a")?;
     let second = owned(alloc, "b")?;
     Rope::from_string_iter(alloc, [first, second])
 }
 
-fn of_two_cows(alloc: Global) -> ropey::Result<Rope> {
+fn rope_of_two_cows(alloc: Global) -> ropey::Result<Rope> {
     let cows = [CowStr::Borrowed("a"), CowStr::Owned(owned(alloc, "b")?)];
     Rope::from_cow_iter(alloc, cows)
 }
 
 #[test]
-fn a_rope_is_made_of_texts_lent_or_owned(rt: HostRuntime) -> Result<(), Failure> {
-    asks_made(of_two_owned_texts(rt.alloc()), expect_ab)?;
-    asks_made(of_two_cows(rt.alloc()), expect_ab)
+fn a_rope_is_made_of_texts_borrowed_or_owned(rt: HostRuntime) -> Result<(), Failure> {
+    with_made(rope_of_two_owned_texts(rt.alloc()), expect_ab)?;
+    with_made(rope_of_two_cows(rt.alloc()), expect_ab)
 }
 
 fn expect_thousand_lines(rope: &Rope) -> Result<(), Failure> {
@@ -63,17 +63,17 @@ fn expect_thousand_lines(rope: &Rope) -> Result<(), Failure> {
     expect_few_chunks(rope)
 }
 
-fn of_lines(alloc: Global, text: &str) -> Result<(), Failure> {
+fn expect_rope_of_lines(alloc: Global, text: &str) -> Result<(), Failure> {
     let made = Rope::from_str_iter(alloc, text.split_inclusive('\r'));
-    asks_made(made, expect_thousand_lines)
+    with_made(made, expect_thousand_lines)
 }
 
-fn of_many_lines(alloc: Global) -> Result<(), Failure> {
+fn expect_rope_of_thousand_lines(alloc: Global) -> Result<(), Failure> {
     let text = repeated(alloc, "one\r\n", 1_000)?;
-    of_lines(alloc, text.as_str())
+    expect_rope_of_lines(alloc, text.as_str())
 }
 
 #[test]
 fn a_rope_is_made_of_the_lines_of_a_text(rt: HostRuntime) -> Result<(), Failure> {
-    of_many_lines(rt.alloc())
+    expect_rope_of_thousand_lines(rt.alloc())
 }

@@ -14,7 +14,7 @@ fn hello() -> NodeText
 }
 
 #[test]
-fn a_leaf_takes_bytes_in_and_at_its_end() -> Result<(), Failure> {
+fn a_leaf_takes_bytes_inside_and_at_its_end() -> Result<(), Failure> {
     let mut inner = hello();
     let (place, _) = inner.byte_range(3, 3, count_chars(inner.as_str()));
     inner.insert_bytes(place, "oz");
@@ -26,7 +26,7 @@ fn a_leaf_takes_bytes_in_and_at_its_end() -> Result<(), Failure> {
 }
 
 #[test]
-fn a_leaf_gives_bytes_away() -> Result<(), Failure> {
+fn bytes_are_removed_from_a_leaf() -> Result<(), Failure> {
     let mut text = hello();
     let (from, to) = text.byte_range(2, 4, count_chars(text.as_str()));
     text.remove_bytes(from, to);
@@ -35,7 +35,7 @@ fn a_leaf_gives_bytes_away() -> Result<(), Failure> {
 }
 
 #[test]
-fn a_leaf_gives_a_wide_character_away() -> Result<(), Failure> {
+fn a_wide_character_is_removed_from_a_leaf() -> Result<(), Failure> {
     let mut text = NodeText::from_str("H\u{e9}llo!");
     let (from, to) = text.byte_range(1, 3, count_chars(text.as_str()));
     text.remove_bytes(from, to);

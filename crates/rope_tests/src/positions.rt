@@ -1,5 +1,5 @@
 //! Positions of ropes and of slices.
-use crate::ropes::{asks, asks_by, asks_made};
+use crate::ropes::{with_made, with_rope, with_rope_by};
 use rope_plain::failure::Failure;
 use rope_plain::{same, some};
 use rope_position::{Position, Positions};
@@ -22,7 +22,7 @@ fn expect_all_positions<P: Positions>(
 }
 
 /// Lines and columns, and the characters found there, or the errors.
-const ANSWERS: [(usize, usize, ropey::Result<usize>); 6] = [
+const RESULTS: [(usize, usize, ropey::Result<usize>); 6] = [
     (0, 2, Ok(1)),
     (0, 6, Ok(5)),
     (0, 7, Err(Error::Utf16IndexOutOfBounds(7, 6))),
@@ -31,13 +31,13 @@ const ANSWERS: [(usize, usize, ropey::Result<usize>); 6] = [
     (2, 99, Err(Error::LineIndexOutOfBounds(2, 2))),
 ];
 
-fn expect_answers(rope: &Rope) -> Result<(), Failure> {
-    for (line, column, answer) in &ANSWERS {
+fn expect_results(rope: &Rope) -> Result<(), Failure> {
+    for (line, column, expected) in &RESULTS {
         let position = Position {
             line: *line,
             column: *column,
         };
-        same!(rope.try_position_to_char(position), *answer);
+        same!(rope.try_position_to_char(position), *expected);
     }
     same!(
         rope.try_char_to_position(7),
@@ -63,7 +63,7 @@ fn expect_positions_of_a_part(slice: Option<RopeSlice<'_>>) -> Result<(), Failur
 
 fn expect_positions(rope: &Rope) -> Result<(), Failure> {
     expect_all_positions(rope, &PLACES)?;
-    expect_answers(rope)?;
+    expect_results(rope)?;
     expect_positions_of_a_part(rope.get_slice(1..4))
 }
 
@@ -71,7 +71,7 @@ fn expect_positions(rope: &Rope) -> Result<(), Failure> {
 fn characters_of_a_rope_have_positions_and_are_found_by_them(
     rt: HostRuntime,
 ) -> Result<(), Failure> {
-    asks(rt.alloc(), "a\u{1f438}b\r\n\u{3053}", expect_positions)
+    with_rope(rt.alloc(), "a\u{1f438}b\r\n\u{3053}", expect_positions)
 }
 
 fn expect_positions_by_lf(rope: &Rope) -> Result<(), Failure> {
@@ -88,7 +88,7 @@ fn expect_one_position(empty: &Rope) -> Result<(), Failure> {
 
 #[test]
 fn characters_of_other_texts_have_positions(rt: HostRuntime) -> Result<(), Failure> {
-    asks_by(rt.alloc(), "a\rb", LineBreaks::Lf, expect_positions_by_lf)?;
-    asks_made(Rope::new(rt.alloc()), expect_one_position)?;
+    with_rope_by(rt.alloc(), "a\rb", LineBreaks::Lf, expect_positions_by_lf)?;
+    with_made(Rope::new(rt.alloc()), expect_one_position)?;
     expect_all_positions(&RopeSlice::from(""), &[(0, 0, 0)])
 }

@@ -1,6 +1,7 @@
 //! Index ranges of each kind, and the errors of bad ones.
 use rope_plain::failure::Failure;
 use rope_plain::same;
+use rope_plain::texts::expect_shown;
 use rope_text::range::char_bounds;
 use rope_text::{Error, IndexRange};
 use std::alloc::AllocError;
@@ -10,7 +11,7 @@ fn bounds<R: IndexRange>(range: &R) -> [Option<usize>; 2] {
 }
 
 #[test]
-fn each_kind_of_range_tells_its_bounds() -> Result<(), Failure> {
+fn each_kind_of_range_has_its_bounds() -> Result<(), Failure> {
     let ranges = [
         bounds(&(1..3)),
         bounds(&(1..)),
@@ -35,15 +36,8 @@ fn each_kind_of_range_tells_its_bounds() -> Result<(), Failure> {
     Ok(())
 }
 
-/// Fails unless this was shown.
-fn shows(shown: Result<String, AllocError>, text: &str) -> Result<(), Failure> {
-    let shown = shown?;
-    same!(shown.as_str(), text);
-    Ok(())
-}
-
 #[test]
-fn a_range_is_refused_by_why(rt: HostRuntime) -> Result<(), Failure> {
+fn an_invalid_range_has_its_error(rt: HostRuntime) -> Result<(), Failure> {
     let inside = char_bounds(&(2..=4), 5);
     let outside = char_bounds(&(9..7), 6);
     let turned = char_bounds(&(4..2), 6);
@@ -55,8 +49,8 @@ fn a_range_is_refused_by_why(rt: HostRuntime) -> Result<(), Failure> {
     );
     same!(turned, Err(error));
     let shown = format!(in rt.alloc(); "{error}");
-    shows(shown, "Invalid char range 4..2: start must be <= end")?;
+    expect_shown(shown, "Invalid char range 4..2: start must be <= end")?;
     let shown = format!(in rt.alloc(); "{:?}", Error::ByteRangeOutOfBounds(None, Some(9), 5));
     let expected = "Byte range out of bounds: byte range ..9, Rope/RopeSlice byte length 5";
-    shows(shown, expected)
+    expect_shown(shown, expected)
 }

@@ -15,7 +15,7 @@ fn remove(editor: &mut Editor, root: &mut Node, start: usize, end: usize) -> Mad
 }
 
 /// Fails unless a tree of the text can be made, and the test of it passes.
-fn becomes<F: FnOnce(&mut Node) -> Result<(), Failure>>(
+fn with_tree<F: FnOnce(&mut Node) -> Result<(), Failure>>(
     alloc: Global,
     text: &str,
     breaks: LineBreaks,
@@ -29,7 +29,7 @@ fn becomes<F: FnOnce(&mut Node) -> Result<(), Failure>>(
 
 /// Fails unless a tree of a thousand lines, in 8,000 characters, can be made, and the test of it
 /// passes.
-fn becomes_of_lines<F: FnOnce(&mut Node) -> Result<(), Failure>>(
+fn with_tree_of_lines<F: FnOnce(&mut Node) -> Result<(), Failure>>(
     alloc: Global,
     breaks: LineBreaks,
     ask: F,
@@ -37,10 +37,10 @@ fn becomes_of_lines<F: FnOnce(&mut Node) -> Result<(), Failure>>(
     requires { F.IsAlwaysCallable ask }
 {
     let text = "Hello!\r\n".repeat(alloc, 1000)?;
-    becomes(alloc, text.as_str(), breaks, ask)
+    with_tree(alloc, text.as_str(), breaks, ask)
 }
 
-fn removes_in_place(alloc: Global, root: &mut Node) -> Result<(), Failure> {
+fn expect_removed_in_place(alloc: Global, root: &mut Node) -> Result<(), Failure> {
     let mut editor = Editor::new(alloc);
     same!(remove(&mut editor, root, 4000, 4008), Ok(true));
     same!(editor.maker.made, 0);
@@ -48,7 +48,7 @@ fn removes_in_place(alloc: Global, root: &mut Node) -> Result<(), Failure> {
     Ok(())
 }
 
-fn removes_by_copies(alloc: Global, root: &mut Node) -> Result<(), Failure> {
+fn expect_removed_by_copies(alloc: Global, root: &mut Node) -> Result<(), Failure> {
     let mut editor = Editor::new(alloc);
     let other = root.share()?;
     same!(remove(&mut editor, root, 4003, 4005), Ok(true));
@@ -58,22 +58,22 @@ fn removes_by_copies(alloc: Global, root: &mut Node) -> Result<(), Failure> {
 }
 
 #[test]
-fn removes_in_place_or_by_copies(rt: HostRuntime) -> Result<(), Failure> {
+fn characters_are_removed_in_place_or_from_copies(rt: HostRuntime) -> Result<(), Failure> {
     let alloc = rt.alloc();
-    becomes_of_lines(alloc, LineBreaks::CrLf, |root| {
-        removes_in_place(alloc, root)?;
-        removes_by_copies(alloc, root)
+    with_tree_of_lines(alloc, LineBreaks::CrLf, |root| {
+        expect_removed_in_place(alloc, root)?;
+        expect_removed_by_copies(alloc, root)
     })
 }
 
-fn removes_in_no_two_leaves(alloc: Global, root: &mut Node) -> Result<(), Failure> {
+fn expect_two_leaves_kept(alloc: Global, root: &mut Node) -> Result<(), Failure> {
     let mut editor = Editor::new(alloc);
     same!(remove(&mut editor, root, 0, 2000), Ok(false));
     same!(root.info().chars, 8000);
     Ok(())
 }
 
-fn removes_no_whole_leaf(alloc: Global, leaf: &mut Node) -> Result<(), Failure> {
+fn expect_whole_leaf_kept(alloc: Global, leaf: &mut Node) -> Result<(), Failure> {
     let mut editor = Editor::new(alloc);
     same!(remove(&mut editor, leaf, 0, 6), Ok(false));
     same!(remove(&mut editor, leaf, 1, 6), Ok(true));
@@ -82,7 +82,7 @@ fn removes_no_whole_leaf(alloc: Global, leaf: &mut Node) -> Result<(), Failure> 
 }
 
 // Leaves of 984 bytes: at a leaf's ends no LF may come first and no CR last; inside they may meet.
-fn bares_no_end(alloc: Global, root: &mut Node) -> Result<(), Failure> {
+fn expect_pairs_kept_at_ends(alloc: Global, root: &mut Node) -> Result<(), Failure> {
     let mut editor = Editor::new(alloc);
     same!(remove(&mut editor, root, 983, 984), Ok(false));
     same!(remove(&mut editor, root, 984, 991), Ok(false));
@@ -94,18 +94,22 @@ fn bares_no_end(alloc: Global, root: &mut Node) -> Result<(), Failure> {
 }
 
 #[test]
-fn removes_in_one_leaf_alone_and_bares_no_end_of_it(rt: HostRuntime) -> Result<(), Failure> {
+fn characters_are_removed_within_one_leaf_that_stays_valid(rt: HostRuntime) -> Result<(), Failure> {
     let alloc = rt.alloc();
-    becomes_of_lines(
+    with_tree_of_lines(
         alloc,
         LineBreaks::CrLf,
-        |root| removes_in_no_two_leaves(alloc, root),
+        |root| expect_two_leaves_kept(alloc, root),
     )?;
-    becomes(
+    with_tree(
         alloc,
         "Hello!",
         LineBreaks::Lf,
-        |leaf| removes_no_whole_leaf(alloc, leaf),
+        |leaf| expect_whole_leaf_kept(alloc, leaf),
     )?;
-    becomes_of_lines(alloc, LineBreaks::Unicode, |root| bares_no_end(alloc, root))
+    with_tree_of_lines(
+        alloc,
+        LineBreaks::Unicode,
+        |root| expect_pairs_kept_at_ends(alloc, root),
+    )
 }

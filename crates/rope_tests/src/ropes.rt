@@ -6,7 +6,7 @@ use ropey::{LineBreaks, Rope};
 use std::alloc::Global;
 
 /// Fails unless a rope was made, and is right.
-pub fn asks_made<F: FnOnce(&Rope) -> Result<(), Failure>>(
+pub fn with_made<F: FnOnce(&Rope) -> Result<(), Failure>>(
     made: ropey::Result<Rope>,
     ask: F,
 ) -> Result<(), Failure>
@@ -17,7 +17,7 @@ pub fn asks_made<F: FnOnce(&Rope) -> Result<(), Failure>>(
 }
 
 /// Fails unless a rope of the text, by a set of line breaks, is made, and is right.
-pub fn asks_by<F: FnOnce(&Rope) -> Result<(), Failure>>(
+pub fn with_rope_by<F: FnOnce(&Rope) -> Result<(), Failure>>(
     alloc: Global,
     text: &str,
     breaks: LineBreaks,
@@ -25,22 +25,22 @@ pub fn asks_by<F: FnOnce(&Rope) -> Result<(), Failure>>(
 ) -> Result<(), Failure>
     requires { F.IsAlwaysCallable ask }
 {
-    asks_made(Rope::from_str_with(alloc, text, breaks), ask)
+    with_made(Rope::from_str_with(alloc, text, breaks), ask)
 }
 
 /// Fails unless a rope of the text is made, and is right.
-pub fn asks<F: FnOnce(&Rope) -> Result<(), Failure>>(
+pub fn with_rope<F: FnOnce(&Rope) -> Result<(), Failure>>(
     alloc: Global,
     text: &str,
     ask: F,
 ) -> Result<(), Failure>
     requires { F.IsAlwaysCallable ask }
 {
-    asks_by(alloc, text, LineBreaks::Unicode, ask)
+    with_rope_by(alloc, text, LineBreaks::Unicode, ask)
 }
 
 /// Fails unless a rope of a text, `count` times, is made, and is right.
-pub fn asks_of_many<F: FnOnce(&Rope) -> Result<(), Failure>>(
+pub fn with_repeated<F: FnOnce(&Rope) -> Result<(), Failure>>(
     alloc: Global,
     text: &str,
     count: usize,
@@ -49,11 +49,11 @@ pub fn asks_of_many<F: FnOnce(&Rope) -> Result<(), Failure>>(
     requires { F.IsAlwaysCallable ask }
 {
     let text = repeated(alloc, text, count)?;
-    asks(alloc, text.as_str(), ask)
+    with_rope(alloc, text.as_str(), ask)
 }
 
 /// Fails unless a rope of `bytes` bytes, with such an end, is made, and is right.
-pub fn asks_of_padded<F: FnOnce(&Rope) -> Result<(), Failure>>(
+pub fn with_padded<F: FnOnce(&Rope) -> Result<(), Failure>>(
     alloc: Global,
     bytes: usize,
     end: &str,
@@ -62,11 +62,11 @@ pub fn asks_of_padded<F: FnOnce(&Rope) -> Result<(), Failure>>(
     requires { F.IsAlwaysCallable ask }
 {
     let text = padded(alloc, "", bytes, end)?;
-    asks(alloc, text.as_str(), ask)
+    with_rope(alloc, text.as_str(), ask)
 }
 
 /// Fails unless a rope of the text, by a set of line breaks, is made, and the test of it passes.
-pub fn becomes_by<F: FnOnce(&mut Rope) -> Result<(), Failure>>(
+pub fn with_changed_by<F: FnOnce(&mut Rope) -> Result<(), Failure>>(
     alloc: Global,
     text: &str,
     breaks: LineBreaks,
@@ -79,12 +79,12 @@ pub fn becomes_by<F: FnOnce(&mut Rope) -> Result<(), Failure>>(
 }
 
 /// Fails unless a rope of the text is made, and the test of it passes.
-pub fn becomes<F: FnOnce(&mut Rope) -> Result<(), Failure>>(
+pub fn with_changed<F: FnOnce(&mut Rope) -> Result<(), Failure>>(
     alloc: Global,
     text: &str,
     ask: F,
 ) -> Result<(), Failure>
     requires { F.IsAlwaysCallable ask }
 {
-    becomes_by(alloc, text, LineBreaks::Unicode, ask)
+    with_changed_by(alloc, text, LineBreaks::Unicode, ask)
 }

@@ -1,10 +1,10 @@
 //! Ropes of each set of line breaks, against rows worked by hand and plain lists of characters.
 use crate::lookups::expect_all_lines;
-use crate::ropes::{asks_by, asks_made, becomes_by};
-use rope_plain::compare::{SETS, compare, expect_few_chunks};
+use crate::ropes::{with_changed_by, with_made, with_rope_by};
+use rope_plain::compare::{SETS, expect_few_chunks, expect_plain};
 use rope_plain::failure::{Failure, within};
 use rope_plain::numbers::Numbers;
-use rope_plain::places::compare_at;
+use rope_plain::places::expect_lookups_at;
 use rope_plain::same;
 use rope_plain::texts::{BREAKS, chars_of, random_text};
 use ropey::{Error, LineBreaks, Rope};
@@ -41,7 +41,7 @@ fn expect_lines_by_set(alloc: Global) -> Result<(), Failure> {
     for (breaks, count, places) in &LINES {
         within(
             format_args!("line breaks {breaks:?}"),
-            asks_by(
+            with_rope_by(
                 alloc,
                 BREAKS,
                 *breaks,
@@ -53,12 +53,12 @@ fn expect_lines_by_set(alloc: Global) -> Result<(), Failure> {
 }
 
 #[test]
-fn characters_lie_on_lines_by_each_set(rt: HostRuntime) -> Result<(), Failure> {
+fn characters_are_on_their_lines_by_each_set(rt: HostRuntime) -> Result<(), Failure> {
     expect_lines_by_set(rt.alloc())
 }
 
 /// Fails unless the starts of all lines are these, and the end follows them.
-fn starts_are(rope: &Rope, starts: &[usize]) -> Result<(), Failure> {
+fn expect_line_starts(rope: &Rope, starts: &[usize]) -> Result<(), Failure> {
     for (line, start) in starts.iter().enumerate() {
         same!(rope.try_line_to_char(line), Ok(*start));
     }
@@ -69,7 +69,12 @@ fn starts_are(rope: &Rope, starts: &[usize]) -> Result<(), Failure> {
 
 /// Fails unless the starts of all lines by a set of line breaks are these.
 fn expect_starts(alloc: Global, breaks: LineBreaks, starts: &[usize]) -> Result<(), Failure> {
-    asks_by(alloc, BREAKS, breaks, |rope| starts_are(rope, starts))
+    with_rope_by(
+        alloc,
+        BREAKS,
+        breaks,
+        |rope| expect_line_starts(rope, starts),
+    )
 }
 
 #[test]
@@ -81,7 +86,7 @@ fn lines_start_by_each_set(rt: HostRuntime) -> Result<(), Failure> {
 }
 
 /// Fails unless an append of a rope with another set is refused.
-fn refuses_another_set(alloc: Global, rope: &mut Rope, text: &str) -> Result<(), Failure> {
+fn expect_other_set_refused(alloc: Global, rope: &mut Rope, text: &str) -> Result<(), Failure> {
     let other = Rope::from_str(alloc, text)?;
     same!(rope.append(other), Err(Error::LineBreaksDiffer));
     Ok(())
@@ -89,27 +94,27 @@ fn refuses_another_set(alloc: Global, rope: &mut Rope, text: &str) -> Result<(),
 
 fn expect_text_by_lf(alloc: Global, rope: &Rope, text: &str) -> Result<(), Failure> {
     let plain = chars_of(alloc, text)?;
-    compare(rope, &plain, LineBreaks::Lf)
+    expect_plain(rope, &plain, LineBreaks::Lf)
 }
 
 /// Fails unless a rope of another set is refused, and this one is unchanged.
-fn keeps_its_set(alloc: Global, text: &str) -> Result<(), Failure> {
-    becomes_by(alloc, text, LineBreaks::Lf, |rope| {
-        refuses_another_set(alloc, rope, text)?;
+fn expect_set_kept(alloc: Global, text: &str) -> Result<(), Failure> {
+    with_changed_by(alloc, text, LineBreaks::Lf, |rope| {
+        expect_other_set_refused(alloc, rope, text)?;
         expect_text_by_lf(alloc, rope, text)
     })
 }
 
 #[test]
 fn ropes_of_two_sets_are_not_joined(rt: HostRuntime) -> Result<(), Failure> {
-    keeps_its_set(rt.alloc(), "")?;
-    keeps_its_set(rt.alloc(), "a\r\n")
+    expect_set_kept(rt.alloc(), "")?;
+    expect_set_kept(rt.alloc(), "a\r\n")
 }
 
 fn expect_empty_by(alloc: Global, breaks: LineBreaks) -> Result<(), Failure> {
-    asks_made(
+    with_made(
         Rope::new_with(alloc, breaks),
-        |rope| compare(rope, &[], breaks),
+        |rope| expect_plain(rope, &[], breaks),
     )
 }
 
@@ -127,14 +132,18 @@ fn an_empty_rope_keeps_its_set(rt: HostRuntime) -> Result<(), Failure> {
 /// Fails unless lookups at some indices of a rope agree with a plain list.
 fn expect_places(rope: &Rope, plain: &[char], numbers: &mut Numbers) -> Result<(), Failure> {
     for _ in 0..20 {
-        compare_at(rope, plain, numbers.up_to(plain.len()))?;
+        expect_lookups_at(rope, plain, numbers.up_to(plain.len()))?;
     }
     Ok(())
 }
 
 /// Fails unless a rope equals a plain list, in whole and at some indices.
-fn expect_plain(rope: &Rope, plain: &[char], numbers: &mut Numbers) -> Result<(), Failure> {
-    compare(rope, plain, rope.line_breaks())?;
+fn expect_plain_at_indices(
+    rope: &Rope,
+    plain: &[char],
+    numbers: &mut Numbers,
+) -> Result<(), Failure> {
+    expect_plain(rope, plain, rope.line_breaks())?;
     expect_few_chunks(rope)?;
     expect_places(rope, plain, numbers)
 }
@@ -146,9 +155,9 @@ fn expect_text_by(
     breaks: LineBreaks,
 ) -> Result<(), Failure> {
     let plain = chars_of(alloc, text)?;
-    asks_by(alloc, text, breaks, |rope| {
+    with_rope_by(alloc, text, breaks, |rope| {
         same!(rope.line_breaks(), breaks);
-        expect_plain(rope, &plain, numbers)
+        expect_plain_at_indices(rope, &plain, numbers)
     })
 }
 
@@ -177,7 +186,7 @@ fn expect_random_text_by_each_set(alloc: Global, numbers: &mut Numbers) -> Resul
 }
 
 #[test]
-fn ropes_of_random_texts_are_their_lists(rt: HostRuntime) -> Result<(), Failure> {
+fn ropes_of_random_texts_equal_their_lists(rt: HostRuntime) -> Result<(), Failure> {
     let mut numbers = Numbers::new(SEED);
     for round in 0..50usize {
         within(

@@ -1,5 +1,6 @@
 //! Counts at each position of a text.
 use rope_plain::failure::{Failure, within};
+use rope_plain::sums::plus;
 use rope_plain::{holds, same};
 use rope_text::str_utils::{
     byte_to_char_idx, byte_to_surrogates_of, char_to_byte_idx, char_to_line_idx, char_to_utf16_idx,
@@ -33,7 +34,7 @@ impl Counts {
     }
 
     /// Fails unless the letter after k letters and the pattern is found, by each of its indices.
-    fn place(self, text: &str, byte: usize, k: u8) -> Result<(), Failure> {
+    fn expect_found(self, text: &str, byte: usize, k: u8) -> Result<(), Failure> {
         let idx = usize::from(k) + usize::from(self.chars);
         let pairs = usize::from(self.pairs);
         let unit = idx + pairs;
@@ -74,10 +75,10 @@ fn expect_counted_and_placed(
     k: u8,
     counts: Counts,
 ) -> Result<(), Failure> {
-    let byte = usize::from(k).saturating_add(pattern.len());
+    let byte = plus(usize::from(k), pattern.len());
     let text = text_of(alloc, k, pattern, 40)?;
     counts.expect_of(text.as_str(), k, 41)?;
-    counts.place(text.as_str(), byte, k)
+    counts.expect_found(text.as_str(), byte, k)
 }
 
 /// Fails unless the pattern is counted at each position of a block and across two blocks.
@@ -112,7 +113,7 @@ const PATTERNS: [(&str, u8, usize, u8); 8] = [
 ];
 
 #[test]
-fn a_pattern_is_counted_at_each_place_of_a_block(rt: HostRuntime) -> Result<(), Failure> {
+fn a_pattern_is_counted_at_each_offset_in_a_block(rt: HostRuntime) -> Result<(), Failure> {
     for (pattern, chars, break_count, pairs) in PATTERNS {
         let counts = Counts {
             chars,

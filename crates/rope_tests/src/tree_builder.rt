@@ -8,7 +8,7 @@ use std::alloc::Global;
 const PIECES: [&str; 5] = ["a\r", "\nbä", "", "日本", "𝄞"];
 
 /// Appends the pieces once.
-fn appends(builder: &mut Builder) -> Result<(), Failure> {
+fn append_pieces(builder: &mut Builder) -> Result<(), Failure> {
     for piece in &PIECES {
         holds!(builder.len_bytes() < 16_000);
         builder.append(piece)?;
@@ -16,15 +16,15 @@ fn appends(builder: &mut Builder) -> Result<(), Failure> {
     Ok(())
 }
 
-fn appends_all(builder: &mut Builder) -> Result<(), Failure> {
+fn append_all(builder: &mut Builder) -> Result<(), Failure> {
     for round in 0..1000 {
-        within(format_args!("round {round}"), appends(builder))?;
+        within(format_args!("round {round}"), append_pieces(builder))?;
     }
     Ok(())
 }
 
 /// Fails unless the builder ends in a tree of this height, with that many bytes and line breaks.
-fn ends_in(
+fn expect_finished(
     alloc: Global,
     builder: Builder,
     height: usize,
@@ -43,12 +43,12 @@ fn ends_in(
 #[test]
 fn a_tree_builder_joins_pieces(rt: HostRuntime) -> Result<(), Failure> {
     let mut builder = Builder::new(rt.alloc(), LineBreaks::Unicode);
-    appends_all(&mut builder)?;
-    ends_in(rt.alloc(), builder, 1, 16_000, 1000)
+    append_all(&mut builder)?;
+    expect_finished(rt.alloc(), builder, 1, 16_000, 1000)
 }
 
 #[test]
 fn a_tree_builder_without_pieces_ends_in_an_empty_leaf(rt: HostRuntime) -> Result<(), Failure> {
     let builder = Builder::new(rt.alloc(), LineBreaks::Unicode);
-    ends_in(rt.alloc(), builder, 0, 0, 0)
+    expect_finished(rt.alloc(), builder, 0, 0, 0)
 }

@@ -2,6 +2,7 @@
 //! and pseudorandom strings, against the standard library.
 use rope_plain::failure::{Failure, within};
 use rope_plain::numbers::Numbers;
+use rope_plain::sums::plus;
 use rope_plain::{holds, same};
 use rope_text::utf8::{front, text_of, valid_len};
 use std::alloc::{AllocFailed, Global};
@@ -120,7 +121,7 @@ fn expect_right(
     }
     let end = bytes.len();
     expect_front(&bytes, if is_text { end } else { before })?;
-    fill(&mut bytes, b"z", end.saturating_add(40))?;
+    fill(&mut bytes, b"z", plus(end, 40))?;
     let all = bytes.len();
     expect_front(&bytes, if is_text { all } else { before })
 }
@@ -141,7 +142,7 @@ fn expect_all_right(
 }
 
 #[test]
-fn characters_are_taken_at_each_place_of_a_block(rt: HostRuntime) -> Result<(), Failure> {
+fn characters_are_accepted_at_each_offset_in_a_block(rt: HostRuntime) -> Result<(), Failure> {
     for least in 0..72 {
         within(
             format_args!("least {least}"),
@@ -152,7 +153,7 @@ fn characters_are_taken_at_each_place_of_a_block(rt: HostRuntime) -> Result<(), 
 }
 
 #[test]
-fn wrong_bytes_are_refused_at_each_place_of_a_block(rt: HostRuntime) -> Result<(), Failure> {
+fn wrong_bytes_are_refused_at_each_offset_in_a_block(rt: HostRuntime) -> Result<(), Failure> {
     for least in 0..72 {
         within(
             format_args!("least {least}"),
@@ -206,7 +207,7 @@ fn expect_right_of_random(alloc: Global, numbers: &mut Numbers) -> Result<(), Fa
 const SEED: u64 = 0x9E37_79B9_7F4A_7C15;
 
 #[test]
-fn random_bytes_are_judged_as_the_standard_library_does(rt: HostRuntime) -> Result<(), Failure> {
+fn random_bytes_are_validated_as_by_the_standard_library(rt: HostRuntime) -> Result<(), Failure> {
     let mut numbers = Numbers::new(SEED);
     for round in 0..4_000 {
         within(

@@ -33,35 +33,59 @@ units_in_bytes c =
 pub utf16_len-le-bytes : (text : List ℕ) → utf16_len text ≤ byte_len text
 utf16_len-le-bytes [] = omega arith
 utf16_len-le-bytes (c ∷ cs) =
-    omega (arith, utf16_len-le-bytes cs, units_in_bytes c, IsMeasure-byte_len.joined (c ∷ []) cs, IsMeasure-utf16_len.joined (c ∷ []) cs)
+    omega (
+      arith,
+      utf16_len-le-bytes cs,
+      units_in_bytes c,
+      IsMeasure-byte_len.joined (c ∷ []) cs,
+      IsMeasure-utf16_len.joined (c ∷ []) cs,
+    )
 
 module _ (text : List ℕ) (single : surrogate_count text ≡ 0) where
   single_units : (i : ℕ) → utf16_len (take i text) ≡ min i (length text)
-  single_units i = omega (arith, single, length-take i text, count_by-front (λ c. nat_le 0x1_0000 c) text i)
+  single_units i =
+      omega (arith, single, length-take i text, count_by-front (λ c. nat_le 0x1_0000 c) text i)
 
   -- where each character takes one code unit, the index of a character is that of its code unit
   pub single_utf16_to_char : (u : ℕ) → utf16_to_char text u ≡ min u (length text)
   single_utf16_to_char u =
-      utf16_to_char_is text u (min u (length text)) (omega arith) (omega (arith, single_units (min u (length text)))) (λ less. omega (arith, single_units (suc (min u (length text)))))
+      utf16_to_char_is text u (min u (length text)) (omega arith)
+      (omega (arith, single_units (min u (length text))))
+      (λ less. omega (arith, single_units (suc (min u (length text)))))
 
 module _ (text : List ℕ) (ascii : byte_len text ≡ length text) where
   pub ascii_front : (i : ℕ) → byte_len (take i text) ≡ min i (length text)
   ascii_front i =
-      omega (arith, length-le-encodes (take i text), length-le-encodes (drop i text), IsMeasure-byte_len.joined (take i text) (drop i text), ap byte_len (take-append-drop i text), length-take i text, length-drop i text)
+      omega (
+        arith,
+        length-le-encodes (take i text),
+        length-le-encodes (drop i text),
+        IsMeasure-byte_len.joined (take i text) (drop i text),
+        ap byte_len (take-append-drop i text),
+        length-take i text,
+        length-drop i text,
+      )
 
   pub ascii_units : (i : ℕ) → utf16_len (take i text) ≡ min i (length text)
   ascii_units i = omega (arith, ascii_front i, utf16_len-le-bytes (take i text), length-take i text)
 
   pub ascii_byte_to_char : (b : ℕ) → byte_to_char text b ≡ min b (length text)
   ascii_byte_to_char b =
-      byte_to_char_is text b (min b (length text)) (omega arith) (omega (arith, ascii_front (min b (length text)))) (λ less. omega (arith, ascii_front (suc (min b (length text)))))
+      byte_to_char_is text b (min b (length text)) (omega arith)
+      (omega (arith, ascii_front (min b (length text))))
+      (λ less. omega (arith, ascii_front (suc (min b (length text)))))
 
   pub ascii_utf16_to_char : (u : ℕ) → utf16_to_char text u ≡ min u (length text)
   ascii_utf16_to_char = single_utf16_to_char text (omega (arith, ascii, utf16_len-le-bytes text))
 
-  pub ascii_char_to_line : (breaks : LineBreaks) (i : ℕ) → byte_to_line breaks text i ≡ char_to_line breaks text i
+  pub ascii_char_to_line : (breaks : LineBreaks) (i : ℕ)
+      → byte_to_line breaks text i ≡ char_to_line breaks text i
   ascii_char_to_line breaks i =
-      byte_to_line-byte_to_char breaks text i ∙ ap (char_to_line breaks text) (ascii_byte_to_char i) ∙ elim (cases_lt i (length text)) [
-        | inl less ↦ ap (char_to_line breaks text) (let e : min i (length text) ≡ i = omega arith in e)
-        | inr most ↦ ap (char_to_line breaks text) (let e : min i (length text) ≡ length text = omega arith in e) ∙ char_to_line_past breaks text (length text) (omega arith) ∙ sym (char_to_line_past breaks text i most)
+      byte_to_line-byte_to_char breaks text i ∙ ap (char_to_line breaks text) (ascii_byte_to_char i)
+      ∙ elim (cases_lt i (length text)) [
+        | inl less ↦ ap (char_to_line breaks text) (let e : min i (length text) ≡ i = omega arith in
+            e)
+        | inr most ↦ ap (char_to_line breaks text) (let e : min i (length text) ≡ length text =
+            omega arith in e) ∙ char_to_line_past breaks text (length text) (omega arith)
+            ∙ sym (char_to_line_past breaks text i most)
       ]

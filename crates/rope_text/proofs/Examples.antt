@@ -46,11 +46,13 @@ frog_bytes = refl
 abbrev mixed : List ℕ
 mixed = 97 ∷ 0x1F438 ∷ 98 ∷ 13 ∷ 10 ∷ 0x3053 ∷ []
 
-columns : map (char_to_column Unicode mixed) (0 ∷ 1 ∷ 2 ∷ 3 ∷ 4 ∷ 5 ∷ 6 ∷ []) ≡ 0 ∷ 1 ∷ 3 ∷ 4 ∷ 5 ∷ 0 ∷ 1 ∷ []
+columns : map (char_to_column Unicode mixed) (0 ∷ 1 ∷ 2 ∷ 3 ∷ 4 ∷ 5 ∷ 6 ∷ []) ≡ 0 ∷ 1 ∷ 3 ∷ 4 ∷ 5
+    ∷ 0 ∷ 1 ∷ []
 unfolding char_to_line line_start break_ends
 columns = refl
 
-columns_back : map (position_to_char Unicode mixed 0) (0 ∷ 1 ∷ 2 ∷ 3 ∷ 4 ∷ 5 ∷ 6 ∷ []) ≡ 0 ∷ 1 ∷ 1 ∷ 2 ∷ 3 ∷ 4 ∷ 5 ∷ []
+columns_back : map (position_to_char Unicode mixed 0) (0 ∷ 1 ∷ 2 ∷ 3 ∷ 4 ∷ 5 ∷ 6 ∷ []) ≡ 0 ∷ 1 ∷ 1
+    ∷ 2 ∷ 3 ∷ 4 ∷ 5 ∷ []
 unfolding utf16_to_char line_start break_ends
 columns_back = refl
 
@@ -72,30 +74,48 @@ clipped_seam = refl
 
 -- the child of each line break in "Hello\n", "\nthere\n", "world!\n"
 abbrev children : List (List ℕ)
-children = (72 ∷ 101 ∷ 108 ∷ 108 ∷ 111 ∷ 10 ∷ []) ∷ (10 ∷ 116 ∷ 104 ∷ 101 ∷ 114 ∷ 101 ∷ 10 ∷ []) ∷ (119 ∷ 111 ∷ 114 ∷ 108 ∷ 100 ∷ 33 ∷ 10 ∷ []) ∷ []
+children = (72 ∷ 101 ∷ 108 ∷ 108 ∷ 111 ∷ 10 ∷ []) ∷ (10 ∷ 116 ∷ 104 ∷ 101 ∷ 114 ∷ 101 ∷ 10 ∷ [])
+    ∷ (119 ∷ 111 ∷ 114 ∷ 108 ∷ 100 ∷ 33 ∷ 10 ∷ []) ∷ []
 
-child_of_break : map (chunk_index_at_line_break Unicode children) (0 ∷ 1 ∷ 2 ∷ 3 ∷ 4 ∷ []) ≡ 0 ∷ 0 ∷ 1 ∷ 1 ∷ 2 ∷ []
+child_of_break : map (chunk_index_at_line_break Unicode children) (0 ∷ 1 ∷ 2 ∷ 3 ∷ 4 ∷ []) ≡ 0 ∷ 0
+    ∷ 1 ∷ 1 ∷ 2 ∷ []
 unfolding chunk_index_at_line_break char_to_line break_ends
 child_of_break = refl
 
-breaks_before : map (λ k. (found_chunk Unicode children (chunk_index_at_line_break Unicode children k)).break_count) (0 ∷ 1 ∷ 2 ∷ 3 ∷ 4 ∷ []) ≡ 0 ∷ 0 ∷ 1 ∷ 1 ∷ 3 ∷ []
+breaks_before : map (λ k.
+    (found_chunk Unicode children (chunk_index_at_line_break Unicode children k)).break_count)
+    (0 ∷ 1 ∷ 2 ∷ 3 ∷ 4 ∷ []) ≡ 0 ∷ 0 ∷ 1 ∷ 1 ∷ 3 ∷ []
 unfolding found_chunk chunk_index_at_line_break char_to_line break_ends
 breaks_before = refl
 
-no_chunk : found_chunk Unicode [] (chunk_index_at_byte [] 0) ≡ record { text = []; bytes = 0; chars = 0; break_count = 0 }
+no_chunk : found_chunk Unicode [] (chunk_index_at_byte [] 0) ≡ record {
+  text = [];
+  bytes = 0;
+  chars = 0;
+  break_count = 0;
+}
 unfolding found_chunk chunk_index_at_byte char_to_line break_ends
 no_chunk = refl
 
 -- a range of six characters
-ranges : (char_range_error (Some 9) (Some 7) 6 ≡ Some (CharRangeOutOfBounds (Some 9) (Some 7) 6)) × (char_range_error (Some 4) (Some 2) 6 ≡ Some (CharRangeInvalid 4 2)) × (char_range_error None (Some 0xFFFF_FFFF_FFFF_FFFF) 6 ≡ Some (CharRangeOutOfBounds None (Some 0xFFFF_FFFF_FFFF_FFFF) 6))
+ranges : (char_range_error (Some 9) (Some 7) 6 ≡ Some (CharRangeOutOfBounds (Some 9) (Some 7) 6))
+    × (char_range_error (Some 4) (Some 2) 6 ≡ Some (CharRangeInvalid 4 2))
+    × (char_range_error None (Some 0xFFFF_FFFF_FFFF_FFFF) 6
+    ≡ Some (CharRangeOutOfBounds None (Some 0xFFFF_FFFF_FFFF_FFFF) 6))
 ranges = (refl, refl, refl)
 
 -- "é", whose bytes are C3 A9
-byte_ranges : (byte_range_error (233 ∷ []) (Some 1) (Some 1) ≡ Some (ByteRangeNotCharBoundary (Some 1) (Some 1))) × (byte_range_error (233 ∷ []) None (Some 1) ≡ Some (ByteRangeNotCharBoundary None (Some 1))) × (byte_range_error (233 ∷ []) (Some 9) (Some 7) ≡ Some (ByteRangeInvalid 9 7)) × (byte_range_error (233 ∷ []) (Some 3) None ≡ Some (ByteRangeOutOfBounds (Some 3) None 2))
+byte_ranges : (byte_range_error (233 ∷ []) (Some 1) (Some 1)
+    ≡ Some (ByteRangeNotCharBoundary (Some 1) (Some 1)))
+    × (byte_range_error (233 ∷ []) None (Some 1) ≡ Some (ByteRangeNotCharBoundary None (Some 1)))
+    × (byte_range_error (233 ∷ []) (Some 9) (Some 7) ≡ Some (ByteRangeInvalid 9 7))
+    × (byte_range_error (233 ∷ []) (Some 3) None ≡ Some (ByteRangeOutOfBounds (Some 3) None 2))
 unfolding byte_to_char encode_utf8
 byte_ranges = (refl, refl, refl, refl)
 
-positions_refused : (position_error Unicode mixed 0 7 ≡ Some (Utf16IndexOutOfBounds 7 6)) × (position_error Unicode mixed 1 2 ≡ Some (Utf16IndexOutOfBounds 2 1)) × (position_error Unicode mixed 2 0 ≡ Some (LineIndexOutOfBounds 2 2))
+positions_refused : (position_error Unicode mixed 0 7 ≡ Some (Utf16IndexOutOfBounds 7 6))
+    × (position_error Unicode mixed 1 2 ≡ Some (Utf16IndexOutOfBounds 2 1))
+    × (position_error Unicode mixed 2 0 ≡ Some (LineIndexOutOfBounds 2 2))
 unfolding line_start break_ends
 positions_refused = (refl, refl, refl)
 
@@ -123,24 +143,33 @@ block_sizes_even = refl
 
 -- "Hello ", "there ", "world!": the chunk of a character, and the characters before it
 abbrev words : List (List ℕ)
-words = (72 ∷ 101 ∷ 108 ∷ 108 ∷ 111 ∷ 32 ∷ []) ∷ (116 ∷ 104 ∷ 101 ∷ 114 ∷ 101 ∷ 32 ∷ []) ∷ (119 ∷ 111 ∷ 114 ∷ 108 ∷ 100 ∷ 33 ∷ []) ∷ []
+words = (72 ∷ 101 ∷ 108 ∷ 108 ∷ 111 ∷ 32 ∷ []) ∷ (116 ∷ 104 ∷ 101 ∷ 114 ∷ 101 ∷ 32 ∷ [])
+    ∷ (119 ∷ 111 ∷ 114 ∷ 108 ∷ 100 ∷ 33 ∷ []) ∷ []
 
-word_chunks : map (chunk_index_at_char words) (0 ∷ 5 ∷ 6 ∷ 11 ∷ 12 ∷ 17 ∷ 18 ∷ []) ≡ 0 ∷ 0 ∷ 1 ∷ 1 ∷ 2 ∷ 2 ∷ 2 ∷ []
+word_chunks : map (chunk_index_at_char words) (0 ∷ 5 ∷ 6 ∷ 11 ∷ 12 ∷ 17 ∷ 18 ∷ []) ≡ 0 ∷ 0 ∷ 1 ∷ 1
+    ∷ 2 ∷ 2 ∷ 2 ∷ []
 unfolding chunk_index_at_char
 word_chunks = refl
 
-chars_before : map (λ i. (found_chunk Unicode words (chunk_index_at_char words i)).chars) (0 ∷ 5 ∷ 6 ∷ 11 ∷ 12 ∷ 17 ∷ 18 ∷ []) ≡ 0 ∷ 0 ∷ 6 ∷ 6 ∷ 12 ∷ 12 ∷ 12 ∷ []
+chars_before : map (λ i. (found_chunk Unicode words (chunk_index_at_char words i)).chars)
+    (0 ∷ 5 ∷ 6 ∷ 11 ∷ 12 ∷ 17 ∷ 18 ∷ []) ≡ 0 ∷ 0 ∷ 6 ∷ 6 ∷ 12 ∷ 12 ∷ 12 ∷ []
 unfolding found_chunk chunk_index_at_char
 chars_before = refl
 
 -- "Hello\n", "\nthere\n", "world!\n": the chunk of a line break, and the breaks before it
 abbrev lines_of_words : List (List ℕ)
-lines_of_words = (72 ∷ 101 ∷ 108 ∷ 108 ∷ 111 ∷ 10 ∷ []) ∷ (10 ∷ 116 ∷ 104 ∷ 101 ∷ 114 ∷ 101 ∷ 10 ∷ []) ∷ (119 ∷ 111 ∷ 114 ∷ 108 ∷ 100 ∷ 33 ∷ 10 ∷ []) ∷ []
+lines_of_words = (72 ∷ 101 ∷ 108 ∷ 108 ∷ 111 ∷ 10 ∷ [])
+    ∷ (10 ∷ 116 ∷ 104 ∷ 101 ∷ 114 ∷ 101 ∷ 10 ∷ []) ∷ (119 ∷ 111 ∷ 114 ∷ 108 ∷ 100 ∷ 33 ∷ 10 ∷ [])
+    ∷ []
 
-break_chunks : map (chunk_index_at_line_break Unicode lines_of_words) (0 ∷ 1 ∷ 2 ∷ 3 ∷ 4 ∷ []) ≡ 0 ∷ 0 ∷ 1 ∷ 1 ∷ 2 ∷ []
+break_chunks : map (chunk_index_at_line_break Unicode lines_of_words) (0 ∷ 1 ∷ 2 ∷ 3 ∷ 4 ∷ []) ≡ 0
+    ∷ 0 ∷ 1 ∷ 1 ∷ 2 ∷ []
 unfolding chunk_index_at_line_break char_to_line break_ends
 break_chunks = refl
 
-line_breaks_before : map (λ k. (found_chunk Unicode lines_of_words (chunk_index_at_line_break Unicode lines_of_words k)).break_count) (0 ∷ 1 ∷ 2 ∷ 3 ∷ 4 ∷ []) ≡ 0 ∷ 0 ∷ 1 ∷ 1 ∷ 3 ∷ []
+line_breaks_before : map
+    (λ k. (found_chunk Unicode lines_of_words
+    (chunk_index_at_line_break Unicode lines_of_words k)).break_count) (0 ∷ 1 ∷ 2 ∷ 3 ∷ 4 ∷ []) ≡ 0
+    ∷ 0 ∷ 1 ∷ 1 ∷ 3 ∷ []
 unfolding found_chunk chunk_index_at_line_break char_to_line break_ends
 line_breaks_before = refl

@@ -22,6 +22,8 @@ pub rest_scalars : (c : ℕ) (cs : List ℕ) → all_scalars (c ∷ cs) ≡ true
 rest_scalars c cs e = (and_parts (scalar c) (all_scalars cs) e).1
 
 -- a text begins with LF where its bytes do
-pub starts_same : (cs : List ℕ) → all_scalars cs ≡ true → eqb (get_or (encode_utf8_all cs) 0 0) 10 ≡ begins_with_lf cs
+pub starts_same : (cs : List ℕ) → all_scalars cs ≡ true
+    → eqb (get_or (encode_utf8_all cs) 0 0) 10 ≡ begins_with_lf cs
 starts_same [] s = refl
-starts_same (c ∷ cs) s = first_byte c (encode_utf8 c) (encode_utf8_all cs) (Encoded-encode c (first_scalar c cs s))
+starts_same (c ∷ cs) s =
+    first_byte c (encode_utf8 c) (encode_utf8_all cs) (Encoded-encode c (first_scalar c cs s))

@@ -12,24 +12,33 @@ use Rattle.rope_text.specs.TextInfo.{info_of, info_sum, HasPart, shared_breaks, 
 use Rattle.rope_text.proofs.Measures.{IsMeasure-byte_len}
 use Rattle.rope_text.proofs.BreakLaws.{break_count-append}
 
-pub surrogate_count-append : (s t : List ℕ) → surrogate_count (s ++ t) ≡ surrogate_count s + surrogate_count t
+pub surrogate_count-append : (s t : List ℕ)
+    → surrogate_count (s ++ t) ≡ surrogate_count s + surrogate_count t
 surrogate_count-append s t = sum_by-append (λ c. cond (nat_le 65536 c) 1 0) s t
 
-pub info_of-append : (breaks : LineBreaks) (s t : List ℕ) → info_of breaks (s ++ t) ≡ less_breaks (info_sum (info_of breaks s) (info_of breaks t)) (shared_breaks breaks s t)
+pub info_of-append : (breaks : LineBreaks) (s t : List ℕ)
+    → info_of breaks (s ++ t) ≡ less_breaks (info_sum (info_of breaks s) (info_of breaks t))
+    (shared_breaks breaks s t)
 info_of-append breaks s t =
     let bytes = IsMeasure-byte_len.joined s t in
     let pairs = surrogate_count-append s t in
     let chars = length-append s t in
-    let count : break_count breaks (s ++ t) ≡ (break_count breaks s + break_count breaks t) - shared_breaks breaks s t = omega (arith, break_count-append breaks s t) in
+    let count : break_count breaks (s ++ t) ≡ (break_count breaks s + break_count breaks t)
+    - shared_breaks breaks s t = omega (arith, break_count-append breaks s t) in
     cc
 
 -- where CR doesn't meet LF, the sums
-pub info_of-append_apart : (breaks : LineBreaks) (s t : List ℕ) → parts_crlf s t ≡ false → info_of breaks (s ++ t) ≡ info_sum (info_of breaks s) (info_of breaks t)
+pub info_of-append_apart : (breaks : LineBreaks) (s t : List ℕ) → parts_crlf s t ≡ false
+    → info_of breaks (s ++ t) ≡ info_sum (info_of breaks s) (info_of breaks t)
 info_of-append_apart breaks s t apart =
-    let none : shared_breaks breaks s t ≡ 0 = ap (λ (x : Bool). cond {A = ℕ} (x && is_break_char breaks 13) 1 0) apart in
-    let same : (break_count breaks s + break_count breaks t) - 0 ≡ break_count breaks s + break_count breaks t = omega arith in
-    let whole : less_breaks (info_sum (info_of breaks s) (info_of breaks t)) 0 ≡ info_sum (info_of breaks s) (info_of breaks t) = rw same refl in
-    info_of-append breaks s t ∙ ap (less_breaks (info_sum (info_of breaks s) (info_of breaks t))) none ∙ whole
+    let none : shared_breaks breaks s t ≡ 0 =
+    ap (λ (x : Bool). cond {A = ℕ} (x && is_break_char breaks 13) 1 0) apart in
+    let same : (break_count breaks s + break_count breaks t) - 0
+    ≡ break_count breaks s + break_count breaks t = omega arith in
+    let whole : less_breaks (info_sum (info_of breaks s) (info_of breaks t)) 0
+    ≡ info_sum (info_of breaks s) (info_of breaks t) = rw same refl in
+    info_of-append breaks s t
+    ∙ ap (less_breaks (info_sum (info_of breaks s) (info_of breaks t))) none ∙ whole
 
 -- a front is in the sum
 pub part_of_sum : (total front rest : TextInfo) → total ≡ info_sum front rest → HasPart total front
@@ -50,20 +59,77 @@ rest_of_sum total front rest sum = record {
 }
 
 -- no more breaks than characters
-pub break_count-le-length : (breaks : LineBreaks) (text : List ℕ) → break_count breaks text ≤ length text
+pub break_count-le-length : (breaks : LineBreaks) (text : List ℕ)
+    → break_count breaks text ≤ length text
 unfolding break_ends
 break_count-le-length breaks text =
-    omega (arith, length-filter (is_break_end breaks text) (range_with_len 1 (length text)), count_by-le-length (is_break_end breaks text) (range_with_len 1 (length text)), length-range_with_len 1 (length text))
+    omega (
+      arith,
+      length-filter (is_break_end breaks text) (range_with_len 1 (length text)),
+      count_by-le-length (is_break_end breaks text) (range_with_len 1 (length text)),
+      length-range_with_len 1 (length text),
+    )
 
 -- counts that are equal one by one
-pub same_info : (x y : TextInfo) → x.bytes ≡ y.bytes → x.chars ≡ y.chars → x.utf16_surrogates ≡ y.utf16_surrogates → x.break_count ≡ y.break_count → x ≡ y
+pub same_info : (x y : TextInfo) → x.bytes ≡ y.bytes → x.chars ≡ y.chars
+    → x.utf16_surrogates ≡ y.utf16_surrogates → x.break_count ≡ y.break_count → x ≡ y
 same_info x y bytes chars pairs count =
-    let first : x ≡ record { bytes = y.bytes; chars = x.chars; utf16_surrogates = x.utf16_surrogates; break_count = x.break_count } =
-    ap (λ (n : ℕ). (let r : TextInfo = record { bytes = n; chars = x.chars; utf16_surrogates = x.utf16_surrogates; break_count = x.break_count } in r)) bytes in
-    let second : record { bytes = y.bytes; chars = x.chars; utf16_surrogates = x.utf16_surrogates; break_count = x.break_count } ≡ record { bytes = y.bytes; chars = y.chars; utf16_surrogates = x.utf16_surrogates; break_count = x.break_count } =
-    ap (λ (n : ℕ). (let r : TextInfo = record { bytes = y.bytes; chars = n; utf16_surrogates = x.utf16_surrogates; break_count = x.break_count } in r)) chars in
-    let third : record { bytes = y.bytes; chars = y.chars; utf16_surrogates = x.utf16_surrogates; break_count = x.break_count } ≡ record { bytes = y.bytes; chars = y.chars; utf16_surrogates = y.utf16_surrogates; break_count = x.break_count } =
-    ap (λ (n : ℕ). (let r : TextInfo = record { bytes = y.bytes; chars = y.chars; utf16_surrogates = n; break_count = x.break_count } in r)) pairs in
-    let fourth : record { bytes = y.bytes; chars = y.chars; utf16_surrogates = y.utf16_surrogates; break_count = x.break_count } ≡ y =
-    ap (λ (n : ℕ). (let r : TextInfo = record { bytes = y.bytes; chars = y.chars; utf16_surrogates = y.utf16_surrogates; break_count = n } in r)) count in
+    let first : x ≡ record {
+      bytes = y.bytes;
+      chars = x.chars;
+      utf16_surrogates = x.utf16_surrogates;
+      break_count = x.break_count;
+    } =
+    ap (λ (n : ℕ). (let r : TextInfo = record {
+      bytes = n;
+      chars = x.chars;
+      utf16_surrogates = x.utf16_surrogates;
+      break_count = x.break_count;
+    } in r)) bytes in
+    let second : record {
+      bytes = y.bytes;
+      chars = x.chars;
+      utf16_surrogates = x.utf16_surrogates;
+      break_count = x.break_count;
+    } ≡ record {
+      bytes = y.bytes;
+      chars = y.chars;
+      utf16_surrogates = x.utf16_surrogates;
+      break_count = x.break_count;
+    } =
+    ap (λ (n : ℕ). (let r : TextInfo = record {
+      bytes = y.bytes;
+      chars = n;
+      utf16_surrogates = x.utf16_surrogates;
+      break_count = x.break_count;
+    } in r)) chars in
+    let third : record {
+      bytes = y.bytes;
+      chars = y.chars;
+      utf16_surrogates = x.utf16_surrogates;
+      break_count = x.break_count;
+    } ≡ record {
+      bytes = y.bytes;
+      chars = y.chars;
+      utf16_surrogates = y.utf16_surrogates;
+      break_count = x.break_count;
+    } =
+    ap (λ (n : ℕ). (let r : TextInfo = record {
+      bytes = y.bytes;
+      chars = y.chars;
+      utf16_surrogates = n;
+      break_count = x.break_count;
+    } in r)) pairs in
+    let fourth : record {
+      bytes = y.bytes;
+      chars = y.chars;
+      utf16_surrogates = y.utf16_surrogates;
+      break_count = x.break_count;
+    } ≡ y =
+    ap (λ (n : ℕ). (let r : TextInfo = record {
+      bytes = y.bytes;
+      chars = y.chars;
+      utf16_surrogates = y.utf16_surrogates;
+      break_count = n;
+    } in r)) count in
     first ∙ second ∙ third ∙ fourth

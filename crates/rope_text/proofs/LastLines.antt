@@ -26,13 +26,16 @@ use Rattle.rope_text.proofs.Scans.{line_front}
 use Rattle.rope_text.proofs.SliceLaws.{breaks_apart, line_start-take}
 use Rattle.rope_text.proofs.Walks.{byte_len-chars}
 
-breaks_behind : (breaks : LineBreaks) (bytes : List ℕ) (n : ℕ) → byte_break_count breaks (drop n bytes) ≤ byte_break_count breaks bytes
-breaks_behind breaks [] zero = omega arith
-breaks_behind breaks [] (suc n) = omega arith
-breaks_behind breaks (x ∷ bytes) zero = omega arith
-breaks_behind breaks (x ∷ bytes) (suc n) = omega (arith, breaks_behind breaks bytes n)
+breaks_after : (breaks : LineBreaks) (bytes : List ℕ) (n : ℕ)
+    → byte_break_count breaks (drop n bytes) ≤ byte_break_count breaks bytes
+breaks_after breaks [] zero = omega arith
+breaks_after breaks [] (suc n) = omega arith
+breaks_after breaks (x ∷ bytes) zero = omega arith
+breaks_after breaks (x ∷ bytes) (suc n) = omega (arith, breaks_after breaks bytes n)
 
-module _ (breaks : LineBreaks) (bs : List ℕ) (end skip : ℕ) (u : IsUtf8 bs) (between : IsBetween (chars bs) end) (apart : parts_crlf (before_byte (chars bs) end) (after_byte (chars bs) end) ≡ false) where
+module _ (breaks : LineBreaks) (bs : List ℕ) (end skip : ℕ) (u : IsUtf8 bs)
+    (between : IsBetween (chars bs) end)
+    (apart : parts_crlf (before_byte (chars bs) end) (after_byte (chars bs) end) ≡ false) where
   abbrev pub text : List ℕ
   text = chars bs
 
@@ -46,27 +49,58 @@ module _ (breaks : LineBreaks) (bs : List ℕ) (end skip : ℕ) (u : IsUtf8 bs) 
   within = byte_to_char-le-length text end
 
   front_chars : count_by begins_char bs ≡ place + count_by begins_char (drop end bs)
-  front_chars = omega (arith, begins_before bs place u within, ap (λ k. count_by begins_char (take k bs)) between, count_by-front begins_char bs end)
+  front_chars =
+      omega (
+        arith,
+        begins_before bs place u within,
+        ap (λ k. count_by begins_char (take k bs)) between,
+        count_by-front begins_char bs end,
+      )
 
   front_pairs : count_by begins_pair bs ≡ surrogate_count front + count_by begins_pair (drop end bs)
-  front_pairs = omega (arith, pairs_before bs place u, ap (λ k. count_by begins_pair (take k bs)) between, count_by-front begins_pair bs end)
+  front_pairs =
+      omega (
+        arith,
+        pairs_before bs place u,
+        ap (λ k. count_by begins_pair (take k bs)) between,
+        count_by-front begins_pair bs end,
+      )
 
   lines : char_to_line breaks text place ≡ break_count breaks front
   lines = breaks_apart breaks text place within apart
 
-  front_breaks : byte_break_count breaks bs ≡ break_count breaks front + byte_break_count breaks (drop end bs)
-  front_breaks = omega (arith, line_place breaks bs place u, ap (λ k. byte_break_count breaks (drop k bs)) between, lines)
+  front_breaks : byte_break_count breaks bs
+      ≡ break_count breaks front + byte_break_count breaks (drop end bs)
+  front_breaks =
+      omega (
+        arith,
+        line_place breaks bs place u,
+        ap (λ k. byte_break_count breaks (drop k bs)) between,
+        lines,
+      )
 
   pub end_in : end ≤ length bs
-  end_in = omega (arith, between, byte_len-chars bs u, size_le byte_len IsMeasure-byte_len text place (length text) within, ap byte_len (take_all (length text) text (omega arith)))
+  end_in = omega (
+    arith,
+    between,
+    byte_len-chars bs u,
+    size_le byte_len IsMeasure-byte_len text place (length text) within,
+    ap byte_len (take_all (length text) text (omega arith)),
+  )
 
   -- the counts of the last lines of a prefix, by those of the text before them
-  rest_info : (l : ℕ) (first info : TextInfo) → l ≤ place → first ≡ info_of breaks (take l text) → parts_crlf (take l front) (drop l front) ≡ false
-      → end ≡ first.bytes + info.bytes → place ≡ first.chars + info.chars → surrogate_count front ≡ first.utf16_surrogates + info.utf16_surrogates → break_count breaks front ≡ first.break_count + info.break_count
+  rest_info : (l : ℕ) (first info : TextInfo) → l ≤ place → first ≡ info_of breaks (take l text)
+      → parts_crlf (take l front) (drop l front) ≡ false
+      → end ≡ first.bytes + info.bytes → place ≡ first.chars + info.chars
+      → surrogate_count front ≡ first.utf16_surrogates + info.utf16_surrogates
+      → break_count breaks front ≡ first.break_count + info.break_count
       → info ≡ info_of breaks (drop l front)
   rest_info l first info less known seam bytes in_chars pairs count =
-      let sum : info_of breaks front ≡ info_sum (info_of breaks (take l front)) (info_of breaks (drop l front)) = ap (info_of breaks) (sym (take-append-drop l front)) ∙ info_of-append_apart breaks (take l front) (drop l front) seam in
-      let same : first ≡ info_of breaks (take l front) = known ∙ ap (info_of breaks) (sym (take-take l place text less)) in
+      let sum : info_of breaks front ≡ info_sum (info_of breaks (take l front))
+      (info_of breaks (drop l front)) = ap (info_of breaks) (sym (take-append-drop l front))
+      ∙ info_of-append_apart breaks (take l front) (drop l front) seam in
+      let same : first ≡ info_of breaks (take l front) = known
+      ∙ ap (info_of breaks) (sym (take-take l place text less)) in
       let size = length-take-le place text within in
       same_info info (info_of breaks (drop l front))
       (omega (arith, bytes, between, ap (λ i. i.bytes) sum, ap (λ i. i.bytes) same))
@@ -75,7 +109,8 @@ module _ (breaks : LineBreaks) (bs : List ℕ) (end skip : ℕ) (u : IsUtf8 bs) 
       (omega (arith, count, ap (λ i. i.break_count) sum, ap (λ i. i.break_count) same))
 
   -- where the break was found, it ends before the line
-  module _ (back : Back) (start : ℕ) (goes : GoesBack breaks bs (back_from end skip) back true) (start_is : start ≡ back.at + char_width (get_or bs back.at 0)) where
+  module _ (back : Back) (start : ℕ) (goes : GoesBack breaks bs (back_from end skip) back true)
+      (start_is : start ≡ back.at + char_width (get_or bs back.at 0)) where
     found : IsBreakBack breaks bs (back_from end skip) back
     found = goes.found refl
 
@@ -92,7 +127,7 @@ module _ (breaks : LineBreaks) (bs : List ℕ) (end skip : ℕ) (u : IsUtf8 bs) 
     lines_before = break_count breaks front - (skip + 1)
 
     enough : lines_before + (skip + 1) ≡ break_count breaks front
-    enough = omega (arith, goes.passed, found_all, front_breaks, breaks_behind breaks bs back.at)
+    enough = omega (arith, goes.passed, found_all, front_breaks, breaks_after breaks bs back.at)
 
     abbrev pub line : ℕ
     line = line_start breaks text (suc lines_before)
@@ -111,31 +146,62 @@ module _ (breaks : LineBreaks) (bs : List ℕ) (end skip : ℕ) (u : IsUtf8 bs) 
     before_is : before ≡ info_of breaks (take line text)
     before_is =
         let at = back.at in
-        line_front breaks bs lines_before at (count_by begins_char bs - count_by begins_char (drop at bs)) (count_by begins_pair bs - count_by begins_pair (drop at bs)) before u inside
+        line_front breaks bs lines_before at
+        (count_by begins_char bs - count_by begins_char (drop at bs))
+        (count_by begins_pair bs - count_by begins_pair (drop at bs)) before u inside
         (omega (arith, goes.passed, found_all, front_breaks, enough)) found_begins
-        (omega (arith, count_by-front begins_char bs at)) (omega (arith, count_by-front begins_pair bs at)) start_is refl refl refl
+        (omega (arith, count_by-front begins_char bs at))
+        (omega (arith, count_by-front begins_pair bs at)) start_is refl refl refl
 
     line_in : line ≤ place
-    line_in = omega (arith, line_start_before breaks text place within, line_start_mono breaks text (suc lines_before) (char_to_line breaks text place) (omega (arith, lines, enough)))
+    line_in =
+        omega (
+          arith,
+          line_start_before breaks text place within,
+          line_start_mono breaks text (suc lines_before) (char_to_line breaks text place)
+              (omega (arith, lines, enough)),
+        )
 
     same_line : last_start breaks front skip ≡ line
     same_line =
-        ap (line_start breaks front) (let l : break_count breaks front - skip ≡ suc lines_before = omega (arith, enough) in l)
+        ap (line_start breaks front) (let l : break_count breaks front - skip ≡ suc lines_before =
+        omega (arith, enough) in l)
         ∙ omega (arith, line_start-take breaks text place (suc lines_before) within, line_in)
 
     pub found_start : start ≡ byte_len (take (last_start breaks front skip) front)
-    found_start = ap (λ i. i.bytes) before_is ∙ ap byte_len (sym (take-take line place text line_in)) ∙ ap (λ k. byte_len (take k front)) (sym same_line)
+    found_start = ap (λ i. i.bytes) before_is
+        ∙ ap byte_len (sym (take-take line place text line_in))
+        ∙ ap (λ k. byte_len (take k front)) (sym same_line)
 
     pub start_in : start ≤ end
-    start_in = omega (arith, ap (λ i. i.bytes) before_is, between, size_le byte_len IsMeasure-byte_len text line place line_in)
+    start_in =
+        omega (
+          arith,
+          ap (λ i. i.bytes) before_is,
+          between,
+          size_le byte_len IsMeasure-byte_len text line place line_in,
+        )
 
     pub some_char : 1 ≤ back.chars
-    some_char = omega (arith, goes.chars, front_chars, count_by-front begins_char bs back.at, ap (λ i. i.chars) before_is, line_in, length-take-le line text (let l : line ≤ length text = omega (arith, line_in, within) in l))
+    some_char =
+        omega (
+          arith,
+          goes.chars,
+          front_chars,
+          count_by-front begins_char bs back.at,
+          ap (λ i. i.chars) before_is,
+          line_in,
+          length-take-le line text (let l : line ≤ length text = omega (arith, line_in, within) in
+              l),
+        )
 
-    pub found_info : (info : TextInfo) → start + info.bytes ≡ end → info.chars + 1 ≡ back.chars → info.utf16_surrogates ≡ back.pairs → info.break_count + back.left ≡ skip
+    pub found_info : (info : TextInfo) → start + info.bytes ≡ end → info.chars + 1 ≡ back.chars
+        → info.utf16_surrogates ≡ back.pairs → info.break_count + back.left ≡ skip
         → info ≡ info_of breaks (drop (last_start breaks front skip) front)
     found_info info bytes in_chars pairs count =
-        let seam : parts_crlf (take line front) (drop line front) ≡ false = ap (λ k. parts_crlf (take k front) (drop k front)) (sym same_line) ∙ line_start_apart breaks front (break_count breaks front - skip) in
+        let seam : parts_crlf (take line front) (drop line front) ≡ false =
+        ap (λ k. parts_crlf (take k front) (drop k front)) (sym same_line)
+        ∙ line_start_apart breaks front (break_count breaks front - skip) in
         rest_info line before info line_in before_is seam (omega (arith, bytes))
         (omega (arith, in_chars, goes.chars, front_chars, count_by-front begins_char bs back.at))
         (omega (arith, pairs, goes.pairs, front_pairs, count_by-front begins_pair bs back.at))
@@ -143,22 +209,54 @@ module _ (breaks : LineBreaks) (bs : List ℕ) (end skip : ℕ) (u : IsUtf8 bs) 
         ∙ ap (λ k. info_of breaks (drop k front)) (sym same_line)
 
   -- where it wasn't, the line begins with the text
-  module _ (back : Back) (goes : GoesBack breaks bs (back_from end skip) back false) (at_start : back.at ≡ 0) where
+  module _ (back : Back) (goes : GoesBack breaks bs (back_from end skip) back false)
+      (at_start : back.at ≡ 0) where
     pub left_in : back.left ≤ skip
-    left_in = omega (arith, goes.passed, front_breaks, ap (λ k. byte_break_count breaks (drop k bs)) at_start)
+    left_in =
+        omega (
+          arith,
+          goes.passed,
+          front_breaks,
+          ap (λ k. byte_break_count breaks (drop k bs)) at_start,
+        )
 
     few : break_count breaks front ≤ skip
-    few = omega (arith, goes.passed, front_breaks, ap (λ k. byte_break_count breaks (drop k bs)) at_start)
+    few = omega (
+      arith,
+      goes.passed,
+      front_breaks,
+      ap (λ k. byte_break_count breaks (drop k bs)) at_start,
+    )
 
     pub first_start : 0 ≡ byte_len (take (last_start breaks front skip) front)
     first_start = ap (λ k. byte_len (take k front)) (sym (last_start_none breaks front skip few))
 
-    pub first_info : (info : TextInfo) → info.bytes ≡ end → info.chars ≡ back.chars → info.utf16_surrogates ≡ back.pairs → info.break_count + back.left ≡ skip
+    pub first_info : (info : TextInfo) → info.bytes ≡ end → info.chars ≡ back.chars
+        → info.utf16_surrogates ≡ back.pairs → info.break_count + back.left ≡ skip
         → info ≡ info_of breaks (drop (last_start breaks front skip) front)
     first_info info bytes in_chars pairs count =
         same_info info (info_of breaks front)
         (omega (arith, bytes, between))
-        (omega (arith, in_chars, goes.chars, front_chars, ap (λ k. count_by begins_char (drop k bs)) at_start, length-take-le place text within))
-        (omega (arith, pairs, goes.pairs, front_pairs, ap (λ k. count_by begins_pair (drop k bs)) at_start))
-        (omega (arith, count, goes.passed, front_breaks, ap (λ k. byte_break_count breaks (drop k bs)) at_start))
+        (omega (
+          arith,
+          in_chars,
+          goes.chars,
+          front_chars,
+          ap (λ k. count_by begins_char (drop k bs)) at_start,
+          length-take-le place text within,
+        ))
+        (omega (
+          arith,
+          pairs,
+          goes.pairs,
+          front_pairs,
+          ap (λ k. count_by begins_pair (drop k bs)) at_start,
+        ))
+        (omega (
+          arith,
+          count,
+          goes.passed,
+          front_breaks,
+          ap (λ k. byte_break_count breaks (drop k bs)) at_start,
+        ))
         ∙ ap (λ k. info_of breaks (drop k front)) (sym (last_start_none breaks front skip few))

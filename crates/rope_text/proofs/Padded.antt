@@ -21,7 +21,9 @@ no_break Unicode y z = refl
 pub no_breaks : (b : LineBreaks) (zs : List ℕ) → AreZeros zs → byte_break_count b zs ≡ 0
 no_breaks b [] a = refl
 no_breaks b (z ∷ zs) a =
-    let first : cond {A = ℕ} (break_at b z (get_or zs 0 0) (get_or zs 1 0)) 1 0 ≡ 0 = ap (λ x. cond {A = ℕ} (break_at b x (get_or zs 0 0) (get_or zs 1 0)) 1 0) (a 0) ∙ ap (λ t. cond {A = ℕ} t 1 0) (no_break b (get_or zs 0 0) (get_or zs 1 0)) in
+    let first : cond {A = ℕ} (break_at b z (get_or zs 0 0) (get_or zs 1 0)) 1 0 ≡ 0 =
+    ap (λ x. cond {A = ℕ} (break_at b x (get_or zs 0 0) (get_or zs 1 0)) 1 0) (a 0)
+    ∙ ap (λ t. cond {A = ℕ} t 1 0) (no_break b (get_or zs 0 0) (get_or zs 1 0)) in
     omega (arith, first, no_breaks b zs (λ j. a (suc j)))
 
 same_at : (xs zs : List ℕ) → AreZeros zs → (k : ℕ) → get_or (xs ++ zs) k 0 ≡ get_or xs k 0
@@ -29,8 +31,11 @@ same_at [] zs a k = a k
 same_at (x ∷ xs) zs a zero = refl
 same_at (x ∷ xs) zs a (suc k) = same_at xs zs a k
 
-pub breaks_padded : (b : LineBreaks) (xs zs : List ℕ) → AreZeros zs → byte_break_count b (xs ++ zs) ≡ byte_break_count b xs
+pub breaks_padded : (b : LineBreaks) (xs zs : List ℕ) → AreZeros zs
+    → byte_break_count b (xs ++ zs) ≡ byte_break_count b xs
 breaks_padded b [] zs a = no_breaks b zs a
 breaks_padded b (x ∷ xs) zs a =
-    let first = ap (λ y. cond {A = ℕ} (break_at b x y (get_or (xs ++ zs) 1 0)) 1 0) (same_at xs zs a 0) ∙ ap (λ z. cond {A = ℕ} (break_at b x (get_or xs 0 0) z) 1 0) (same_at xs zs a 1) in
+    let first =
+    ap (λ y. cond {A = ℕ} (break_at b x y (get_or (xs ++ zs) 1 0)) 1 0) (same_at xs zs a 0)
+    ∙ ap (λ z. cond {A = ℕ} (break_at b x (get_or xs 0 0) z) 1 0) (same_at xs zs a 1) in
     omega (arith, first, breaks_padded b xs zs a)

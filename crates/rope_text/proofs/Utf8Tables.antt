@@ -11,30 +11,40 @@ use Rattle.rope_text.specs.Utf8.{pair_fault, IsTwice}
 
 -- ---- lookups lane by lane
 
-swizzled : (t : List ℕ) (g : ℕ → ℕ) (ks : List ℕ) (i : ℕ) → i + length ks ≤ 32 → ((k : ℕ) → g k < 16) → IsTwice t → swz_l w8 16 t i (map g ks) ≡ map (λ k. get_or t (g k) 0) ks
+swizzled : (t : List ℕ) (g : ℕ → ℕ) (ks : List ℕ) (i : ℕ) → i + length ks ≤ 32
+    → ((k : ℕ) → g k < 16) → IsTwice t → swz_l w8 16 t i (map g ks) ≡ map (λ k. get_or t (g k) 0) ks
 swizzled t g [] i few small twice = refl
 swizzled t g (k ∷ ks) i few small twice =
     let here = get_or-swz_l_below w8 16 t i (g k ∷ map g ks) 0 (omega arith) (small k) in
     let same : i + 0 ≡ i = omega arith in
-    ap₂ (λ a b. a ∷ b) (here ∙ ap (λ j. get_or t (16 * (j / 16) + g k) 0) same ∙ twice.same i (g k) (omega arith) (small k)) (swizzled t g ks (suc i) (omega arith) small twice)
+    ap₂ (λ a b. a ∷ b) (here ∙ ap (λ j. get_or t (16 * (j / 16) + g k) 0) same
+    ∙ twice.same i (g k) (omega arith) (small k))
+    (swizzled t g ks (suc i) (omega arith) small twice)
 
-pub looked_up : (t : List ℕ) (ks : List ℕ) (g : ℕ → ℕ) (v : List ℕ) → length ks ≡ 32 → ((k : ℕ) → g k < 16) → IsTwice t → IsLanes ks g v → IsLanes ks (λ k. get_or t (g k) 0) (swz_l w8 16 t 0 v)
-looked_up t ks g v long small twice lanes = record { same = ap (swz_l w8 16 t 0) lanes.same ∙ swizzled t g ks 0 (omega arith) small twice }
+pub looked_up : (t : List ℕ) (ks : List ℕ) (g : ℕ → ℕ) (v : List ℕ) → length ks ≡ 32
+    → ((k : ℕ) → g k < 16) → IsTwice t → IsLanes ks g v
+    → IsLanes ks (λ k. get_or t (g k) 0) (swz_l w8 16 t 0 v)
+looked_up t ks g v long small twice lanes =
+    record { same = ap (swz_l w8 16 t 0) lanes.same ∙ swizzled t g ks 0 (omega arith) small twice }
 
-pub each_below : (f : ℕ → ℕ → ℕ) (y : ℕ) (v : List ℕ) (n : ℕ) → ((a : ℕ) → a < 256 → f a y < 16) → Each1 (Fits w8) v → Each1 (λ k. k < 16) (zip2 f v (replicate n y))
+pub each_below : (f : ℕ → ℕ → ℕ) (y : ℕ) (v : List ℕ) (n : ℕ) → ((a : ℕ) → a < 256 → f a y < 16)
+    → Each1 (Fits w8) v → Each1 (λ k. k < 16) (zip2 f v (replicate n y))
 each_below f y [] n small fits = tt
 each_below f y (a ∷ v) zero small fits = tt
 each_below f y (a ∷ v) (suc n) small fits = (small a fits.0.fits, each_below f y v n small fits.1)
 
-pub combined : (f : ℕ → ℕ → ℕ) {ks : List ℕ} {g h : ℕ → ℕ} {v w : List ℕ} → IsLanes ks g v → IsLanes ks h w → IsLanes ks (λ k. f (g k) (h k)) (zip2 f v w)
+pub combined : (f : ℕ → ℕ → ℕ) {ks : List ℕ} {g h : ℕ → ℕ} {v w : List ℕ} → IsLanes ks g v
+    → IsLanes ks h w → IsLanes ks (λ k. f (g k) (h k)) (zip2 f v w)
 combined f {ks} {g} {h} v w = record { same = zip2_of_maps f g h ks v.same w.same }
 
-pub none_either : (p q : ℕ → Bool) (ks : List ℕ) → ((k : ℕ) → p k ≡ false → q k ≡ false) → count_by p ks ≡ 0 → count_by q ks ≡ 0
+pub none_either : (p q : ℕ → Bool) (ks : List ℕ) → ((k : ℕ) → p k ≡ false → q k ≡ false)
+    → count_by p ks ≡ 0 → count_by q ks ≡ 0
 none_either p q [] more none = refl
 none_either p q (k ∷ ks) more none =
     let first = sum_by-cons (λ j. cond (p j) 1 0) k ks in
     let second = sum_by-cons (λ j. cond (q j) 1 0) k ks in
-    let here : cond {A = ℕ} (q k) 1 0 ≡ 0 = ap (λ (t : Bool). cond {A = ℕ} t 1 0) (more k (go (p k) (omega (arith, first, none)))) in
+    let here : cond {A = ℕ} (q k) 1 0 ≡ 0 =
+    ap (λ (t : Bool). cond {A = ℕ} t 1 0) (more k (go (p k) (omega (arith, first, none)))) in
     omega (arith, second, here, none_either p q ks more (omega (arith, first, none)))
   where
     go : (t : Bool) → cond {A = ℕ} t 1 0 ≡ 0 → t ≡ false
@@ -52,11 +62,20 @@ unfolding below
 each p zero all k h = absurd (omega arith)
 each p (suc n) all k h =
     let both = and_parts (p n) (below p n) all in
-    ⊎_elim (λ (less : k < n). each p n both.1 k less) (λ (last : n ≤ k). (let same : k ≡ n = omega arith in ap p same ∙ both.0)) (cases_lt k n)
+    ⊎_elim (λ (less : k < n). each p n both.1 k less)
+    (λ (last : n ≤ k). (let same : k ≡ n = omega arith in ap p same ∙ both.0)) (cases_lt k n)
 
-same_halves : (t : List ℕ) → below (λ i. below (λ j. eqb (get_or t (16 * (i / 16) + j) 0) (get_or t j 0)) 16) 32 ≡ true → IsTwice t
+same_halves : (t : List ℕ)
+    → below (λ i. below (λ j. eqb (get_or t (16 * (i / 16) + j) 0) (get_or t j 0)) 16) 32 ≡ true
+    → IsTwice t
 same_halves t all =
-    record { same = λ i j hi hj. eqb-true _ _ (each (λ n. eqb (get_or t (16 * (i / 16) + n) 0) (get_or t n 0)) 16 (each (λ m. below (λ n. eqb (get_or t (16 * (m / 16) + n) 0) (get_or t n 0)) 16) 32 all i hi) j hj) }
+    record {
+      same =
+          λ i j hi hj. eqb-true _ _
+          (each (λ n. eqb (get_or t (16 * (i / 16) + n) 0) (get_or t n 0)) 16
+          (each (λ m. below (λ n. eqb (get_or t (16 * (m / 16) + n) 0) (get_or t n 0)) 16) 32 all i
+          hi) j hj);
+    }
 
 pub first_high_twice : IsTwice BY_FIRST_HIGH
 unfolding below
@@ -71,13 +90,16 @@ unfolding below
 second_high_twice = same_halves BY_SECOND_HIGH refl
 
 abbrev pub faults_of : ℕ → ℕ → ℕ
-faults_of z b = bit_and (bit_and (get_or BY_FIRST_HIGH (z / 2 ^ 4) 0) (get_or BY_FIRST_LOW (bit_and z 15) 0)) (get_or BY_SECOND_HIGH (b / 2 ^ 4) 0)
+faults_of z b =
+    bit_and (bit_and (get_or BY_FIRST_HIGH (z / 2 ^ 4) 0) (get_or BY_FIRST_LOW (bit_and z 15) 0))
+    (get_or BY_SECOND_HIGH (b / 2 ^ 4) 0)
 
 abbrev wanted : Bool → ℕ
 wanted in_long = cond in_long 128 0
 
 abbrev seen : Bool → ℕ → ℕ → Bool
-seen in_long z h = cond (pair_fault in_long z (h * 16)) (not (eqb (faults_of z (h * 16)) (wanted in_long))) true
+seen in_long z h =
+    cond (pair_fault in_long z (h * 16)) (not (eqb (faults_of z (h * 16)) (wanted in_long))) true
 
 all_seen : below (λ z. below (λ h. seen true z h && seen false z h) 16) 256 ≡ true
 unfolding below
@@ -87,14 +109,16 @@ seen_at : (in_long : Bool) (z h : ℕ) → z < 256 → h < 16 → seen in_long z
 seen_at in_long z h hz hh = go in_long
   where
     both : (seen true z h && seen false z h) ≡ true
-    both = each (λ k. seen true z k && seen false z k) 16 (each (λ y. below (λ k. seen true y k && seen false y k) 16) 256 all_seen z hz) h hh
+    both = each (λ k. seen true z k && seen false z k) 16
+        (each (λ y. below (λ k. seen true y k && seen false y k) 16) 256 all_seen z hz) h hh
 
     go : (t : Bool) → seen t z h ≡ true
     go true = (and_parts (seen true z h) (seen false z h) both).0
     go false = (and_parts (seen true z h) (seen false z h) both).1
 
 -- only the upper half of the second byte matters
-upper_half : (in_long : Bool) (z b : ℕ) → pair_fault in_long z b ≡ pair_fault in_long z (b / 16 * 16)
+upper_half : (in_long : Bool) (z b : ℕ) → pair_fault in_long z b
+    ≡ pair_fault in_long z (b / 16 * 16)
 upper_half in_long z b =
     let p : leb 128 b ≡ leb 128 (b / 16 * 16) = grind (arith, nat_tests) in
     let q : ltb b 192 ≡ ltb (b / 16 * 16) 192 = grind (arith, nat_tests) in
@@ -104,13 +128,18 @@ upper_half in_long z b =
     let u : leb 144 b ≡ leb 144 (b / 16 * 16) = grind (arith, nat_tests) in
     rw (p, q, r, s, t, u) refl
 
-pub no_fault : (in_long : Bool) (z b : ℕ) → z < 256 → b < 256 → not (eqb (faults_of z b) (cond in_long 128 0)) ≡ false → pair_fault in_long z b ≡ false
+pub no_fault : (in_long : Bool) (z b : ℕ) → z < 256 → b < 256
+    → not (eqb (faults_of z b) (cond in_long 128 0)) ≡ false → pair_fault in_long z b ≡ false
 no_fault in_long z b hz hb fine =
     let h : ℕ = b / 16 in
     let back : h * 16 / 16 ≡ h = omega arith in
-    let same : faults_of z (h * 16) ≡ faults_of z b = ap (λ k. bit_and (bit_and (get_or BY_FIRST_HIGH (z / 2 ^ 4) 0) (get_or BY_FIRST_LOW (bit_and z 15) 0)) (get_or BY_SECOND_HIGH k 0)) back in
-    upper_half in_long z b ∙ go (pair_fault in_long z (h * 16)) (seen_at in_long z h hz (omega arith)) (ap (λ n. not (eqb n (wanted in_long))) same ∙ fine)
+    let same : faults_of z (h * 16) ≡ faults_of z b =
+    ap (λ k. bit_and (bit_and (get_or BY_FIRST_HIGH (z / 2 ^ 4) 0)
+    (get_or BY_FIRST_LOW (bit_and z 15) 0)) (get_or BY_SECOND_HIGH k 0)) back in
+    upper_half in_long z b ∙ go (pair_fault in_long z (h * 16))
+    (seen_at in_long z h hz (omega arith)) (ap (λ n. not (eqb n (wanted in_long))) same ∙ fine)
   where
-    go : (t : Bool) → cond t (not (eqb (faults_of z (b / 16 * 16)) (wanted in_long))) true ≡ true → not (eqb (faults_of z (b / 16 * 16)) (wanted in_long)) ≡ false → t ≡ false
+    go : (t : Bool) → cond t (not (eqb (faults_of z (b / 16 * 16)) (wanted in_long))) true ≡ true
+        → not (eqb (faults_of z (b / 16 * 16)) (wanted in_long)) ≡ false → t ≡ false
     go true p q = absurd (both_ways _ q p)
     go false p q = refl

@@ -37,7 +37,8 @@ cons_nonempty (c ∷ cs) chunks = (c ∷ cs) ∷ chunks
 -- the chunks clipped to the characters from a up to b, empty ones dropped
 abbrev pub clip : List (List ℕ) → ℕ → ℕ → List (List ℕ)
 clip [] a b = []
-clip (chunk ∷ chunks) a b = cons_nonempty (slice_range chunk a b) (clip chunks (a - length chunk) (b - length chunk))
+clip (chunk ∷ chunks) a b =
+    cons_nonempty (slice_range chunk a b) (clip chunks (a - length chunk) (b - length chunk))
 
 -- the single chunk of a text that isn't cut, or none if it is empty
 abbrev pub single_chunk : List ℕ → List (List ℕ)

@@ -5,13 +5,14 @@ use Rattle.rope_text.specs.Text.{byte_len}
 
 -- each chunk has 492 bytes or more together with the one before it, and the first together with
 -- `before` bytes
-abbrev pub IsDenseBehind : ℕ → List (List ℕ) → Type 0
-IsDenseBehind before [] = ⊤
-IsDenseBehind before (chunk ∷ chunks) = (MIN_TWO_LEAVES_BYTES ≤ before + byte_len chunk) × IsDenseBehind (byte_len chunk) chunks
+abbrev pub IsDenseAfter : ℕ → List (List ℕ) → Type 0
+IsDenseAfter before [] = ⊤
+IsDenseAfter before (chunk ∷ chunks) = (MIN_TWO_LEAVES_BYTES ≤ before + byte_len chunk)
+    × IsDenseAfter (byte_len chunk) chunks
 
 -- any two adjacent chunks have 492 bytes or more together
 abbrev pub AreDense : List (List ℕ) → Type 0
-AreDense chunks = IsDenseBehind MIN_TWO_LEAVES_BYTES chunks
+AreDense chunks = IsDenseAfter MIN_TWO_LEAVES_BYTES chunks
 
 -- the number of bytes of the last chunk, or `before` if there is no chunk
 abbrev pub last_bytes : ℕ → List (List ℕ) → ℕ

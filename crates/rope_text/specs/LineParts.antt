@@ -13,7 +13,11 @@ use Rattle.rope_text.specs.TextInfo.{info_of}
 
 -- the slice from character a up to b: its text, and its chunks, clipped
 abbrev pub part_between : Content → ℕ → ℕ → Content
-part_between c a b = record { text = slice_range c.text a b; chunks = clip c.chunks a b; breaks = c.breaks }
+part_between c a b = record {
+  text = slice_range c.text a b;
+  chunks = clip c.chunks a b;
+  breaks = c.breaks;
+}
 
 -- line l with its break
 abbrev pub line_of : Content → ℕ → Content
@@ -45,7 +49,9 @@ IsBetween text b = byte_len (before_byte text b) ≡ b
 -- the start of the last line of the text before the byte `end`, or of the line `skip` breaks
 -- earlier: its byte, and the counts from there on
 abbrev pub last_line_byte : LineBreaks → List ℕ → ℕ → ℕ → ℕ
-last_line_byte breaks text end skip = byte_len (take (last_start breaks (before_byte text end) skip) (before_byte text end))
+last_line_byte breaks text end skip =
+    byte_len (take (last_start breaks (before_byte text end) skip) (before_byte text end))
 
 abbrev pub last_line_info : LineBreaks → List ℕ → ℕ → ℕ → TextInfo
-last_line_info breaks text end skip = info_of breaks (drop (last_start breaks (before_byte text end) skip) (before_byte text end))
+last_line_info breaks text end skip =
+    info_of breaks (drop (last_start breaks (before_byte text end) skip) (before_byte text end))

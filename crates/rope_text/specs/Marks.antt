@@ -25,7 +25,8 @@ marks (Break breaks) bytes = byte_break_count breaks bytes
 
 -- the mark n begins with the byte `at`, counted from the byte `from` on
 abbrev pub IsMark : Mark → List ℕ → ℕ → ℕ → ℕ → Type 0
-IsMark mark bytes from n at = (marks mark (drop from bytes) ≡ n + marks mark (drop at bytes)) × IsTrue (mark_at mark bytes at)
+IsMark mark bytes from n at = (marks mark (drop from bytes) ≡ n + marks mark (drop at bytes))
+    × IsTrue (mark_at mark bytes at)
 
 -- the byte with which the mark n begins, counted from the byte `from` on; the end if there are at
 -- most n marks
@@ -42,7 +43,8 @@ pub record IsPassed (mark : Mark) (bytes : List ℕ) (n at left : ℕ) : Type 0 
 
 -- the bits of the mask are the marks that begin in the 32 bytes from the byte `at` on
 abbrev pub IsBlockMask : Mark → List ℕ → ℕ → ℕ → Type 0
-IsBlockMask mark bytes at mask = (n : ℕ) → n ≤ 32 → marks mark (drop at bytes) ≡ ones_below mask n + marks mark (drop (at + n) bytes)
+IsBlockMask mark bytes at mask = (n : ℕ) → n ≤ 32
+    → marks mark (drop at bytes) ≡ ones_below mask n + marks mark (drop (at + n) bytes)
 
 -- LF alone, or with CR
 abbrev pub lf_or_cr_lf : Bool → LineBreaks
@@ -78,4 +80,5 @@ pub record IsMask (ks : List ℕ) (p : ℕ → Bool) (a : List ℕ) : Type 0 whe
 -- none of the n bytes from the byte `at` on is C2 or E2, which begin breaks above 127, if a mark
 -- may be such a break
 abbrev pub HasNoMultibyte : Mark → List ℕ → ℕ → ℕ → Type 0
-HasNoMultibyte mark bytes at n = ahead mark ≡ 2 → count_by (λ k. bit_and (get_or bytes k 0) 223 == 194) (range_with_len at n) ≡ 0
+HasNoMultibyte mark bytes at n = ahead mark ≡ 2
+    → count_by (λ k. bit_and (get_or bytes k 0) 223 == 194) (range_with_len at n) ≡ 0

@@ -20,14 +20,16 @@ pub record IsSum (most total : ℕ) (lanes : List ℕ) : Type 0 where
 abbrev pub multibyte_at : LineBreaks → ℕ → ℕ → ℕ → Bool
 multibyte_at Lf x y z = false
 multibyte_at CrLf x y z = false
-multibyte_at Unicode x y z = (x == 0xC2 && y == 0x85) || (x == 0xE2 && (y == 0x80 && (z == 0xA8 || z == 0xA9)))
+multibyte_at Unicode x y z =
+    (x == 0xC2 && y == 0x85) || (x == 0xE2 && (y == 0x80 && (z == 0xA8 || z == 0xA9)))
 
 -- the tests at the byte k
 abbrev pub ascii_here : LineBreaks → List ℕ → ℕ → Bool
 ascii_here breaks xs k = ascii_at breaks (get_or xs k 0) (get_or xs (k + 1) 0)
 
 abbrev pub multibyte_here : LineBreaks → List ℕ → ℕ → Bool
-multibyte_here breaks xs k = multibyte_at breaks (get_or xs k 0) (get_or xs (k + 1) 0) (get_or xs (k + 2) 0)
+multibyte_here breaks xs k =
+    multibyte_at breaks (get_or xs k 0) (get_or xs (k + 1) 0) (get_or xs (k + 2) 0)
 
 abbrev pub multibyte_begin : List ℕ → ℕ → Bool
 multibyte_begin xs k = bit_and (get_or xs k 0) 223 == 194
@@ -36,7 +38,8 @@ multibyte_begin xs k = bit_and (get_or xs k 0) 223 == 194
 unfoldable pub places : ℕ → ℕ → List ℕ
 places i n = range_with_len i n
 
--- of the n bytes from i on: those that begin a character, a pair of code units, a break, and those above 127
+-- of the n bytes from i on: those that begin a character, a pair of code units, a break, and those
+-- above 127
 abbrev pub chars_of : List ℕ → ℕ → ℕ → ℕ
 chars_of xs i n = count_by (λ k. begins_char (get_or xs k 0)) (places i n)
 
@@ -62,7 +65,8 @@ count_of mark xs i n = count_by (ascii_mark_at mark xs) (places i n)
 
 -- the counts of the n bytes from i on: in lanes the characters, the pairs and the breaks below 128,
 -- and the other breaks
-pub record IsRun (breaks : LineBreaks) (bytes : List ℕ) (i n most : ℕ) (in_chars in_pairs in_ascii : List ℕ) (in_multibyte : ℕ) : Type 0 where
+pub record IsRun (breaks : LineBreaks) (bytes : List ℕ) (i n most : ℕ)
+    (in_chars in_pairs in_ascii : List ℕ) (in_multibyte : ℕ) : Type 0 where
   pub chars : IsSum most (chars_of bytes i n) in_chars
   pub pairs : IsSum most (pairs_of bytes i n) in_pairs
   pub ascii : IsSum most (ascii_of breaks bytes i n) in_ascii

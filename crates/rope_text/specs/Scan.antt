@@ -17,8 +17,10 @@ pub record IsFront (breaks : LineBreaks) (bytes : List ℕ) (in_chars at in_pair
 -- `passed.chars` characters and `passed.pairs` pairs of code units begin before the position
 pub record HasPassed (bytes : List ℕ) (passed : Passed) : Type 0 where
   pub within : passed.at ≤ length bytes
-  pub chars : count_by begins_char bytes ≡ passed.chars + count_by begins_char (drop passed.at bytes)
-  pub pairs : count_by begins_pair bytes ≡ passed.pairs + count_by begins_pair (drop passed.at bytes)
+  pub chars : count_by begins_char bytes ≡ passed.chars + count_by begins_char
+      (drop passed.at bytes)
+  pub pairs : count_by begins_pair bytes ≡ passed.pairs + count_by begins_pair
+      (drop passed.at bytes)
 
 -- the start of a backward scan, at the byte `end`, with `skip` breaks to pass
 abbrev pub back_from : ℕ → ℕ → Back
@@ -32,13 +34,17 @@ pub record IsBreakBack (breaks : LineBreaks) (bytes : List ℕ) (from to : Back)
 
 -- a scan back from one byte to another, at which the break searched for begins if it was found,
 -- with the counts of the bytes between
-pub record GoesBack (breaks : LineBreaks) (bytes : List ℕ) (from to : Back) (is_found : Bool) : Type 0 where
+pub record GoesBack (breaks : LineBreaks) (bytes : List ℕ) (from to : Back) (is_found : Bool) : Type
+    0 where
   pub back : to.at ≤ from.at
   pub few_chars : to.chars + to.at ≤ from.chars + from.at
   pub few_pairs : to.pairs + to.at ≤ from.pairs + from.at
-  pub chars : count_by begins_char (drop to.at bytes) + from.chars ≡ to.chars + count_by begins_char (drop from.at bytes)
-  pub pairs : count_by begins_pair (drop to.at bytes) + from.pairs ≡ to.pairs + count_by begins_pair (drop from.at bytes)
-  pub passed : byte_break_count breaks (drop to.at bytes) + to.left ≡ from.left + (cond is_found 1 0 + byte_break_count breaks (drop from.at bytes))
+  pub chars : count_by begins_char (drop to.at bytes) + from.chars
+      ≡ to.chars + count_by begins_char (drop from.at bytes)
+  pub pairs : count_by begins_pair (drop to.at bytes) + from.pairs
+      ≡ to.pairs + count_by begins_pair (drop from.at bytes)
+  pub passed : byte_break_count breaks (drop to.at bytes) + to.left
+      ≡ from.left + (cond is_found 1 0 + byte_break_count breaks (drop from.at bytes))
   pub found : is_found ≡ true → IsBreakBack breaks bytes from to
 
 -- the counts fit, since each byte counts at most one character and one pair

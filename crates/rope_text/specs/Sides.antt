@@ -28,8 +28,8 @@ place c = length c.left
 abbrev pub ahead : {X : Type 0} → Sides X → List X
 ahead c = if c.is_backward then reverse c.left else c.right
 
-abbrev pub behind : {X : Type 0} → Sides X → List X
-behind c = if c.is_backward then c.right else reverse c.left
+abbrev pub passed : {X : Type 0} → Sides X → List X
+passed c = if c.is_backward then c.right else reverse c.left
 
 -- the cursor with its direction reversed
 abbrev pub turned : {X : Type 0} → Sides X → Sides X
@@ -43,10 +43,14 @@ cursor_of c = record { items = all_items c; place = place c; forward = not c.is_
 -- move
 module _ {A X : Type 0} (view : A → X) where
   abbrev pub GoesRight : Sides X → Option A → Sides X → Type 0
-  GoesRight s r t = MatchOption r ((s.right ≡ []) × (t ≡ s)) (λ x. (s.right ≡ view x ∷ t.right) × (t.left ≡ s.left ++ view x ∷ []) × (t.is_backward ≡ s.is_backward))
+  GoesRight s r t =
+      MatchOption r ((s.right ≡ []) × (t ≡ s)) (λ x. (s.right ≡ view x ∷ t.right)
+      × (t.left ≡ s.left ++ view x ∷ []) × (t.is_backward ≡ s.is_backward))
 
   abbrev pub GoesLeft : Sides X → Option A → Sides X → Type 0
-  GoesLeft s r t = MatchOption r ((s.left ≡ []) × (t ≡ s)) (λ x. (s.left ≡ t.left ++ view x ∷ []) × (t.right ≡ view x ∷ s.right) × (t.is_backward ≡ s.is_backward))
+  GoesLeft s r t =
+      MatchOption r ((s.left ≡ []) × (t ≡ s)) (λ x. (s.left ≡ t.left ++ view x ∷ [])
+      × (t.right ≡ view x ∷ s.right) × (t.is_backward ≡ s.is_backward))
 
   -- `next` and `prev`
   abbrev pub StepsAhead : Sides X → Option A → Sides X → Type 0
@@ -59,7 +63,9 @@ module _ {A X : Type 0} (view : A → X) where
   -- first three fields are those of `MakesProgress`, stated so that a `for` over the cursor is
   -- proved to end from any start
   pub record GoesAhead (s : Sides X) (r : Option A) (t : Sides X) : Type 0 where
-    pub on : IsFinite (item_count ahead s) → OnSome r (⊤ × IsFinite (item_count ahead t) × (size (item_count ahead t) < size (item_count ahead s)))
+    pub on : IsFinite (item_count ahead s)
+        → OnSome r (⊤ × IsFinite (item_count ahead t)
+        × (size (item_count ahead t) < size (item_count ahead s)))
     pub keeps : IfSome r (λ _. ⊤)
     pub rests : IsFinite (item_count ahead s) → IfNone r (IsFinite (item_count ahead t))
     pub moves : StepsAhead s r t

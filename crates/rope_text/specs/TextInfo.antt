@@ -8,7 +8,12 @@ use Rattle.rope_text.specs.Cutting.{parts_crlf}
 
 -- the counts of a text, with its breaks by the set
 abbrev pub info_of : LineBreaks → List ℕ → TextInfo
-info_of breaks text = record { bytes = byte_len text; chars = length text; utf16_surrogates = surrogate_count text; break_count = break_count breaks text }
+info_of breaks text = record {
+  bytes = byte_len text;
+  chars = length text;
+  utf16_surrogates = surrogate_count text;
+  break_count = break_count breaks text;
+}
 
 -- the sums, count by count
 abbrev pub info_sum : TextInfo → TextInfo → TextInfo
@@ -39,4 +44,9 @@ shared_breaks breaks s t = cond (parts_crlf s t && is_break_char breaks 13) 1 0
 
 -- the counts with n line breaks fewer
 abbrev pub less_breaks : TextInfo → ℕ → TextInfo
-less_breaks info n = record { bytes = info.bytes; chars = info.chars; utf16_surrogates = info.utf16_surrogates; break_count = info.break_count - n }
+less_breaks info n = record {
+  bytes = info.bytes;
+  chars = info.chars;
+  utf16_surrogates = info.utf16_surrogates;
+  break_count = info.break_count - n;
+}

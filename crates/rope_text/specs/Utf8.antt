@@ -22,7 +22,9 @@ is_fault x y z b = pair_fault (nat_le 0xE0 y || nat_le 0xF0 x) z b
 
 -- the byte at k + 3 can't follow the three bytes before it
 abbrev pub fault_at : List ℕ → ℕ → Bool
-fault_at bytes k = is_fault (get_or bytes k 0) (get_or bytes (k + 1) 0) (get_or bytes (k + 2) 0) (get_or bytes (k + 3) 0)
+fault_at bytes k =
+    is_fault (get_or bytes k 0) (get_or bytes (k + 1) 0) (get_or bytes (k + 2) 0)
+    (get_or bytes (k + 3) 0)
 
 -- each of the first n bytes may follow those before it, with three zeros before the first
 pub record HasNoFault (bytes : List ℕ) (n : ℕ) : Type 0 where

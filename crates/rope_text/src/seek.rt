@@ -108,12 +108,12 @@ pub(crate) fn skip_breaks_back(
     ensures { IsPassed (Mark.Break breaks) bytes.now n result.0 result.1 }
 {
     let mut at = bytes.len().saturating_sub(ahead(Mark::Break(breaks)));
-    let behind = marks_between(bytes, at, bytes.len(), Mark::Break(breaks));
-    if break_count - n <= behind {
-        return (at, behind - (break_count - n));
+    let following = marks_between(bytes, at, bytes.len(), Mark::Break(breaks));
+    if break_count - n <= following {
+        return (at, following - (break_count - n));
     }
     // `left` is the number of breaks from `n` on that begin before `at`.
-    let mut left = break_count - n - behind;
+    let mut left = break_count - n - following;
     while at >= 32 {
         let passed = marks_in(bytes, at - 32, Mark::Break(breaks));
         if left <= passed {

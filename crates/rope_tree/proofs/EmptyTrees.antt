@@ -11,10 +11,19 @@ use Rattle.rope_tree.proofs.LeafLaws.{leaves_le}
 
 -- a tree without text has no leaf, and is a single node
 pub no_leaves_of : (t : Tree) → IsTree t → byte_len (text t) ≡ 0 → t.leaves ≡ []
-no_leaves_of t i none = nil_from_length t.leaves (omega (arith, leaves_le t.leaves i.leaves.each, length-le-encodes (concat t.leaves)))
+no_leaves_of t i none =
+    nil_from_length t.leaves
+    (omega (arith, leaves_le t.leaves i.leaves.each, length-le-encodes (concat t.leaves)))
 
 pub lone_of_none : (t : Tree) → IsTree t → byte_len (text t) ≡ 0 → t.height ≡ 0
 lone_of_none t i none = elim (cases_lt 0 t.height) [
-  | inl l ↦ absurd (omega (arith, ap length (no_leaves_of t i none), i.least_leaves l, i.at_least_two l, mul-le-mul_right (12 ^ (t.height - 1)) (i.at_least_two l), one-le-pow (t.height - 1) 12 (omega arith)))
+  | inl l ↦ absurd (omega (
+    arith,
+    ap length (no_leaves_of t i none),
+    i.least_leaves l,
+    i.at_least_two l,
+    mul-le-mul_right (12 ^ (t.height - 1)) (i.at_least_two l),
+    one-le-pow (t.height - 1) 12 (omega arith),
+  ))
   | inr z ↦ omega arith
 ]

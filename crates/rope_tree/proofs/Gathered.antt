@@ -38,7 +38,10 @@ gathered_over [] many = absurd (omega arith)
 gathered_over (t ∷ []) many = absurd (omega arith)
 gathered_over (t ∷ u ∷ ts) many = refl
 
-pub gathered_tree : (breaks : LineBreaks) (w h : ℕ) (ts : List Tree) → 1 ≤ length ts → All (IsWide breaks w h) ts → (2 ≤ length ts → AreChildren (breaks_of ts) (height_of ts) ts) → IsTree (gathered ts)
+pub gathered_tree : (breaks : LineBreaks) (w h : ℕ) (ts : List Tree) → 1 ≤ length ts
+    → All (IsWide breaks w h) ts → (2 ≤ length ts → AreChildren (breaks_of ts) (height_of ts) ts)
+    → IsTree (gathered ts)
 gathered_tree breaks w h [] some each over = absurd (omega arith)
 gathered_tree breaks w h (t ∷ []) some each over = (All-head (IsWide breaks w h) t [] each).tree
-gathered_tree breaks w h (t ∷ u ∷ ts) some each over = is_tree_over _ _ (t ∷ u ∷ ts) (over (omega arith))
+gathered_tree breaks w h (t ∷ u ∷ ts) some each over =
+    is_tree_over _ _ (t ∷ u ∷ ts) (over (omega arith))

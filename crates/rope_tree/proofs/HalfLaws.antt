@@ -20,16 +20,24 @@ use Rattle.rope_tree.specs.Tree.{leaf_tree, IsTree}
 use Rattle.rope_tree.proofs.GrownLaws.{leaf_is_tree}
 
 -- a text that is split near its middle
-pub halves_at : (room : ℕ) (text front back : List ℕ) (cut : ℕ) → front ≡ take cut text → back ≡ drop cut text → IsUtf8 front → IsUtf8 back → is_cut text cut ≡ true
-    → 491 ≤ length front → 491 ≤ length back → length front + room ≤ 984 → length back + room ≤ 984 → cut ≤ length text → AreHalves room text front back
-halves_at room text front back cut front_is back_is front_utf8 back_utf8 is_cut front_least back_least front_room back_room within =
+pub halves_at : (room : ℕ) (text front back : List ℕ) (cut : ℕ) → front ≡ take cut text
+    → back ≡ drop cut text → IsUtf8 front → IsUtf8 back → is_cut text cut ≡ true
+    → 491 ≤ length front → 491 ≤ length back → length front + room ≤ 984 → length back + room ≤ 984
+    → cut ≤ length text → AreHalves room text front back
+halves_at room text front back cut front_is back_is front_utf8 back_utf8 is_cut front_least
+    back_least front_room back_room within =
     let first : length front ≡ cut = ap length front_is ∙ length-take-le cut text within in
-    let rest : length back + cut ≡ length text = omega (arith, ap length back_is, length-drop cut text) in
+    let rest : length back + cut ≡ length text =
+    omega (arith, ap length back_is, length-drop cut text) in
     record {
       front_utf8 = front_utf8;
       back_utf8 = back_utf8;
-      joined = sym (chars-append front back front_utf8) ∙ ap chars (ap₂ (λ a b. a ++ b) front_is back_is ∙ take-append-drop cut text);
-      apart = ap₂ parts_crlf (ap chars front_is) (ap chars back_is) ∙ apart_at_cut text cut (subst IsUtf8 front_is front_utf8) (subst IsUtf8 back_is back_utf8) (omega (arith, first, front_least)) (omega (arith, rest, back_least)) is_cut;
+      joined = sym (chars-append front back front_utf8)
+          ∙ ap chars (ap₂ (λ a b. a ++ b) front_is back_is ∙ take-append-drop cut text);
+      apart = ap₂ parts_crlf (ap chars front_is) (ap chars back_is)
+          ∙ apart_at_cut text cut (subst IsUtf8 front_is front_utf8)
+          (subst IsUtf8 back_is back_utf8) (omega (arith, first, front_least))
+          (omega (arith, rest, back_least)) is_cut;
       front_least = front_least;
       back_least = back_least;
       front_room = front_room;
@@ -44,28 +52,44 @@ module _ {room : ℕ} {text front back : List ℕ} (h : AreHalves room text fron
   pub back_bytes : byte_len (chars back) ≡ length back
   back_bytes = byte_len-chars back h.back_utf8
 
-  pub half_some : (0 < length (chars front)) × (0 < length (chars back)) × (parts_crlf (chars front) (chars back) ≡ false)
-  half_some = (has_chars front h.front_utf8 (omega (arith, h.front_least)), has_chars back h.back_utf8 (omega (arith, h.back_least)), h.apart)
+  pub half_some : (0 < length (chars front)) × (0 < length (chars back))
+      × (parts_crlf (chars front) (chars back) ≡ false)
+  half_some = (
+    has_chars front h.front_utf8 (omega (arith, h.front_least)),
+    has_chars back h.back_utf8 (omega (arith, h.back_least)),
+    h.apart,
+  )
 
   pub half_least : (491 ≤ byte_len (chars front)) × (491 ≤ byte_len (chars back))
   half_least = (omega (arith, front_bytes, h.front_least), omega (arith, back_bytes, h.back_least))
 
   pub front_tree : (breaks : LineBreaks) → IsTree (leaf_tree breaks (chars front))
-  front_tree breaks = leaf_is_tree breaks [] (chars front) (omega (arith, front_bytes, h.front_room)) (scalars-chars front h.front_utf8)
+  front_tree breaks =
+      leaf_is_tree breaks [] (chars front) (omega (arith, front_bytes, h.front_room))
+      (scalars-chars front h.front_utf8)
 
   pub back_tree : (breaks : LineBreaks) → IsTree (leaf_tree breaks (chars back))
-  back_tree breaks = leaf_is_tree breaks [] (chars back) (omega (arith, back_bytes, h.back_room)) (scalars-chars back h.back_utf8)
+  back_tree breaks =
+      leaf_is_tree breaks [] (chars back) (omega (arith, back_bytes, h.back_room))
+      (scalars-chars back h.back_utf8)
 
-  pub half_counts : (breaks : LineBreaks) (whole first : TextInfo) → whole ≡ info_of breaks (chars text) → first ≡ info_of breaks (chars front) → whole ≡ info_sum first (info_of breaks (chars back))
+  pub half_counts : (breaks : LineBreaks) (whole first : TextInfo)
+      → whole ≡ info_of breaks (chars text) → first ≡ info_of breaks (chars front)
+      → whole ≡ info_sum first (info_of breaks (chars back))
   half_counts breaks whole first whole_is first_is =
-      whole_is ∙ ap (info_of breaks) (sym h.joined) ∙ info_of-append_apart breaks (chars front) (chars back) h.apart ∙ ap (λ i. info_sum i (info_of breaks (chars back))) (sym first_is)
+      whole_is ∙ ap (info_of breaks) (sym h.joined)
+      ∙ info_of-append_apart breaks (chars front) (chars back) h.apart
+      ∙ ap (λ i. info_sum i (info_of breaks (chars back))) (sym first_is)
 
-pub in_front : (f b s : List ℕ) (at : ℕ) → at ≤ length f → inserted f at s ++ b ≡ inserted (f ++ b) at s
-in_front f b s at le = append_assoc (take at f ++ s) (drop at f) b ∙ ap₂ (λ x y. (x ++ s) ++ y) (sym (take-append-le at f b le)) (sym (drop-append-le at f b le))
+pub in_front : (f b s : List ℕ) (at : ℕ) → at ≤ length f
+    → inserted f at s ++ b ≡ inserted (f ++ b) at s
+in_front f b s at le = append_assoc (take at f ++ s) (drop at f) b
+    ∙ ap₂ (λ x y. (x ++ s) ++ y) (sym (take-append-le at f b le)) (sym (drop-append-le at f b le))
 
 pub in_back : (f b s : List ℕ) (k : ℕ) → f ++ inserted b k s ≡ inserted (f ++ b) (length f + k) s
 in_back f b s k =
-    sym (append_assoc f (take k b ++ s) (drop k b)) ∙ ap (λ x. x ++ drop k b) (sym (append_assoc f (take k b) s))
+    sym (append_assoc f (take k b ++ s) (drop k b))
+    ∙ ap (λ x. x ++ drop k b) (sym (append_assoc f (take k b) s))
     ∙ ap₂ (λ x y. (x ++ s) ++ y) (sym (take-append-add f b k)) (sym (drop-append-add f b k))
 
 of_rest : (p r b : List ℕ) → 1 ≤ length r → parts_crlf (p ++ r) b ≡ false → parts_crlf r b ≡ false
@@ -77,12 +101,16 @@ with_rest p [] b some apart = absurd (omega arith)
 with_rest p (c ∷ t) b some apart = parts_crlf-append p c t b ∙ apart
 
 -- inside of a half, the inserted text isn't at the seam
-pub front_seam : (f b s : List ℕ) (at : ℕ) → at < length f → parts_crlf f b ≡ false → parts_crlf (inserted f at s) b ≡ false
+pub front_seam : (f b s : List ℕ) (at : ℕ) → at < length f → parts_crlf f b ≡ false
+    → parts_crlf (inserted f at s) b ≡ false
 front_seam f b s at inside apart =
     let some : 1 ≤ length (drop at f) = omega (arith, length-drop at f) in
-    with_rest (take at f ++ s) (drop at f) b some (of_rest (take at f) (drop at f) b some (subst (λ x. parts_crlf x b ≡ false) (sym (take-append-drop at f)) apart))
+    with_rest (take at f ++ s) (drop at f) b some
+    (of_rest (take at f) (drop at f) b some
+    (subst (λ x. parts_crlf x b ≡ false) (sym (take-append-drop at f)) apart))
 
-pub back_seam : (f b s : List ℕ) (k : ℕ) → 1 ≤ k → k ≤ length b → parts_crlf f b ≡ false → parts_crlf f (inserted b k s) ≡ false
+pub back_seam : (f b s : List ℕ) (k : ℕ) → 1 ≤ k → k ≤ length b → parts_crlf f b ≡ false
+    → parts_crlf f (inserted b k s) ≡ false
 back_seam f [] s k some within apart = absurd (omega arith)
 back_seam f (c ∷ t) s zero some within apart = absurd (omega arith)
 back_seam f (c ∷ t) s (suc k) some within apart = apart

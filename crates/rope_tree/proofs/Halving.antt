@@ -56,30 +56,39 @@ half_room room c d (in2 e l) some less = one (omega arith) (omega arith)
 half_room room c d (one e l) some less = one (omega arith) (omega arith)
 
 -- the index sought is one of `room` indices from `base` on
-pub record Halves (totals : List TextInfo) (unit : Unit) (at base room : ℕ) (first now : Steps) : Type 0 where
+pub record Halves (totals : List TextInfo) (unit : Unit) (at base room : ℕ)
+    (first now : Steps) : Type 0 where
   pub inside : base < length totals
   pub counted : first.compares ≤ now.compares
   pub room_left : IsRoom room (now.compares - first.compares)
   pub unmoved : now.compares ≡ first.compares → base ≡ 0
   pub uncompared : now.compares ≡ first.compares → length totals ≤ room
   pub before : (d : TextInfo) → 0 < base → count_of unit (get_or totals (base - 1) d) ≤ at
-  pub past : (d : TextInfo) → at < count_of unit (get_or totals (min (base + room) (length totals) - 1) d)
+  pub past : (d : TextInfo)
+      → at < count_of unit (get_or totals (min (base + room) (length totals) - 1) d)
   pub nodes : now.nodes ≡ first.nodes
   pub made : now.made ≡ first.made
 
 -- one more comparison: the lower half remains, or the upper one
-module _ (totals : List TextInfo) (unit : Unit) (at base room next : ℕ) (first now later : Steps) (h : Halves totals unit at base room first now) (some : 1 < room) (within : base + room / 2 < length totals)
-    (d : TextInfo) (more : later.compares ≡ now.compares + 1) (nodes : later.nodes ≡ now.nodes) (made : later.made ≡ now.made) where
+module _ (totals : List TextInfo) (unit : Unit) (at base room next : ℕ) (first now later : Steps)
+    (h : Halves totals unit at base room first now) (some : 1 < room)
+    (within : base + room / 2 < length totals)
+    (d : TextInfo) (more : later.compares ≡ now.compares + 1) (nodes : later.nodes ≡ now.nodes)
+    (made : later.made ≡ now.made) where
   room_after : IsRoom (room / 2) (later.compares - first.compares)
-  room_after = half_room room (now.compares - first.compares) (later.compares - first.compares) h.room_left some (omega (arith, h.counted))
+  room_after =
+      half_room room (now.compares - first.compares) (later.compares - first.compares) h.room_left
+      some (omega (arith, h.counted))
 
   even : room ≡ room / 2 + room / 2
   even = two_halves room (now.compares - first.compares) h.room_left some
 
-  same : (e : TextInfo) → get_or totals (base + room / 2 - 1) d ≡ get_or totals (base + room / 2 - 1) e
+  same : (e : TextInfo) → get_or totals (base + room / 2 - 1) d
+      ≡ get_or totals (base + room / 2 - 1) e
   same e = get_or_default totals (base + room / 2 - 1) d e (omega arith)
 
-  pub passed : next ≡ base + room / 2 → count_of unit (get_or totals (base + room / 2 - 1) d) ≤ at → Halves totals unit at next (room / 2) first later
+  pub passed : next ≡ base + room / 2 → count_of unit (get_or totals (base + room / 2 - 1) d) ≤ at
+      → Halves totals unit at next (room / 2) first later
   passed is less = record {
     inside = omega arith;
     counted = omega (arith, h.counted);
@@ -87,20 +96,24 @@ module _ (totals : List TextInfo) (unit : Unit) (at base room next : ℕ) (first
     unmoved = λ e. absurd (omega (arith, h.counted));
     uncompared = λ e. absurd (omega (arith, h.counted));
     before = λ e some_base. (rw (is, ← same e) less);
-    past = λ e. subst (λ n. at < count_of unit (get_or totals (min n (length totals) - 1) e)) (omega (arith, even)) (h.past e);
+    past = λ e. subst (λ n. at < count_of unit (get_or totals (min n (length totals) - 1) e))
+        (omega (arith, even)) (h.past e);
     nodes = nodes ∙ h.nodes;
     made = made ∙ h.made;
   }
 
-  pub stopped : next ≡ base → at < count_of unit (get_or totals (base + room / 2 - 1) d) → Halves totals unit at next (room / 2) first later
+  pub stopped : next ≡ base → at < count_of unit (get_or totals (base + room / 2 - 1) d)
+      → Halves totals unit at next (room / 2) first later
   stopped is more_there = record {
     inside = omega (arith, h.inside);
     counted = omega (arith, h.counted);
     room_left = room_after;
     unmoved = λ e. absurd (omega (arith, h.counted));
     uncompared = λ e. absurd (omega (arith, h.counted));
-    before = λ e some_base. subst (λ n. count_of unit (get_or totals (n - 1) e) ≤ at) (sym is) (h.before e (omega arith));
-    past = λ e. subst (λ n. at < count_of unit (get_or totals n e)) (omega arith) (subst (λ x. at < count_of unit x) (same e) more_there);
+    before = λ e some_base. subst (λ n. count_of unit (get_or totals (n - 1) e) ≤ at) (sym is)
+        (h.before e (omega arith));
+    past = λ e. subst (λ n. at < count_of unit (get_or totals n e)) (omega arith)
+        (subst (λ x. at < count_of unit x) (same e) more_there);
     nodes = nodes ∙ h.nodes;
     made = made ∙ h.made;
   }

@@ -15,7 +15,8 @@ use Rattle.rope_tree.specs.Counted.{AreWithin}
 use Rattle.rope_tree.specs.Search.{IsSmall}
 
 -- the counts of a text of at most isize::MAX bytes
-pub small_info : (breaks : LineBreaks) (text : List ℕ) → byte_len text < 2 ^ 63 → IsSmall (info_of breaks text)
+pub small_info : (breaks : LineBreaks) (text : List ℕ) → byte_len text < 2 ^ 63
+    → IsSmall (info_of breaks text)
 small_info breaks text fits = record {
   bytes = fits;
   chars = length-le-encodes text;
@@ -54,18 +55,33 @@ four_bytes : (c : ℕ) → 4 * cond (nat_le 65536 c) 1 0 ≤ length (encode_utf8
 unfolding encode_utf8
 four_bytes c =
     let P : List ℕ → Type 0 = λ bs. 4 * cond (nat_le 65536 c) 1 0 ≤ length bs in
-    cond_both (nat_lt c 128) _ _ P (λ e. let h = ltb-true c 128 e in rw (lt-leb 65536 c (omega arith)) (omega arith))
-    (λ _. cond_both (nat_lt c 2048) _ _ P (λ e. let h = ltb-true c 2048 e in rw (lt-leb 65536 c (omega arith)) (omega arith))
-    (λ _. cond_both (nat_lt c 65536) _ _ P (λ e. let h = ltb-true c 65536 e in rw (lt-leb 65536 c h) (omega arith))
+    cond_both (nat_lt c 128) _ _ P (λ e. let h = ltb-true c 128 e in
+    rw (lt-leb 65536 c (omega arith)) (omega arith))
+    (λ _. cond_both (nat_lt c 2048) _ _ P (λ e. let h = ltb-true c 2048 e in
+    rw (lt-leb 65536 c (omega arith)) (omega arith))
+    (λ _. cond_both (nat_lt c 65536) _ _ P (λ e. let h = ltb-true c 65536 e in
+    rw (lt-leb 65536 c h) (omega arith))
     (λ e. let h = ltb-false c 65536 e in rw (le-leb 65536 c h) (omega arith))))
 
 pub pairs_in_bytes : (text : List ℕ) → 4 * surrogate_count text ≤ byte_len text
 pairs_in_bytes [] = omega arith
 pairs_in_bytes (c ∷ cs) =
-    omega (arith, length-append (encode_utf8 c) (encode_utf8_all cs), four_bytes c, pairs_in_bytes cs, sum_by-append (λ c. cond (nat_le 65536 c) 1 0) (c ∷ []) cs)
+    omega (
+      arith,
+      length-append (encode_utf8 c) (encode_utf8_all cs),
+      four_bytes c,
+      pairs_in_bytes cs,
+      sum_by-append (λ c. cond (nat_le 65536 c) 1 0) (c ∷ []) cs,
+    )
 
-pub info_within : (breaks : LineBreaks) (text : List ℕ) (most : ℕ) → byte_len text ≤ most → AreWithin most (info_of breaks text)
+pub info_within : (breaks : LineBreaks) (text : List ℕ) (most : ℕ) → byte_len text ≤ most
+    → AreWithin most (info_of breaks text)
 info_within breaks text most fits =
     let chars = length-le-encodes text in
     let few = break_count-le-length breaks text in
-    record { chars = omega (arith, chars, fits); pairs = omega (arith, pairs_in_bytes text, fits); breaks = omega (arith, chars, few, fits); bytes = fits }
+    record {
+      chars = omega (arith, chars, fits);
+      pairs = omega (arith, pairs_in_bytes text, fits);
+      breaks = omega (arith, chars, few, fits);
+      bytes = fits;
+    }

@@ -37,14 +37,17 @@ module _ (p c n s : List ℕ) (i at : ℕ) (place : at ≡ length p + i) (within
   rest_of = rw (place, drop-append-add p (c ++ n) i) (drop-append-le i c n within)
 
   pub front_of : take at (p ++ (c ++ n)) ≡ p ++ take i c
-  front_of = rw (place, take-append-add p (c ++ n) i) (ap (λ x. p ++ x) (take-append-le i c n within))
+  front_of =
+      rw (place, take-append-add p (c ++ n) i) (ap (λ x. p ++ x) (take-append-le i c n within))
 
   -- the whole text with the inserted one
-  pub text_of : p ++ ((take i c ++ (s ++ drop i c)) ++ n) ≡ take at (p ++ (c ++ n)) ++ (s ++ drop at (p ++ (c ++ n)))
+  pub text_of : p ++ ((take i c ++ (s ++ drop i c)) ++ n) ≡ take at (p ++ (c ++ n))
+      ++ (s ++ drop at (p ++ (c ++ n)))
   text_of = rw (front_of, rest_of) (simp append_assoc)
 
   -- to the left of a seam
-  module _ (some : 1 ≤ length s) (right_seam : IsSeam c n) (may : IsSeam s (drop at (p ++ (c ++ n)))) where
+  module _ (some : 1 ≤ length s) (right_seam : IsSeam c n)
+      (may : IsSeam s (drop at (p ++ (c ++ n)))) where
     s_rest : IsSeam s (drop i c ++ n)
     s_rest = subst (IsSeam s) rest_of may
 
@@ -62,26 +65,37 @@ module _ (p c n s : List ℕ) (i at : ℕ) (place : at ≡ length p + i) (within
       where
         end_kept : 1 ≤ length (drop i c) → IsSeam (take i c ++ (s ++ drop i c)) n
         end_kept more =
-            let t : IsSeam (drop i c) n = seam_of_right (take i c) (drop i c) n (rw take-append-drop right_seam) in
-            seam_ends (take i c) (s ++ drop i c) n (omega (arith, length-append s (drop i c))) (seam_ends s (drop i c) n more t)
+            let t : IsSeam (drop i c) n =
+            seam_of_right (take i c) (drop i c) n (rw take-append-drop right_seam) in
+            seam_ends (take i c) (s ++ drop i c) n (omega (arith, length-append s (drop i c)))
+            (seam_ends s (drop i c) n more t)
 
   -- to the right of a seam, before an LF
   module _ (right_seam : IsSeam c n) (inside : i < length c) where
     pub right_after : IsSeam (take i c ++ (s ++ drop i c)) n
     right_after =
         let more : 1 ≤ length (drop i c) = omega (arith, length-drop i c) in
-        let t : IsSeam (drop i c) n = seam_of_right (take i c) (drop i c) n (rw take-append-drop right_seam) in
-        seam_ends (take i c) (s ++ drop i c) n (omega (arith, length-append s (drop i c))) (seam_ends s (drop i c) n more t)
+        let t : IsSeam (drop i c) n =
+        seam_of_right (take i c) (drop i c) n (rw take-append-drop right_seam) in
+        seam_ends (take i c) (s ++ drop i c) n (omega (arith, length-append s (drop i c)))
+        (seam_ends s (drop i c) n more t)
 
-    pub right_child : begins_with_lf (drop at (p ++ (c ++ n))) ≡ true → begins_with_lf (drop i c) ≡ true
-    right_child lf = sym (begins_append (drop i c) n (omega (arith, length-drop i c))) ∙ ap begins_with_lf (sym rest_of) ∙ lf
+    pub right_child : begins_with_lf (drop at (p ++ (c ++ n))) ≡ true
+        → begins_with_lf (drop i c) ≡ true
+    right_child lf = sym (begins_append (drop i c) n (omega (arith, length-drop i c)))
+        ∙ ap begins_with_lf (sym rest_of) ∙ lf
 
   -- the seam before, if the inserted text isn't first
   pub before_inside : IsSeam p c → 1 ≤ i → IsSeam p (take i c ++ (s ++ drop i c))
-  before_inside seam some = seam_begins p (take i c) (s ++ drop i c) (omega (arith, length-take-le i c within)) (seam-take i p c seam)
+  before_inside seam some =
+      seam_begins p (take i c) (s ++ drop i c) (omega (arith, length-take-le i c within))
+      (seam-take i p c seam)
 
   -- the seam before, if the inserted text is before an LF
-  pub before_lf : IsSeam p c → i ≡ 0 → 1 ≤ length c → begins_with_lf (drop at (p ++ (c ++ n))) ≡ true → (r : List ℕ) → IsSeam p r
+  pub before_lf : IsSeam p c → i ≡ 0 → 1 ≤ length c
+      → begins_with_lf (drop at (p ++ (c ++ n))) ≡ true → (r : List ℕ) → IsSeam p r
   before_lf seam none some lf r =
-      let first : begins_with_lf c ≡ true = sym (begins_append c n some) ∙ ap (λ j. begins_with_lf (drop j c ++ n)) (sym none) ∙ ap begins_with_lf (sym rest_of) ∙ lf in
+      let first : begins_with_lf c ≡ true = sym (begins_append c n some)
+      ∙ ap (λ j. begins_with_lf (drop j c ++ n)) (sym none) ∙ ap begins_with_lf (sym rest_of)
+      ∙ lf in
       no_cr p r (first_false (ends_in_cr p) (begins_with_lf c) seam.apart first)

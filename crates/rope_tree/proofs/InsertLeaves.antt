@@ -15,7 +15,8 @@ use Rattle.rope_tree.proofs.LeafLaws.{leaves-append}
 use Rattle.rope_tree.proofs.StandLaws.{one_leaf_is, leaf_stands, leaves_stand}
 use Rattle.rope_tree.proofs.NodeLaws.{leaf_text, joined_one}
 
-pub wide_leaf : (breaks : LineBreaks) (w : ℕ) (x : Tree) (leaf : List ℕ) → x ≡ leaf_tree breaks leaf → IsTree x → 1 ≤ length leaf → IsWide breaks w 0 x
+pub wide_leaf : (breaks : LineBreaks) (w : ℕ) (x : Tree) (leaf : List ℕ) → x ≡ leaf_tree breaks leaf
+    → IsTree x → 1 ≤ length leaf → IsWide breaks w 0 x
 wide_leaf breaks w x [] is tree some = absurd (omega arith)
 wide_leaf breaks w x (c ∷ cs) is tree some = record {
   same_breaks = ap (λ u. u.breaks) is;
@@ -25,17 +26,22 @@ wide_leaf breaks w x (c ∷ cs) is tree some = record {
   tree = tree;
 }
 
-pub text_of_leaf : (breaks : LineBreaks) (x : Tree) (leaf : List ℕ) → x ≡ leaf_tree breaks leaf → text x ≡ leaf
+pub text_of_leaf : (breaks : LineBreaks) (x : Tree) (leaf : List ℕ) → x ≡ leaf_tree breaks leaf
+    → text x ≡ leaf
 text_of_leaf breaks x leaf is = ap text is ∙ leaf_text leaf
 
-pub one_inserted : (breaks : LineBreaks) (old leaf new : List ℕ) (x : Tree) → x ≡ leaf_tree breaks leaf → IsTree x → leaf ≡ new → 1 ≤ length new → byte_len old ≤ byte_len new → IsInserted (leaf_tree breaks old) (x ∷ []) new
+pub one_inserted : (breaks : LineBreaks) (old leaf new : List ℕ) (x : Tree)
+    → x ≡ leaf_tree breaks leaf → IsTree x → leaf ≡ new → 1 ≤ length new
+    → byte_len old ≤ byte_len new → IsInserted (leaf_tree breaks old) (x ∷ []) new
 one_inserted breaks old leaf new x is tree same some longer =
     let w = wide_leaf breaks (min 12 0) x leaf is tree (omega (arith, ap length same)) in
-    let flat : leaves_of (x ∷ []) ≡ one_leaf new = append-nil x.leaves ∙ ap (λ u. u.leaves) is ∙ ap one_leaf same in
+    let flat : leaves_of (x ∷ []) ≡ one_leaf new = append-nil x.leaves ∙ ap (λ u. u.leaves) is
+    ∙ ap one_leaf same in
     record {
       text_is = joined_one x ∙ text_of_leaf breaks x leaf is ∙ same;
       leaves = rw append-nil tree.leaves;
-      stand = λ there. subst (StandFor 491 491 (one_leaf old)) (sym flat) (leaf_stands 491 491 old new some (omega (arith, longer)) (omega (arith, longer)) there);
+      stand = λ there. subst (StandFor 491 491 (one_leaf old)) (sym flat)
+          (leaf_stands 491 491 old new some (omega (arith, longer)) (omega (arith, longer)) there);
       parts = record {
         some = omega arith;
         at_most_two = omega arith;
@@ -45,8 +51,12 @@ one_inserted breaks old leaf new x is tree same some longer =
       };
     }
 
-pub two_inserted : (breaks : LineBreaks) (old front back new : List ℕ) (x y : Tree) → x ≡ leaf_tree breaks front → y ≡ leaf_tree breaks back → IsTree x → IsTree y → front ++ back ≡ new
-    → (0 < length front) × (0 < length back) × (parts_crlf front back ≡ false) → (491 ≤ byte_len front) × (491 ≤ byte_len back) → IsInserted (leaf_tree breaks old) (x ∷ y ∷ []) new
+pub two_inserted : (breaks : LineBreaks) (old front back new : List ℕ) (x y : Tree)
+    → x ≡ leaf_tree breaks front → y ≡ leaf_tree breaks back → IsTree x → IsTree y
+    → front ++ back ≡ new
+    → (0 < length front) × (0 < length back) × (parts_crlf front back ≡ false)
+    → (491 ≤ byte_len front) × (491 ≤ byte_len back)
+    → IsInserted (leaf_tree breaks old) (x ∷ y ∷ []) new
 two_inserted breaks old front back new x y is_x is_y tree_x tree_y same some halves =
     let wx = wide_leaf breaks (min 12 0) x front is_x tree_x some.0 in
     let wy = wide_leaf breaks (min 12 0) y back is_y tree_y some.1 in
@@ -58,18 +68,24 @@ two_inserted breaks old front back new x y is_x is_y tree_x tree_y same some hal
     let first : x.leaves ≡ front ∷ [] = ap (λ u. u.leaves) is_x ∙ one_leaf_is front some.0 in
     let second : y.leaves ≡ back ∷ [] = ap (λ u. u.leaves) is_y ∙ one_leaf_is back some.1 in
     let two : x.leaves ++ y.leaves ≡ front ∷ back ∷ [] = ap₂ (λ xs ys. xs ++ ys) first second in
-    let dense : AreDense (x.leaves ++ y.leaves) = rw two (omega arith, (omega (arith, halves.0, halves.1), tt)) in
-    let both : AreLeaves (x.leaves ++ y.leaves) = leaves-append x.leaves y.leaves tree_x.leaves tree_y.leaves seam dense in
-    let flat : leaves_of (x ∷ y ∷ []) ≡ x.leaves ++ y.leaves = ap (λ ls. x.leaves ++ ls) (append-nil y.leaves) in
+    let dense : AreDense (x.leaves ++ y.leaves) =
+    rw two (omega arith, (omega (arith, halves.0, halves.1), tt)) in
+    let both : AreLeaves (x.leaves ++ y.leaves) =
+    leaves-append x.leaves y.leaves tree_x.leaves tree_y.leaves seam dense in
+    let flat : leaves_of (x ∷ y ∷ []) ≡ x.leaves ++ y.leaves =
+    ap (λ ls. x.leaves ++ ls) (append-nil y.leaves) in
     record {
       text_is = ap concat flat ∙ concat-append x.leaves y.leaves ∙ (rw (tx, ty) same);
       leaves = rw append-nil both;
-      stand = λ there. leaves_stand old front back (leaves_of (x ∷ y ∷ [])) (flat ∙ two) halves.0 halves.1 there;
+      stand = λ there. leaves_stand old front back (leaves_of (x ∷ y ∷ [])) (flat ∙ two) halves.0
+          halves.1 there;
       parts = record {
         some = omega arith;
         at_most_two = omega arith;
-        each = All-cons (IsWide breaks (min 12 0) 0) x (y ∷ []) wx (All-cons (IsWide breaks (min 12 0) 0) y [] wy (All-nil (IsWide breaks (min 12 0) 0)));
-        two = λ _. All-cons (IsWide breaks 12 0) x (y ∷ []) vx (All-cons (IsWide breaks 12 0) y [] vy (All-nil (IsWide breaks 12 0)));
+        each = All-cons (IsWide breaks (min 12 0) 0) x (y ∷ []) wx
+            (All-cons (IsWide breaks (min 12 0) 0) y [] wy (All-nil (IsWide breaks (min 12 0) 0)));
+        two = λ _. All-cons (IsWide breaks 12 0) x (y ∷ []) vx
+            (All-cons (IsWide breaks 12 0) y [] vy (All-nil (IsWide breaks 12 0)));
         full = λ _ p. absurd (omega arith);
       };
     }

@@ -28,7 +28,7 @@ pub mod Infos
 pub mod NodeLaws
 pub mod SiblingLaws
 pub mod Descents
-pub mod OnTheWay
+pub mod LookupDescent
 pub mod FoundLaws
 pub mod ConvertedLaws
 pub mod InsertLaws

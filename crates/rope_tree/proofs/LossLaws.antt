@@ -7,17 +7,17 @@ use Rattle.rope_text.specs.declared.text_info.TextInfo.{TextInfo}
 use Rattle.rope_text.specs.Text.{byte_len}
 use Rattle.rope_text.specs.TextInfo.{info_of, info_sum, HasPart}
 use Rattle.rope_text.specs.Edit.{removed}
-use Rattle.rope_text.specs.Dense.{IsDenseBehind, last_bytes}
-use Rattle.rope_text.proofs.DenseLaws.{dense_behind_fewer}
+use Rattle.rope_text.specs.Dense.{IsDenseAfter, last_bytes}
+use Rattle.rope_text.proofs.DenseLaws.{dense_after_fewer}
 use Rattle.rope_text.proofs.Measures.{IsMeasure-byte_len}
-use Rattle.rope_tree.specs.Leaves.{StandFor, IsEnoughBehind, IsEnoughAhead}
+use Rattle.rope_tree.specs.Leaves.{StandFor, IsEnoughAfter, IsEnoughAhead}
 use Rattle.rope_tree.specs.Tree.{Tree, text, joined, leaves_of, height_of, breaks_of, IsChild, AreChildren}
 use Rattle.rope_tree.specs.Totals.{HasTotals}
 use Rattle.rope_tree.specs.Narrow.{AreNarrow, FitsWith}
 use Rattle.rope_tree.specs.Change.{IsChange}
 use Rattle.rope_tree.specs.Removal.{IsRemoved, AreRemoved}
 use Rattle.rope_tree.proofs.NodeLaws.{child_at, joined_more}
-use Rattle.rope_tree.proofs.BesideLaws.{leaf_next_behind, leaf_next_ahead}
+use Rattle.rope_tree.proofs.BesideLaws.{leaf_next_after, leaf_next_ahead}
 use Rattle.rope_tree.proofs.ChangeLaws.{part_of_part, part_fits, whole_changed, change_by, change_own, change_of_list}
 use Rattle.rope_tree.proofs.InsertDescents.{last_total}
 use Rattle.rope_tree.proofs.TotalLaws.{has_part, fits_after}
@@ -28,7 +28,7 @@ module _ (ts : List Tree) (k : ℕ) (c u : Tree) (i j start end : ℕ)
     (a : AreChildren (breaks_of ts) (height_of ts) ts) (lt : k < length ts)
     (here : get_or ts k c ≡ c)
     (held : Holds ts k c i j start end) (wanted ahead low high : ℕ) (r : IsRemoved low high c u i j)
-    (enough : IsEnoughBehind wanted low (leaves_of (take k ts)))
+    (enough : IsEnoughAfter wanted low (leaves_of (take k ts)))
     (more : IsEnoughAhead ahead high (leaves_of (drop (k + 1) ts))) where
   own : IsChild (breaks_of ts) (height_of ts) c
   own = child_at (breaks_of ts) (height_of ts) ts k c a lt here
@@ -151,15 +151,15 @@ module _ (br : LineBreaks) (ts : List Tree) (k : ℕ) (c : Tree) (a : AreChildre
           is,
           less,
           own_bytes,
-          leaf_next_behind br 0 ts k a lt refl before total (min (492 - (total - before)) 491) refl
+          leaf_next_after br 0 ts k a lt refl before total (min (492 - (total - before)) 491) refl
               refl refl m,
         )
 
-    pub enough_before : IsDenseBehind least (leaves_of (drop k ts))
+    pub enough_before : IsDenseAfter least (leaves_of (drop k ts))
     enough_before =
         let few : ℕ = min (492 - (total - before)) 491 in
         let dense = leaf_next_ahead br 0 ts k a lt refl before total few refl refl refl in
-        dense_behind_fewer few few least (leaves_of (drop k ts)) (omega (arith, is, less, own_bytes))
+        dense_after_fewer few few least (leaves_of (drop k ts)) (omega (arith, is, less, own_bytes))
         dense dense
 
 -- two overwritten entries of a list, each in a slice of it

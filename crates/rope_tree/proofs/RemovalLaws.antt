@@ -12,7 +12,7 @@ use Rattle.rope_text.proofs.Measures.{IsMeasure-byte_len, size_le}
 use Rattle.rope_text.proofs.CuttingLaws.{concat-append}
 use Rattle.rope_text.specs.Dense.{AreDense, last_bytes}
 use Rattle.rope_text.proofs.DenseLaws.{dense_alone, dense_right}
-use Rattle.rope_tree.specs.Leaves.{AreLeaves, IsSeam, StandFor, IsEnoughBehind, IsEnoughAhead}
+use Rattle.rope_tree.specs.Leaves.{AreLeaves, IsSeam, StandFor, IsEnoughAfter, IsEnoughAhead}
 use Rattle.rope_tree.specs.Tree.{Tree, text, joined, one_leaf, leaf_tree, leaves_of, height_of, breaks_of, tree_over, IsTree, IsChild, AreChildren}
 use Rattle.rope_tree.specs.Totals.{HasTotals}
 use Rattle.rope_tree.specs.Removal.{KeepsEnds, IsRemoved, AreRemoved}
@@ -37,7 +37,8 @@ byte_len-removed xs a b order =
     )
 
 -- with as many leaves under as many nodes, the result is a tree
-pub tree_removed : (first last : ℕ) (old new : Tree) (a b : ℕ) → a ≤ b → IsTree old → IsRemoved first last old new a b → IsTree new
+pub tree_removed : (first last : ℕ) (old new : Tree) (a b : ℕ) → a ≤ b → IsTree old
+    → IsRemoved first last old new a b → IsTree new
 tree_removed first last old new a b order t r = record {
   lone = λ z. omega (arith, t.lone (omega (arith, r.same_height)), r.as_many);
   at_least_two = λ p. omega (arith, t.at_least_two (omega (arith, r.same_height)), r.same_width);
@@ -48,7 +49,8 @@ tree_removed first last old new a b order t r = record {
   fits = omega (arith, ap byte_len r.text_is, byte_len-removed (text old) a b order, t.fits);
 }
 
-pub child_removed : (first last : ℕ) (br : LineBreaks) (h : ℕ) (old new : Tree) (a b : ℕ) → a ≤ b → IsChild br h old → IsRemoved first last old new a b → IsChild br h new
+pub child_removed : (first last : ℕ) (br : LineBreaks) (h : ℕ) (old new : Tree) (a b : ℕ) → a ≤ b
+    → IsChild br h old → IsRemoved first last old new a b → IsChild br h new
 child_removed first last br h old new a b order c r = record {
   same_breaks = r.same_breaks ∙ c.same_breaks;
   at_height = r.same_height ∙ c.at_height;
@@ -58,7 +60,8 @@ child_removed first last br h old new a b order c r = record {
 }
 
 -- characters of the second of three texts
-module _ (p c n : List ℕ) (i j start end : ℕ) (first : start ≡ length p + i) (last : end ≡ length p + j) (order : i ≤ j) (within : j ≤ length c) where
+module _ (p c n : List ℕ) (i j start end : ℕ) (first : start ≡ length p + i)
+    (last : end ≡ length p + j) (order : i ≤ j) (within : j ≤ length c) where
   front_is : take start (p ++ (c ++ n)) ≡ p ++ take i c
   front_is = front_of p c n [] i start first (omega arith)
 
@@ -76,15 +79,26 @@ pub record Holds (ts : List Tree) (k : ℕ) (c : Tree) (i j start end : ℕ) : T
   pub within : j ≤ length (text c)
 
 -- the child that contains the start also contains the end, by its total
-pub holds : (ts : List Tree) (k : ℕ) (c : Tree) (i start end : ℕ) (totals : List TextInfo) (d : TextInfo)
-    → Takes ts k c start i true → HasTotals (breaks_of ts) totals ts → start < end → end ≤ (get_or totals k d).chars → Holds ts k c i (end - (start - i)) start end
-holds ts k c i start end totals d way h order le =
-    let total = ap (λ x. x.chars) (h.total_at k d way.within ∙ more_at (breaks_of ts) (height_of ts) ts k c way.children way.within way.child_is) in
-    let place = way.place in
-    record { first = place; last = omega arith; order = omega arith; within = omega (arith, total, place, le, order) }
+pub holds : (ts : List Tree) (k : ℕ) (c : Tree) (i start end : ℕ) (totals : List TextInfo)
+    (d : TextInfo)
+    → Takes ts k c start i true → HasTotals (breaks_of ts) totals ts → start < end
+    → end ≤ (get_or totals k d).chars → Holds ts k c i (end - (start - i)) start end
+holds ts k c i start end totals d descent h order le =
+    let total =
+    ap (λ x. x.chars) (h.total_at k d descent.within
+    ∙ more_at (breaks_of ts) (height_of ts) ts k c descent.children descent.within
+    descent.child_is) in
+    let place = descent.place in
+    record {
+      first = place;
+      last = omega arith;
+      order = omega arith;
+      within = omega (arith, total, place, le, order);
+    }
 
 -- a child without some characters, in place of the old one
-module _ (br : LineBreaks) (h : ℕ) (ts : List Tree) (k : ℕ) (c : Tree) (a : AreChildren br h ts) (lt : k < length ts) (here : get_or ts k c ≡ c)
+module _ (br : LineBreaks) (h : ℕ) (ts : List Tree) (k : ℕ) (c : Tree) (a : AreChildren br h ts)
+    (lt : k < length ts) (here : get_or ts k c ≡ c)
     (i j start end : ℕ) (held : Holds ts k c i j start end) where
   before : i ≤ j
   before = omega (arith, held.order)
@@ -95,10 +109,11 @@ module _ (br : LineBreaks) (h : ℕ) (ts : List Tree) (k : ℕ) (c : Tree) (a : 
   abbrev right : List (List ℕ)
   right = leaves_of (drop (k + 1) ts)
 
-  parted : joined ts ≡ joined (take k ts) ++ (text c ++ joined (drop (k + 1) ts))
-  parted = text_around br h ts k c a lt here
+  split_is : joined ts ≡ joined (take k ts) ++ (text c ++ joined (drop (k + 1) ts))
+  split_is = text_around br h ts k c a lt here
 
-  module _ (wanted ahead low high : ℕ) (u : Tree) (r : IsRemoved low high c u i j) (enough : IsEnoughBehind wanted low left) (more : IsEnoughAhead ahead high right) where
+  module _ (wanted ahead low high : ℕ) (u : Tree) (r : IsRemoved low high c u i j)
+      (enough : IsEnoughAfter wanted low left) (more : IsEnoughAhead ahead high right) where
     own : IsChild br h c
     own = child_at br h ts k c a lt here
 
@@ -106,7 +121,8 @@ module _ (br : LineBreaks) (h : ℕ) (ts : List Tree) (k : ℕ) (c : Tree) (a : 
     some_text = omega (arith, own.some, r.as_many, leaves_le u.leaves r.leaves.each)
 
     new_leaves : leaves_of (set ts k u) ≡ left ++ (u.leaves ++ right)
-    new_leaves = ap leaves_of (set_parts ts k u lt) ∙ leaves_of-append (take k ts) (u ∷ drop (k + 1) ts)
+    new_leaves = ap leaves_of (set_parts ts k u lt)
+        ∙ leaves_of-append (take k ts) (u ∷ drop (k + 1) ts)
 
     old_leaves : leaves_of ts ≡ left ++ (c.leaves ++ right)
     old_leaves = around_child br h ts k c a lt here
@@ -116,30 +132,45 @@ module _ (br : LineBreaks) (h : ℕ) (ts : List Tree) (k : ℕ) (c : Tree) (a : 
 
     new_text : joined (set ts k u) ≡ removed (joined ts) start end
     new_text =
-        ap concat new_leaves ∙ concat-append left (u.leaves ++ right) ∙ ap (λ x. concat left ++ x) below
-        ∙ removed_middle (joined (take k ts)) (text c) (joined (drop (k + 1) ts)) i j start end held.first held.last before held.within ∙ ap (λ x. removed x start end) (sym parted)
+        ap concat new_leaves ∙ concat-append left (u.leaves ++ right)
+        ∙ ap (λ x. concat left ++ x) below
+        ∙ removed_middle (joined (take k ts)) (text c) (joined (drop (k + 1) ts)) i j start end
+        held.first held.last before held.within ∙ ap (λ x. removed x start end) (sym split_is)
 
     new_ends : KeepsEnds (joined ts) (joined (set ts k u))
     new_ends =
-        let now : joined (set ts k u) ≡ concat left ++ (text u ++ concat right) = ap concat new_leaves ∙ concat-append left (u.leaves ++ right) ∙ ap (λ x. concat left ++ x) (concat-append u.leaves right) in
-        rw (parted, now) (ends_around (concat left) (text c) (text u) (concat right) some_text r.ends)
+        let now : joined (set ts k u) ≡ concat left ++ (text u ++ concat right) =
+        ap concat new_leaves ∙ concat-append left (u.leaves ++ right)
+        ∙ ap (λ x. concat left ++ x) (concat-append u.leaves right) in
+        rw (split_is, now) (ends_around (concat left) (text c) (text u) (concat right) some_text
+        r.ends)
 
     new_stand : StandFor wanted ahead (leaves_of ts) (leaves_of (set ts k u))
     new_stand =
         subst (λ xs. StandFor wanted ahead xs (leaves_of (set ts k u))) (sym old_leaves)
-        (subst (StandFor wanted ahead (left ++ (c.leaves ++ right))) (sym new_leaves) (stand_between wanted ahead low high left c.leaves u.leaves right enough more r.stand))
+        (subst (StandFor wanted ahead (left ++ (c.leaves ++ right))) (sym new_leaves)
+        (stand_between wanted ahead low high left c.leaves u.leaves right enough more r.stand))
 
     are_leaves : AreLeaves (leaves_of (set ts k u))
     are_leaves =
-        let dense = subst (λ xs. AreDense xs) new_leaves (new_stand.after 492 (omega arith) a.leaves.dense) in
-        let behind = dense_alone (last_bytes 492 left) (u.leaves ++ right) (dense_right 492 left (u.leaves ++ right) dense) in
+        let dense =
+        subst (λ xs. AreDense xs) new_leaves (new_stand.after 492 (omega arith) a.leaves.dense) in
+        let following =
+        dense_alone (last_bytes 492 left) (u.leaves ++ right)
+        (dense_right 492 left (u.leaves ++ right) dense) in
         let old : AreLeaves (left ++ (c.leaves ++ right)) = subst AreLeaves old_leaves a.leaves in
         let front : AreLeaves left = leaves_left left (c.leaves ++ right) old in
-        let back : AreLeaves right = leaves_right c.leaves right (leaves_right left (c.leaves ++ right) old) in
-        let seam_right : IsSeam (text u) (concat right) = r.ends.after (concat right) (seam_after br h ts k c a lt here) in
+        let back : AreLeaves right =
+        leaves_right c.leaves right (leaves_right left (c.leaves ++ right) old) in
+        let seam_right : IsSeam (text u) (concat right) =
+        r.ends.after (concat right) (seam_after br h ts k c a lt here) in
         let seam_left : IsSeam (concat left) (concat (u.leaves ++ right)) =
-        subst (IsSeam (concat left)) (sym (concat-append u.leaves right)) (seam_begins (concat left) (text u) (concat right) some_text (r.ends.before (concat left) (seam_before br h ts k c a lt here))) in
-        subst AreLeaves (sym new_leaves) (leaves-append left (u.leaves ++ right) front (leaves-append u.leaves right r.leaves back seam_right behind) seam_left dense)
+        subst (IsSeam (concat left)) (sym (concat-append u.leaves right))
+        (seam_begins (concat left) (text u) (concat right) some_text
+        (r.ends.before (concat left) (seam_before br h ts k c a lt here))) in
+        subst AreLeaves (sym new_leaves)
+        (leaves-append left (u.leaves ++ right) front
+        (leaves-append u.leaves right r.leaves back seam_right following) seam_left dense)
 
     new_children : AreChildren br h (set ts k u)
     new_children =
@@ -147,27 +178,48 @@ module _ (br : LineBreaks) (h : ℕ) (ts : List Tree) (k : ℕ) (c : Tree) (a : 
         record {
           at_least_two = omega (arith, many, a.at_least_two);
           at_most_24 = omega (arith, many, a.at_most_24);
-          each = All-set (IsChild br h) ts k u (child_removed low high br h c u i j before own r) a.each;
+          each = All-set (IsChild br h) ts k u (child_removed low high br h c u i j before own r)
+              a.each;
           leaves = are_leaves;
-          fits = omega (arith, ap byte_len new_text, byte_len-removed (joined ts) start end (omega (arith, held.first, held.last, before)), a.fits);
+          fits = omega (
+            arith,
+            ap byte_len new_text,
+            byte_len-removed (joined ts) start end (omega (arith, held.first, held.last, before)),
+            a.fits,
+          );
         }
 
-    pub children_removed : br ≡ breaks_of ts → h ≡ height_of ts → AreRemoved wanted ahead ts (set ts k u) start end
+    pub children_removed : br ≡ breaks_of ts → h ≡ height_of ts
+        → AreRemoved wanted ahead ts (set ts k u) start end
     children_removed br_is h_is = record {
       text_is = new_text;
       ends = new_ends;
       as_many = length-set ts k u;
-      as_many_leaves = omega (arith, ap length new_leaves, ap length old_leaves, length-append left (u.leaves ++ right), length-append left (c.leaves ++ right), length-append u.leaves right, length-append c.leaves right, r.as_many);
+      as_many_leaves =
+          omega (
+            arith,
+            ap length new_leaves,
+            ap length old_leaves,
+            length-append left (u.leaves ++ right),
+            length-append left (c.leaves ++ right),
+            length-append u.leaves right,
+            length-append c.leaves right,
+            r.as_many,
+          );
       children = rw (sym br_is, sym h_is) new_children;
       stand = new_stand;
     }
 
 -- a node over the remaining children is the old one without the characters
-pub over_removed : (first last : ℕ) (t x : Tree) (ts us : List Tree) (start end : ℕ) → t ≡ tree_over ts → x ≡ tree_over us → AreRemoved first last ts us start end → IsRemoved first last t x start end
+pub over_removed : (first last : ℕ) (t x : Tree) (ts us : List Tree) (start end : ℕ)
+    → t ≡ tree_over ts → x ≡ tree_over us → AreRemoved first last ts us start end
+    → IsRemoved first last t x start end
 over_removed first last t x ts us start end is x_is r =
     let some : 1 ≤ length us = omega (arith, r.children.at_least_two) in
-    let sets : breaks_of us ≡ breaks_of ts = breaks_of_is (breaks_of ts) (height_of ts) us some r.children.each in
-    let heights : height_of us ≡ height_of ts = height_of_is (breaks_of ts) (height_of ts) us some r.children.each in
+    let sets : breaks_of us ≡ breaks_of ts =
+    breaks_of_is (breaks_of ts) (height_of ts) us some r.children.each in
+    let heights : height_of us ≡ height_of ts =
+    height_of_is (breaks_of ts) (height_of ts) us some r.children.each in
     rw (is, x_is) (record {
       text_is = r.text_is;
       ends = r.ends;
@@ -180,7 +232,10 @@ over_removed first last t x ts us start end is x_is r =
     })
 
 -- a leaf that keeps some of its characters
-pub leaf_removed : (first last : ℕ) (br : LineBreaks) (l new : List ℕ) (t x : Tree) (start end : ℕ) → t ≡ leaf_tree br l → x ≡ leaf_tree br new → new ≡ removed l start end → start < end → end ≤ length l → 1 ≤ length (removed l start end) → KeepsEnds l (removed l start end) → max first last ≤ byte_len (removed l start end) → AreLeaves x.leaves
+pub leaf_removed : (first last : ℕ) (br : LineBreaks) (l new : List ℕ) (t x : Tree) (start end : ℕ)
+    → t ≡ leaf_tree br l → x ≡ leaf_tree br new → new ≡ removed l start end → start < end
+    → end ≤ length l → 1 ≤ length (removed l start end) → KeepsEnds l (removed l start end)
+    → max first last ≤ byte_len (removed l start end) → AreLeaves x.leaves
     → IsRemoved first last t x start end
 leaf_removed first last br l new t x start end t_is x_is is order within some ends enough leaves =
     let old : one_leaf l ≡ l ∷ [] = one_leaf_is l (omega arith) in
@@ -194,13 +249,23 @@ leaf_removed first last br l new t x start end t_is x_is is order within some en
       same_width = refl;
       as_many = rw (old, now) refl;
       leaves = own;
-      stand = leaf_stands first last l new (omega (arith, ap length is, some)) (omega (arith, ap byte_len is, enough)) (omega (arith, ap byte_len is, enough)) (omega (arith, ap length old));
+      stand = leaf_stands first last l new (omega (arith, ap length is, some))
+          (omega (arith, ap byte_len is, enough)) (omega (arith, ap byte_len is, enough))
+          (omega (arith, ap length old));
     })
 
 -- the leaf among its neighbours
-pub leaf_left : (first last : ℕ) (br : LineBreaks) (l new : List ℕ) (start end : ℕ) → new ≡ removed l start end → start < end → end ≤ length (text (leaf_tree br l)) → 1 ≤ length (removed l start end) → KeepsEnds l (removed l start end)
-    → max first last ≤ byte_len (removed l start end) → byte_len new ≤ 984 → all_scalars new ≡ true → IsRemoved first last (leaf_tree br l) (leaf_tree br new) start end
+pub leaf_left : (first last : ℕ) (br : LineBreaks) (l new : List ℕ) (start end : ℕ)
+    → new ≡ removed l start end → start < end → end ≤ length (text (leaf_tree br l))
+    → 1 ≤ length (removed l start end) → KeepsEnds l (removed l start end)
+    → max first last ≤ byte_len (removed l start end) → byte_len new ≤ 984 → all_scalars new ≡ true
+    → IsRemoved first last (leaf_tree br l) (leaf_tree br new) start end
 leaf_left first last br l new start end is order within some ends enough fits scalars =
     let now : one_leaf new ≡ new ∷ [] = one_leaf_is new (omega (arith, ap length is, some)) in
-    leaf_removed first last br l new (leaf_tree br l) (leaf_tree br new) start end refl refl is order (omega (arith, within, ap length (leaf_text l))) some ends enough
-    (rw now (lone_leaf new (record { some = omega (arith, ap length is, some); fits = fits; scalars = scalars })))
+    leaf_removed first last br l new (leaf_tree br l) (leaf_tree br new) start end refl refl is
+    order (omega (arith, within, ap length (leaf_text l))) some ends enough
+    (rw now (lone_leaf new (record {
+      some = omega (arith, ap length is, some);
+      fits = fits;
+      scalars = scalars;
+    })))

@@ -17,14 +17,20 @@ pub record IsChange (before after old new : TextInfo) : Type 0 where
 
 -- the counts of a tree grew by a value, or fell by it
 abbrev pub GrowsBy : TextInfo → Tree → Tree → Type 0
-GrowsBy more old new = IsChange no_counts more (info_of old.breaks (text old)) (info_of old.breaks (text new))
+GrowsBy more old new =
+    IsChange no_counts more (info_of old.breaks (text old)) (info_of old.breaks (text new))
 
 abbrev pub FallsBy : TextInfo → Tree → Tree → Type 0
-FallsBy less old new = IsChange less no_counts (info_of old.breaks (text old)) (info_of old.breaks (text new))
+FallsBy less old new =
+    IsChange less no_counts (info_of old.breaks (text old)) (info_of old.breaks (text new))
 
 -- the counts of adjacent trees grew by a value, or fell by it
 abbrev pub GrowBy : TextInfo → List Tree → List Tree → Type 0
-GrowBy more old new = IsChange no_counts more (info_of (breaks_of old) (joined old)) (info_of (breaks_of old) (joined new))
+GrowBy more old new =
+    IsChange no_counts more (info_of (breaks_of old) (joined old))
+    (info_of (breaks_of old) (joined new))
 
 abbrev pub FallBy : TextInfo → List Tree → List Tree → Type 0
-FallBy less old new = IsChange less no_counts (info_of (breaks_of old) (joined old)) (info_of (breaks_of old) (joined new))
+FallBy less old new =
+    IsChange less no_counts (info_of (breaks_of old) (joined old))
+    (info_of (breaks_of old) (joined new))

@@ -8,7 +8,12 @@ use Rattle.rope_tree.specs.Narrow.{IsNarrow}
 
 -- the counts at an index
 abbrev pub counts_at : Inside → ℕ → TextInfo
-counts_at a k = record { bytes = slice_index a.bytes k; chars = slice_index a.chars k; utf16_surrogates = slice_index a.pairs k; break_count = slice_index a.breaks k }
+counts_at a k = record {
+  bytes = slice_index a.bytes k;
+  chars = slice_index a.chars k;
+  utf16_surrogates = slice_index a.pairs k;
+  break_count = slice_index a.breaks k;
+}
 
 abbrev pub all_totals : Inside → List TextInfo
 all_totals a = map (counts_at a) (range_with_len 0 a.len)

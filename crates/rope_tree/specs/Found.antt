@@ -8,10 +8,11 @@ use Rattle.rope_tree.specs.Search.{count_of}
 use Rattle.rope_tree.specs.Tree.{Tree}
 
 -- the leaf that contains the index `at`, and the counts of the text before it
-pub record IsFound (unit : Unit) (at : ℕ) (t : Tree) (leaf : List ℕ) (before : TextInfo) : Type 0 where
-  pub index : ℕ
-  pub within : index < length t.leaves
-  pub leaf_is : leaf ≡ slice_index_or t.leaves index []
-  pub before_is : before ≡ info_of t.breaks (concat (take index t.leaves))
-  pub not_past : count_of unit before ≤ at
-  pub past : at < count_of unit (info_of t.breaks (concat (take (index + 1) t.leaves)))
+pub record IsFound (unit : Unit) (at : ℕ) (t : Tree) (leaf : List ℕ) (before : TextInfo) : Type 0
+  where
+    pub index : ℕ
+    pub within : index < length t.leaves
+    pub leaf_is : leaf ≡ slice_index_or t.leaves index []
+    pub before_is : before ≡ info_of t.breaks (concat (take index t.leaves))
+    pub not_past : count_of unit before ≤ at
+    pub past : at < count_of unit (info_of t.breaks (concat (take (index + 1) t.leaves)))

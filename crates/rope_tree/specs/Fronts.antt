@@ -17,7 +17,8 @@ pub record AreFronts (text : List ℕ) (leaves : List (List ℕ)) (rest : List �
   pub apart : IsSeam (concat leaves) rest
 
 -- adjacent leaf nodes, and the rest of the text
-pub record AreFrontNodes (breaks : LineBreaks) (text : List ℕ) (ts : List Tree) (rest : List ℕ) : Type 0 where
+pub record AreFrontNodes (breaks : LineBreaks) (text : List ℕ) (ts : List Tree)
+    (rest : List ℕ) : Type 0 where
   pub each : All (IsChild breaks 0) ts
   pub fronts : AreFronts text (leaves_of ts) rest
 

@@ -47,7 +47,8 @@ pub record GoesIn (at i n : ℕ) (to_right : Bool) : Type 0 where
 pub record IsReplaced (old : Tree) (ts : List Tree) (new : List ℕ) : Type 0 where
   pub text_is : joined ts ≡ new
   pub leaves : AreLeaves (leaves_of ts)
-  pub stand : 1 ≤ length old.leaves → StandFor MIN_HALF_BYTES MIN_HALF_BYTES old.leaves (leaves_of ts)
+  pub stand : 1 ≤ length old.leaves
+      → StandFor MIN_HALF_BYTES MIN_HALF_BYTES old.leaves (leaves_of ts)
   pub some : 1 ≤ length ts
   pub few : length ts ≤ MAX_PIECES
   pub each : All (IsWide old.breaks (min MIN_CHILDREN old.width) old.height) ts
@@ -56,7 +57,8 @@ pub record IsReplaced (old : Tree) (ts : List Tree) (new : List ℕ) : Type 0 wh
 pub record IsInserted (old : Tree) (ts : List Tree) (new : List ℕ) : Type 0 where
   pub text_is : joined ts ≡ new
   pub leaves : AreLeaves (leaves_of ts)
-  pub stand : 1 ≤ length old.leaves → StandFor MIN_HALF_BYTES MIN_HALF_BYTES old.leaves (leaves_of ts)
+  pub stand : 1 ≤ length old.leaves
+      → StandFor MIN_HALF_BYTES MIN_HALF_BYTES old.leaves (leaves_of ts)
   pub parts : AreParts old.breaks old.width (old.width + (MAX_PIECES - 1)) old.height ts
 
 -- the outcome of splitting a node without room for a text: the node is unchanged, or it has the

@@ -5,7 +5,7 @@ use Rattle.std.specs.Str.{all_scalars}
 use Rattle.rope_text.specs.declared.TheConstants.{MAX_BYTES, MIN_TWO_LEAVES_BYTES}
 use Rattle.rope_text.specs.Text.{byte_len}
 use Rattle.rope_text.specs.Cutting.{parts_crlf, KeepsCrlf}
-use Rattle.rope_text.specs.Dense.{IsDenseBehind, AreDense, last_bytes}
+use Rattle.rope_text.specs.Dense.{IsDenseAfter, AreDense, last_bytes}
 
 -- a seam, the boundary between two leaves: no CR before it meets an LF after it
 pub record IsSeam (before after : List ℕ) : Type 0 where
@@ -29,21 +29,22 @@ pub record AreLeaves (leaves : List (List ℕ)) : Type 0 where
 pub record Recuts (left right new : List (List ℕ)) : Type 0 where
   pub same_text : concat new ≡ concat (left ++ right)
   pub leaves : AreLeaves new
-  pub behind : 1 ≤ length left → (n : ℕ) → IsDenseBehind n left → IsDenseBehind n new
+  pub following : 1 ≤ length left → (n : ℕ) → IsDenseAfter n left → IsDenseAfter n new
   pub last : 1 ≤ length right → (m n : ℕ) → last_bytes m right ≤ last_bytes n new
 
 -- leaves that replace others: they may follow a leaf of n bytes if the old ones may and n and
 -- `first` are at least 492 together; and the last leaf is as long as the old last one or as `last`
 pub record StandFor (first last : ℕ) (old new : List (List ℕ)) : Type 0 where
-  pub after : (n : ℕ) → MIN_TWO_LEAVES_BYTES ≤ n + first → IsDenseBehind n old → IsDenseBehind n new
+  pub after : (n : ℕ) → MIN_TWO_LEAVES_BYTES ≤ n + first → IsDenseAfter n old → IsDenseAfter n new
   pub ahead : (n : ℕ) → min last (last_bytes n old) ≤ last_bytes n new
 
 -- `first` bytes are enough for a leaf after these; if there are none, they are enough where
 -- `wanted` bytes are
-abbrev pub IsEnoughBehind : ℕ → ℕ → List (List ℕ) → Type 0
-IsEnoughBehind wanted first before = (n : ℕ) → MIN_TWO_LEAVES_BYTES ≤ n + wanted → MIN_TWO_LEAVES_BYTES ≤ last_bytes n before + first
+abbrev pub IsEnoughAfter : ℕ → ℕ → List (List ℕ) → Type 0
+IsEnoughAfter wanted first before = (n : ℕ) → MIN_TWO_LEAVES_BYTES ≤ n + wanted
+    → MIN_TWO_LEAVES_BYTES ≤ last_bytes n before + first
 
 -- `last` bytes are enough for a leaf before these; if there are none, `last` is at least `wanted`
 pub record IsEnoughAhead (wanted last : ℕ) (after : List (List ℕ)) : Type 0 where
-  pub dense : IsDenseBehind last after
+  pub dense : IsDenseAfter last after
   pub at_end : length after ≡ 0 → wanted ≤ last

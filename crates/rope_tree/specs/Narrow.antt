@@ -11,7 +11,8 @@ pub record IsBelow (bound : ℕ) (info : TextInfo) : Type 0 where
 
 -- all counts are below the bound
 abbrev pub AreBounded : ℕ → List TextInfo → Type 0
-AreBounded bound totals = (k : ℕ) (d : TextInfo) → k < length totals → IsBelow bound (slice_index_or totals k d)
+AreBounded bound totals = (k : ℕ) (d : TextInfo) → k < length totals
+    → IsBelow bound (slice_index_or totals k d)
 
 -- counts in which those of a slice are replaced by others are below the bound
 pub record IsBelowWith (bound : ℕ) (total old new : TextInfo) : Type 0 where

@@ -46,6 +46,7 @@ pub record AreRemoved (first last : ℕ) (old new : List Tree) (a b : ℕ) : Typ
 -- two adjacent leaves: the first lost its characters from a on, the second its first b; `first` and
 -- `last` are the bytes wanted beside their neighbours, and the two have enough together
 pub record AreShortened (first last a b : ℕ) (left now right after : Tree) : Type 0 where
-  pub end : IsRemoved first (MIN_TWO_LEAVES_BYTES - byte_len (text after)) left now a (length (text left))
+  pub end : IsRemoved first (MIN_TWO_LEAVES_BYTES - byte_len (text after)) left now a
+      (length (text left))
   pub start : IsRemoved (MIN_TWO_LEAVES_BYTES - byte_len (text now)) last right after 0 b
   pub meet : MIN_TWO_LEAVES_BYTES ≤ byte_len (text now) + byte_len (text after)

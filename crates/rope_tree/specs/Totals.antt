@@ -8,7 +8,8 @@ use Rattle.rope_tree.specs.Tree.{Tree, joined, height_of, breaks_of, AreChildren
 -- each total has the counts of the text up to the end of its child
 pub record HasTotals (breaks : LineBreaks) (totals : List TextInfo) (ts : List Tree) : Type 0 where
   pub as_many : length totals ≡ length ts
-  pub total_at : (k : ℕ) (d : TextInfo) → k < length ts → slice_index_or totals k d ≡ info_of breaks (joined (take (k + 1) ts))
+  pub total_at : (k : ℕ) (d : TextInfo) → k < length ts
+      → slice_index_or totals k d ≡ info_of breaks (joined (take (k + 1) ts))
 
 -- the counts of the text of some trees, by their set of line breaks, or by any if there are none
 pub record IsTotalOf (ts : List Tree) (total : TextInfo) : Type 0 where

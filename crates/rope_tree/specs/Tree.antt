@@ -47,7 +47,12 @@ leaf_tree breaks leaf = record { breaks = breaks; leaves = one_leaf leaf; height
 
 -- the tree with these children
 abbrev pub tree_over : List Tree → Tree
-tree_over ts = record { breaks = breaks_of ts; leaves = leaves_of ts; height = height_of ts + 1; width = length ts }
+tree_over ts = record {
+  breaks = breaks_of ts;
+  leaves = leaves_of ts;
+  height = height_of ts + 1;
+  width = length ts;
+}
 
 -- the invariant of every node
 pub record IsTree (t : Tree) : Type 0 where

@@ -2,8 +2,8 @@
 //! `MIN_TWO_LEAVES_BYTES` together.
 ghost use Rattle.std.specs.Prelude.{ℕ, ◌+◌, ◌<◌, ◌≤◌, List, length, take, drop};
 ghost use Rattle.rope_text.specs.declared.TheConstants.{MIN_TWO_LEAVES_BYTES};
-ghost use Rattle.rope_text.specs.Dense.{IsDenseBehind, last_bytes};
-ghost use Rattle.rope_tree.specs.Leaves.{IsEnoughBehind, IsEnoughAhead};
+ghost use Rattle.rope_text.specs.Dense.{IsDenseAfter, last_bytes};
+ghost use Rattle.rope_tree.specs.Leaves.{IsEnoughAfter, IsEnoughAhead};
 ghost use Rattle.rope_tree.specs.Tree.{Tree, leaves_of};
 ghost use Rattle.rope_tree.specs.Totals.{AreBelow};
 
@@ -22,10 +22,10 @@ pub struct Least {
 /// is a leaf, its length comes from the totals, so it isn't read.
 fn least_next_to(height: usize, totals: &Totals, place: usize) -> usize
     requires { place < length totals.now }
-    ensures behind { (ts : List Tree) → AreBelow height totals.now ts
+    ensures following { (ts : List Tree) → AreBelow height totals.now ts
         → (n : ℕ) → MIN_TWO_LEAVES_BYTES ≤ last_bytes n (leaves_of (take (place + 1) ts)) + result }
     ensures ahead { (ts : List Tree) → AreBelow height totals.now ts
-        → IsDenseBehind result (leaves_of (drop place ts)) }
+        → IsDenseAfter result (leaves_of (drop place ts)) }
 {
     // Each leaf has at least one byte, and with that half a leaf is enough.
     if height > 1 {
@@ -43,7 +43,7 @@ fn least_next_to(height: usize, totals: &Totals, place: usize) -> usize
 pub fn least_at(height: usize, totals: &Totals, place: usize, wanted: Least) -> Least
     requires { place < length totals.now }
     ensures first { (ts : List Tree) → AreBelow height totals.now ts
-        → IsEnoughBehind wanted.first result.first (leaves_of (take place ts)) }
+        → IsEnoughAfter wanted.first result.first (leaves_of (take place ts)) }
     ensures last { (ts : List Tree) → AreBelow height totals.now ts
         → IsEnoughAhead wanted.last result.last (leaves_of (drop (place + 1) ts)) }
 {

@@ -305,11 +305,11 @@ impl Leaf {
         maker.add_made();
         let mut leaf = Leaf::of_text(maker.alloc, breaks, back, info.minus(front_info))?;
         // It was just made and has no other owner, so this never fails.
-        let Some(behind) = Rc::get_mut(&mut leaf) else {
+        let Some(following) = Rc::get_mut(&mut leaf) else {
             return Err(AllocError);
         };
         if at > chars {
-            behind.insert_in_place(at - chars, added, &mut TextInfo::new());
+            following.insert_in_place(at - chars, added, &mut TextInfo::new());
             self.keep(len, front_info);
         } else {
             self.keep(len, front_info);
@@ -335,9 +335,9 @@ impl Leaf {
         let (front, back) = halves_of(grown.as_str());
         let front_info = TextInfo::from_str(front, breaks);
         let back_info = info.minus(front_info);
-        let behind = make_leaf(maker, breaks, back, back_info)?;
+        let following = make_leaf(maker, breaks, back, back_info)?;
         self.fill(breaks, front, front_info);
-        Ok(behind)
+        Ok(following)
     }
 
     /// Inserts a text before the character `at` of a leaf without room for it: keeps the first half
@@ -362,8 +362,8 @@ impl Leaf {
         if let Some(half) = self.cut_in_place(maker, at, added)? {
             return Ok(Some(Node::of_leaf(half)));
         }
-        let behind = self.cut_anew(maker, at, added)?;
-        Ok(Some(behind))
+        let following = self.cut_anew(maker, at, added)?;
+        Ok(Some(following))
     }
 
     /// Returns the number of bytes that remain if the characters from `start` up to `end` are

@@ -1,6 +1,6 @@
 //! Nodes: an empty text, or a pointer to a leaf or to a list of children. The fields are private to
 //! this module and its submodules.
-ghost use Rattle.std.specs.Prelude.{◌≡◌, ◌+◌, ◌^◌, ◌<◌, ◌≤◌, List, length, IfOk, IfSome};
+ghost use Rattle.std.specs.Prelude.{◌≡◌, ◌+◌, ◌^◌, ◌<◌, ◌≤◌, [], List, length, IfOk, IfSome, IfNone};
 ghost use Rattle.std.specs.Str.{chars};
 ghost use Rattle.rope_text.specs.declared.TheConstants.{MAX_BYTES, MAX_CHILDREN, MAX_HEIGHT};
 ghost use Rattle.rope_text.specs.TextInfo.{info_of};
@@ -200,6 +200,24 @@ impl Node {
             Form::Inner(children) => Form::Inner(children.clone()?),
         };
         Ok(Node { form })
+    }
+
+    /// Returns the leaf, if the node is one.
+    #[inline(always)]
+    fn leaf(&self) -> Option<&Leaf>
+        ensures leaf { IfSome result (λ leaf. leaf.now ≡ self.now) }
+        ensures flat { IfSome result (λ _. self.now.height ≡ 0) }
+        ensures none { IfNone result (self.now.height ≡ 0 → text self.now ≡ []) }
+    {
+        match &self.form {
+            Form::Leaf(leaf) => Some(leaf),
+            _ => None,
+        }
+    }
+
+    /// Returns whether the node has neither text nor children.
+    fn is_empty(&self) -> bool {
+        matches!(self.form, Form::Empty(_))
     }
 }
 

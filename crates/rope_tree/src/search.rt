@@ -121,7 +121,7 @@ fn append_wide(totals: &mut WideTotals, others: &[TextInfo], old: TextInfo, new:
     requires fits { FitFrom (2 ^ 64) 0 others.now old new }
     ensures len { length totals.new.items ≡ length totals.old.items + length others.now }
     ensures before { SameBefore (length totals.old.items) totals.old.items totals.new.items }
-    ensures behind { (j : ℕ) (d : TextInfo) → j < length others.now
+    ensures following { (j : ℕ) (d : TextInfo) → j < length others.now
         → info_sum (slice_index_or totals.new.items (length totals.old.items + j) d) old
         ≡ info_sum (slice_index_or others.now j d) new }
 {
@@ -306,7 +306,7 @@ impl Totals {
         ensures len { IfOk result (λ did. did ≡ true → length self.new ≡ length self.old + count) }
         ensures before { IfOk result (λ did. did ≡ true
             → SameBefore (length self.old) self.old self.new) }
-        ensures behind { IfOk result (λ did. did ≡ true → (j : ℕ) (d : TextInfo) → j < count
+        ensures following { IfOk result (λ did. did ≡ true → (j : ℕ) (d : TextInfo) → j < count
             → info_sum (slice_index_or self.new (length self.old + j) d) old
             ≡ info_sum (slice_index_or others.now (from + j) d) new) }
         ensures kept { IfOk result (λ did. did ≡ false → self.new ≡ self.old) }
@@ -339,7 +339,7 @@ impl Totals {
         ensures len { length self.new ≡ length self.old + 1 }
         ensures before { SameBefore place self.old self.new }
         ensures here { (d : TextInfo) → slice_index_or self.new place d ≡ total }
-        ensures behind { MovedFrom place self.old self.new }
+        ensures following { MovedFrom place self.old self.new }
     {
         match &mut self.width {
             Width::Narrow(totals) => totals.insert(place, total),

@@ -9,25 +9,35 @@ use Rattle.rope_text.specs.declared.error.Error.TheVariants.{TooLong}
 use Rattle.rope_text.specs.Text.{byte_len}
 use Rattle.rope_text.specs.Edit.{inserted, insert_error, append_error, same_breaks, or_else, size_error}
 
-in_range : (text : List ℕ) (i : ℕ) (new : List ℕ) → i ≤ length text → insert_error text i new ≡ size_error (byte_len text + byte_len new)
-in_range text i new within = ap (λ o. or_else o (size_error (byte_len text + byte_len new))) (cond-true _ _ _ (le-leb i (length text) within))
+in_range : (text : List ℕ) (i : ℕ) (new : List ℕ) → i ≤ length text
+    → insert_error text i new ≡ size_error (byte_len text + byte_len new)
+in_range text i new within =
+    ap (λ o. or_else o (size_error (byte_len text + byte_len new)))
+    (cond-true _ _ _ (le-leb i (length text) within))
 
-pub insert_error-none : (text : List ℕ) (i : ℕ) (new : List ℕ) → i ≤ length text → byte_len text + byte_len new < 2 ^ 63 → insert_error text i new ≡ None
-insert_error-none text i new within fits = in_range text i new within ∙ cond-true _ _ _ (lt-ltb (byte_len text + byte_len new) (2 ^ 63) fits)
+pub insert_error-none : (text : List ℕ) (i : ℕ) (new : List ℕ) → i ≤ length text
+    → byte_len text + byte_len new < 2 ^ 63 → insert_error text i new ≡ None
+insert_error-none text i new within fits = in_range text i new within
+    ∙ cond-true _ _ _ (lt-ltb (byte_len text + byte_len new) (2 ^ 63) fits)
 
-pub insert_error-long : (text : List ℕ) (i : ℕ) (new : List ℕ) → i ≤ length text → 2 ^ 63 ≤ byte_len text + byte_len new → insert_error text i new ≡ Some TooLong
-insert_error-long text i new within over = in_range text i new within ∙ cond-false _ _ _ (le-ltb (byte_len text + byte_len new) (2 ^ 63) over)
+pub insert_error-long : (text : List ℕ) (i : ℕ) (new : List ℕ) → i ≤ length text
+    → 2 ^ 63 ≤ byte_len text + byte_len new → insert_error text i new ≡ Some TooLong
+insert_error-long text i new within over = in_range text i new within
+    ∙ cond-false _ _ _ (le-ltb (byte_len text + byte_len new) (2 ^ 63) over)
 
 -- the empty text changes nothing
 pub inserted_none : (text : List ℕ) (i : ℕ) (new : List ℕ) → new ≡ [] → text ≡ inserted text i new
 inserted_none text i new none =
-    sym (take-append-drop i text) ∙ ap (λ t. t ++ drop i text) (sym (append-nil (take i text))) ∙ ap (λ n. (take i text ++ n) ++ drop i text) (sym none)
+    sym (take-append-drop i text) ∙ ap (λ t. t ++ drop i text) (sym (append-nil (take i text)))
+    ∙ ap (λ n. (take i text ++ n) ++ drop i text) (sym none)
 
 -- an append that nothing refuses but memory
-pub append_error-none : (breaks other : LineBreaks) (text new : List ℕ) → other ≡ breaks → byte_len text + byte_len new < 2 ^ 63 → append_error breaks other text new ≡ None
+pub append_error-none : (breaks other : LineBreaks) (text new : List ℕ) → other ≡ breaks
+    → byte_len text + byte_len new < 2 ^ 63 → append_error breaks other text new ≡ None
 append_error-none breaks other text new same fits =
     let one : same_breaks breaks other ≡ true = ap (same_breaks breaks) same ∙ reflexive breaks in
-    ap (λ o. or_else o (size_error (byte_len text + byte_len new))) (cond-true _ _ _ one) ∙ cond-true _ _ _ (lt-ltb (byte_len text + byte_len new) (2 ^ 63) fits)
+    ap (λ o. or_else o (size_error (byte_len text + byte_len new))) (cond-true _ _ _ one)
+    ∙ cond-true _ _ _ (lt-ltb (byte_len text + byte_len new) (2 ^ 63) fits)
   where
     reflexive : (br : LineBreaks) → same_breaks br br ≡ true
     reflexive Lf = refl

@@ -19,21 +19,27 @@ use Rattle.rope_tree.proofs.TreeLaws.{low_tree}
 use Rattle.ropey.specs.View.{RopeView, IsRope, HasFewChunks, content, view_of}
 use lib.Utf8.{scalar, encode}
 
-scalars-append : (s t : List ℕ) → all_scalars s ≡ true → all_scalars t ≡ true → all_scalars (s ++ t) ≡ true
+scalars-append : (s t : List ℕ) → all_scalars s ≡ true → all_scalars t ≡ true
+    → all_scalars (s ++ t) ≡ true
 scalars-append [] t a b = b
-scalars-append (c ∷ s) t a b = and_from (scalar c) (all_scalars (s ++ t)) (first_scalar c s a) (scalars-append s t (rest_scalars c s a) b)
+scalars-append (c ∷ s) t a b =
+    and_from (scalar c) (all_scalars (s ++ t)) (first_scalar c s a)
+    (scalars-append s t (rest_scalars c s a) b)
 
-scalars-concat : (leaves : List (List ℕ)) → All IsLeafText leaves → all_scalars (concat leaves) ≡ true
+scalars-concat : (leaves : List (List ℕ)) → All IsLeafText leaves
+    → all_scalars (concat leaves) ≡ true
 scalars-concat [] a = refl
 scalars-concat (leaf ∷ leaves) a =
-    scalars-append leaf (concat leaves) (All-head IsLeafText leaf leaves a).scalars (scalars-concat leaves (All-tail IsLeafText leaf leaves a))
+    scalars-append leaf (concat leaves) (All-head IsLeafText leaf leaves a).scalars
+    (scalars-concat leaves (All-tail IsLeafText leaf leaves a))
 
 -- the invariant of a rope, by its tree
 pub content_of : (t : Tree) → IsTree t → of_content.IsRope (content (view_of t))
 content_of t i = record {
   cut = record {
     joined = refl;
-    sized = All-weaker IsLeafText (λ chunk. IsChunkSize (byte_len chunk)) (λ leaf l. (omega (arith, l.some, length-le-encodes leaf), l.fits)) t.leaves i.leaves.each;
+    sized = All-weaker IsLeafText (λ chunk. IsChunkSize (byte_len chunk))
+        (λ leaf l. (omega (arith, l.some, length-le-encodes leaf), l.fits)) t.leaves i.leaves.each;
     whole = i.leaves.whole;
   };
   few = few_chunks t.leaves (leaf_sizes t.leaves i.leaves.each) i.leaves.dense;
@@ -43,7 +49,8 @@ content_of t i = record {
 
 -- the number of chunks of a tree is between those of two full children and those of 24
 least_chunks : (t : Tree) → IsTree t → 1 ≤ t.height → 2 * 12 ^ (t.height - 1) ≤ length t.leaves
-least_chunks t i high = omega (arith, i.least_leaves high, mul-le-mul_right (12 ^ (t.height - 1)) (i.at_least_two high))
+least_chunks t i high =
+    omega (arith, i.least_leaves high, mul-le-mul_right (12 ^ (t.height - 1)) (i.at_least_two high))
 
 most_for : (h w n : ℕ) → (h ≡ 0 → n ≤ 1) → w ≤ 24 → (1 ≤ h → n ≤ w * 24 ^ (h - 1)) → n ≤ 24 ^ h
 most_for zero w n lone many most = lone refl
@@ -68,9 +75,11 @@ few_leaves t i = omega (arith, leaves_le t.leaves i.leaves.each, length-le-encod
 -- a rope of few chunks and no text has none
 pub no_chunks : (r : RopeView) → r.text ≡ [] → HasFewChunks r → r.chunks ≡ []
 no_chunks r empty few =
-    let some : length r.chunks ≤ (byte_len [] + 980) / 981 = subst (λ t. length r.chunks ≤ (byte_len t + 980) / 981) empty few in
+    let some : length r.chunks ≤ (byte_len [] + 980) / 981 =
+    subst (λ t. length r.chunks ≤ (byte_len t + 980) / 981) empty few in
     nil_from_length r.chunks (omega (arith, some))
 
 -- the bytes of a character spell it
 pub one_char : (c : ℕ) → scalar c ≡ true → chars (encode c) ≡ c ∷ []
-one_char c s = ap chars (sym (append-nil (encode c))) ∙ chars-encodes (c ∷ []) (and_from (scalar c) true s refl)
+one_char c s = ap chars (sym (append-nil (encode c)))
+    ∙ chars-encodes (c ∷ []) (and_from (scalar c) true s refl)

@@ -2,7 +2,8 @@
 use Rattle.std.specs.Prelude.{◌≡◌, ℕ, ◌+◌, ◌*◌, ◌/◌, ◌<◌, ◌≤◌}
 use Rattle.rope_text.specs.declared.steps.Steps.{Steps}
 
--- at most one node a level was entered, at most five totals were compared in each inner one, and no node was made
+-- at most one node a level was entered, at most five totals were compared in each inner one, and no
+-- node was made
 pub record IsLookUp (depth : ℕ) (steps : Steps) : Type 0 where
   pub nodes : steps.nodes ≤ depth + 1
   pub compares : steps.compares ≤ 5 * depth

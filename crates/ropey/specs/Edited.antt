@@ -14,7 +14,8 @@ IsEdit result old new = OnErr result (new ≡ old) × (new.breaks ≡ old.breaks
 abbrev pub IsIdle : {A : Type 0} → Result A Error → RopeView → RopeView → Type 0
 IsIdle result old new = IsOk result × (new ≡ old)
 
--- a text may be inserted: before a character of the old text or at its end, and the new text is not too long
+-- a text may be inserted: before a character of the old text or at its end, and the new text is not
+-- too long
 abbrev pub CanInsert : List ℕ → ℕ → List ℕ → Type 0
 CanInsert old char_idx text = insert_error old char_idx text ≡ None
 
@@ -29,13 +30,15 @@ IsInsertRefusal old char_idx text = IsRefusal (insert_error old char_idx text)
 -- the old text has the range of characters, and the new text is the old one without them
 abbrev pub IsRemoval : List ℕ → Option ℕ → Option ℕ → List ℕ → Type 0
 IsRemoval old start end new =
-    HasCharRange old start end × (new ≡ removed old (range_start start) (range_end end (length old)))
+    HasCharRange old start end
+    × (new ≡ removed old (range_start start) (range_end end (length old)))
 
 -- the error of a removal: that of the range, else `OutOfMemory`
 abbrev pub IsRemovalRefusal : List ℕ → Option ℕ → Option ℕ → Error → Type 0
 IsRemovalRefusal old start end = IsRefusal (char_range_error start end (length old))
 
--- a rope may be appended to another: the two have the same set of line breaks, and the new text is not too long
+-- a rope may be appended to another: the two have the same set of line breaks, and the new text is
+-- not too long
 abbrev pub CanAppend : RopeView → RopeView → Type 0
 CanAppend old other = append_error old.breaks other.breaks old.text other.text ≡ None
 

@@ -13,43 +13,63 @@ use Rattle.rope_text.proofs.Measures.{IsMeasure-byte_len, size_le, front_greates
 use Rattle.rope_text.proofs.ByteSlices.{is_range}
 
 -- the characters of a range of bytes are in order
-pub chars_ordered : (text : List ℕ) (a b : ℕ) → byte_range_error text (Some a) (Some b) ≡ None → byte_to_char text a ≤ byte_to_char text b
+pub chars_ordered : (text : List ℕ) (a b : ℕ) → byte_range_error text (Some a) (Some b) ≡ None
+    → byte_to_char text a ≤ byte_to_char text b
 unfolding byte_to_char
 chars_ordered text a b fine =
     let range = is_range text a b fine in
     let fits = front_fits byte_len IsMeasure-byte_len text a in
-    front_greatest byte_len IsMeasure-byte_len text b (byte_to_char text a) (front-le-length byte_len IsMeasure-byte_len text a) (omega (arith, range.ordered, fits))
+    front_greatest byte_len IsMeasure-byte_len text b (byte_to_char text a)
+    (front-le-length byte_len IsMeasure-byte_len text a) (omega (arith, range.ordered, fits))
 
 -- the bytes before a place
-pub bytes_before-le : (text : List ℕ) (a b : ℕ) → a ≤ b → byte_len (take a text) ≤ byte_len (take b text)
+pub bytes_before-le : (text : List ℕ) (a b : ℕ) → a ≤ b
+    → byte_len (take a text) ≤ byte_len (take b text)
 bytes_before-le text a b l = size_le byte_len IsMeasure-byte_len text a b l
 
-bytes_around : (text : List ℕ) (b : ℕ) → byte_len (take b text) + byte_len (drop b text) ≡ byte_len text
-bytes_around text b = sym (IsMeasure-byte_len.joined (take b text) (drop b text)) ∙ ap byte_len (take-append-drop b text)
+bytes_around : (text : List ℕ) (b : ℕ) → byte_len (take b text) + byte_len (drop b text)
+    ≡ byte_len text
+bytes_around text b = sym (IsMeasure-byte_len.joined (take b text) (drop b text))
+    ∙ ap byte_len (take-append-drop b text)
 
 -- what stays without a range
-pub removed_bytes : (text : List ℕ) (a b : ℕ) → a ≤ b → byte_len text - (byte_len (take b text) - byte_len (take a text)) ≡ byte_len (removed text a b)
+pub removed_bytes : (text : List ℕ) (a b : ℕ) → a ≤ b
+    → byte_len text - (byte_len (take b text) - byte_len (take a text))
+    ≡ byte_len (removed text a b)
 removed_bytes text a b l =
-    let stays : byte_len (removed text a b) ≡ byte_len (take a text) + byte_len (drop b text) = IsMeasure-byte_len.joined (take a text) (drop b text) in
+    let stays : byte_len (removed text a b) ≡ byte_len (take a text) + byte_len (drop b text) =
+    IsMeasure-byte_len.joined (take a text) (drop b text) in
     omega (arith, stays, bytes_around text b, bytes_before-le text a b l)
 
-pub cut_within : (text : List ℕ) (a b : ℕ) → byte_len (take b text) - byte_len (take a text) ≤ byte_len text
+pub cut_within : (text : List ℕ) (a b : ℕ)
+    → byte_len (take b text) - byte_len (take a text) ≤ byte_len text
 cut_within text a b = omega (arith, bytes_around text b)
 
 -- a text of so many bytes beside others of `w` is too long, or isn't
 pub room_told : (w l a b : ℕ) → w < 2 ^ 63 → w ≡ a → b ≡ l
-    → MatchBool (leb l (9223372036854775807 - w)) (size_error (a + b) ≡ None) (size_error (a + b) ≡ Some TooLong)
+    → MatchBool (leb l (9223372036854775807 - w)) (size_error (a + b) ≡ None)
+    (size_error (a + b) ≡ Some TooLong)
 room_told w l a b fits at_a at_b =
-    let Told : Bool → Type 0 = λ t. MatchBool t (size_error (a + b) ≡ None) (size_error (a + b) ≡ Some TooLong) in
+    let Told : Bool → Type 0 =
+    λ t. MatchBool t (size_error (a + b) ≡ None) (size_error (a + b) ≡ Some TooLong) in
     elim (cases_lt (9223372036854775807 - w) l) [
-      | inl more ↦ let long : nat_lt (a + b) (2 ^ 63) ≡ false = grind (arith, nat_tests) in subst Told (sym (lt-leb _ _ more)) (rw long refl)
-      | inr less ↦ let short : nat_lt (a + b) (2 ^ 63) ≡ true = grind (arith, nat_tests) in subst Told (sym (le-leb _ _ less)) (rw short refl)
+      | inl more ↦ let long : nat_lt (a + b) (2 ^ 63) ≡ false = grind (arith, nat_tests) in
+          subst Told (sym (lt-leb _ _ more)) (rw long refl)
+      | inr less ↦ let short : nat_lt (a + b) (2 ^ 63) ≡ true = grind (arith, nat_tests) in
+          subst Told (sym (le-leb _ _ less)) (rw short refl)
     ]
 
 -- a size that is not refused
 pub fits_from : (n : ℕ) → size_error n ≡ None → n < 2 ^ 63
-fits_from n fine = elim (cases_lt n (2 ^ 63)) [ inl less ↦ less | inr more ↦ let long : nat_lt n (2 ^ 63) ≡ false = grind (arith, nat_tests) in absurd (cc) ]
+fits_from n fine =
+    elim (cases_lt n (2 ^ 63)) [
+      | inl less ↦ less
+      | inr more ↦ let long : nat_lt n (2 ^ 63) ≡ false =
+          grind (arith, nat_tests) in absurd (cc)
+    ]
 
--- a text behind another, whose bytes are counted
-pub byte_len-behind : (text new : List ℕ) (bytes : ℕ) → byte_len new ≡ bytes → byte_len text + bytes ≡ byte_len (text ++ new)
-byte_len-behind text new bytes is = sym (IsMeasure-byte_len.joined text new ∙ ap (λ n. byte_len text + n) is)
+-- a text following another, whose bytes are counted
+pub byte_len-following : (text new : List ℕ) (bytes : ℕ) → byte_len new ≡ bytes
+    → byte_len text + bytes ≡ byte_len (text ++ new)
+byte_len-following text new bytes is =
+    sym (IsMeasure-byte_len.joined text new ∙ ap (λ n. byte_len text + n) is)

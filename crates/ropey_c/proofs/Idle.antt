@@ -8,7 +8,8 @@ use Rattle.rope_text.specs.Edit.{inserted, removed, char_index_error}
 pub nothing_replaced : (text : List ℕ) (i : ℕ) → inserted (removed text i i) i [] ≡ text
 nothing_replaced text i =
     let Same : List ℕ → Type 0 = λ whole. take i whole ++ [] ++ drop i whole ≡ text in
-    subst Same (sym (take-append-drop i text)) (ap (λ front. front ++ drop i text) (append-nil (take i text)) ∙ take-append-drop i text)
+    subst Same (sym (take-append-drop i text))
+    (ap (λ front. front ++ drop i text) (append-nil (take i text)) ∙ take-append-drop i text)
 
 pub index_fine : (i n : ℕ) → i ≤ n → char_index_error i n ≡ None
 index_fine i n within = cond-true _ _ _ (le-leb i n within)

@@ -32,28 +32,36 @@ AnswersAt (Some rope) found status old new = Answers (found rope) status old new
 abbrev pub FindsAt : Option RopeView → (RopeView → Option ℕ) → ℕ → ℕ → ℕ → ℕ → Type 0
 FindsAt None found missing status old new = (status ≡ NO_ROPE_HELD) × (new ≡ old)
 FindsAt (Some rope) found missing status old new =
-    MatchOption (found rope) ((status ≡ missing) × (new ≡ old)) (λ value. (status ≡ OK) × (new ≡ value))
+    MatchOption (found rope) ((status ≡ missing) × (new ≡ old)) (λ value. (status ≡ OK)
+    × (new ≡ value))
 
--- a call that changes a rope: its status is one that `Status` allows, a refusal leaves the rope as it was, and else `After`
+-- a call that changes a rope: its status is one that `Status` allows, a refusal leaves the rope as
+-- it was, and else `After`
 -- holds of the rope before and after
-abbrev pub Changes : Option RopeView → Option RopeView → ℕ → (RopeView → Type 0) → (RopeView → RopeView → Type 0) → Type 0
+abbrev pub Changes : Option RopeView → Option RopeView → ℕ → (RopeView → Type 0)
+    → (RopeView → RopeView → Type 0) → Type 0
 Changes None None status Status After = status ≡ NO_ROPE_HELD
 Changes None (Some new) status Status After = ⊥
 Changes (Some old) None status Status After = ⊥
-Changes (Some old) (Some new) status Status After = Status old × (0 < status → new ≡ old) × (status ≡ OK → After old new)
+Changes (Some old) (Some new) status Status After = Status old × (0 < status → new ≡ old)
+    × (status ≡ OK → After old new)
 
 -- a rope as it is built, with the set of line breaks that a number stands for
 abbrev pub IsBuiltWith : Option LineBreaks → RopeView → Type 0
 IsBuiltWith breaks rope = IsSomeAnd breaks (λ set. IsBuilt set rope)
 
--- a rope of a range of characters was made, unless the range has a fault; a refusal leaves what the handle held
+-- a rope of a range of characters was made, unless the range has a fault; a refusal leaves what the
+-- handle held
 abbrev pub ClonesChars : Option RopeView → ℕ → ℕ → ℕ → Option RopeView → Option RopeView → Type 0
 ClonesChars None start end status old new = (status ≡ NO_ROPE_HELD) × (new ≡ old)
 ClonesChars (Some rope) start end status old new =
-    IsStatus (char_range_error (Some start) (Some end) (length rope.text)) status × (0 < status → new ≡ old)
-    × (status ≡ OK → IsSomeAnd new (λ made. (made.text ≡ slice_range rope.text start end) × (made.breaks ≡ rope.breaks) × IsRope made))
+    IsStatus (char_range_error (Some start) (Some end) (length rope.text)) status
+    × (0 < status → new ≡ old)
+    × (status ≡ OK → IsSomeAnd new (λ made. (made.text ≡ slice_range rope.text start end)
+    × (made.breaks ≡ rope.breaks) × IsRope made))
 
--- a call that has nothing to do: on a rope that `Empty` holds of it answers `OK` and leaves the rope as it was
+-- a call that has nothing to do: on a rope that `Empty` holds of it answers `OK` and leaves the
+-- rope as it was
 abbrev pub Keeps : Option RopeView → Option RopeView → ℕ → (RopeView → Type 0) → Type 0
 Keeps old new status Empty = IfSome old (λ rope. Empty rope → (status ≡ OK) × (new ≡ old))
 
@@ -62,7 +70,9 @@ abbrev pub FindsLine : Option RopeView → ℕ → ℕ → Span → Span → Typ
 FindsLine None i status old new = (status ≡ NO_ROPE_HELD) × (new ≡ old)
 FindsLine (Some rope) i status old new =
     (line_count rope.breaks rope.text ≤ i → (status ≡ LINE_INDEX_OUT_OF_BOUNDS) × (new ≡ old))
-    × (i < line_count rope.breaks rope.text → (status ≡ OK) × (new.start ≡ line_to_char rope.breaks rope.text i) × (new.end ≡ line_to_char rope.breaks rope.text (i + 1)))
+    × (i < line_count rope.breaks rope.text → (status ≡ OK)
+    × (new.start ≡ line_to_char rope.breaks rope.text i)
+    × (new.end ≡ line_to_char rope.breaks rope.text (i + 1)))
 
 -- how long the break is that a line ends in, if there is such a line
 abbrev pub FindsLineBreak : Option RopeView → ℕ → ℕ → ℕ → ℕ → Type 0
@@ -81,11 +91,13 @@ pub record IsChunk (text : List ℕ) (bytes chars breaks : ℕ) (chunk : Chunk) 
   pub line_breaks_before : chunk.line_breaks_before ≡ breaks
 
 -- the chunk that a look-up answers, for an index that is at most a length
-abbrev pub FindsChunk : Option RopeView → (RopeView → ℕ) → ℕ → (RopeView → FoundChunk) → ℕ → ℕ → Chunk → Chunk → Type 0
+abbrev pub FindsChunk : Option RopeView → (RopeView → ℕ) → ℕ → (RopeView → FoundChunk) → ℕ → ℕ
+    → Chunk → Chunk → Type 0
 FindsChunk None len i found missing status old new = (status ≡ NO_ROPE_HELD) × (new ≡ old)
 FindsChunk (Some rope) len i found missing status old new =
     (len rope < i → (status ≡ missing) × (new ≡ old))
-    × (i ≤ len rope → (status ≡ OK) × IsChunk (found rope).text (found rope).bytes (found rope).chars (found rope).break_count new)
+    × (i ≤ len rope → (status ≡ OK)
+    × IsChunk (found rope).text (found rope).bytes (found rope).chars (found rope).break_count new)
 
 -- an order as a number
 abbrev pub sign_of : Ordering → ℤ
@@ -96,14 +108,17 @@ sign_of Greater = pos 1
 abbrev pub Compares : Option RopeView → Option RopeView → ℕ → ℤ → ℤ → Type 0
 Compares None other status old new = (status ≡ NO_ROPE_HELD) × (new ≡ old)
 Compares (Some rope) None status old new = (status ≡ NO_ROPE_HELD) × (new ≡ old)
-Compares (Some rope) (Some other) status old new = (status ≡ OK) × (new ≡ sign_of (text_cmp rope.text other.text))
+Compares (Some rope) (Some other) status old new = (status ≡ OK)
+    × (new ≡ sign_of (text_cmp rope.text other.text))
 
 abbrev pub ComparesText : Option RopeView → List ℕ → ℕ → Bool → Bool → Type 0
 ComparesText None bytes status old new = (status ≡ NO_ROPE_HELD) × (new ≡ old)
 ComparesText (Some rope) bytes status old new =
-    (¬ IsUtf8 bytes → (status ≡ INVALID_UTF8) × (new ≡ old)) × (IsUtf8 bytes → (status ≡ OK) × (IsTrue new ↔ (rope.text ≡ chars bytes)))
+    (¬ IsUtf8 bytes → (status ≡ INVALID_UTF8) × (new ≡ old))
+    × (IsUtf8 bytes → (status ≡ OK) × (IsTrue new ↔ (rope.text ≡ chars bytes)))
 
--- the bytes are written to the front of a buffer that has room for them, and else nothing is; their number is written either way
+-- the bytes are written to the front of a buffer that has room for them, and else nothing is; their
+-- number is written either way
 abbrev pub Copies : List ℕ → ℕ → List ℕ → List ℕ → ℕ → Type 0
 Copies bytes status old new len =
     (len ≡ length bytes)
@@ -112,8 +127,12 @@ Copies bytes status old new len =
 
 abbrev pub CopiesOf : Option Error → List ℕ → ℕ → List ℕ → List ℕ → ℕ → ℕ → Type 0
 CopiesOf None bytes status old new before len = Copies bytes status old new len
-CopiesOf (Some e) bytes status old new before len = (status ≡ status_of e) × (new ≡ old) × (len ≡ before)
+CopiesOf (Some e) bytes status old new before len = (status ≡ status_of e) × (new ≡ old)
+    × (len ≡ before)
 
-abbrev pub CopiesAt : Option RopeView → (RopeView → Option Error) → (RopeView → List ℕ) → ℕ → List ℕ → List ℕ → ℕ → ℕ → Type 0
-CopiesAt None fault bytes status old new before len = (status ≡ NO_ROPE_HELD) × (new ≡ old) × (len ≡ before)
-CopiesAt (Some rope) fault bytes status old new before len = CopiesOf (fault rope) (bytes rope) status old new before len
+abbrev pub CopiesAt : Option RopeView → (RopeView → Option Error) → (RopeView → List ℕ) → ℕ → List ℕ
+    → List ℕ → ℕ → ℕ → Type 0
+CopiesAt None fault bytes status old new before len = (status ≡ NO_ROPE_HELD) × (new ≡ old)
+    × (len ≡ before)
+CopiesAt (Some rope) fault bytes status old new before len =
+    CopiesOf (fault rope) (bytes rope) status old new before len

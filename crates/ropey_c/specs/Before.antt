@@ -24,15 +24,19 @@ pub record IsBefore (breaks : LineBreaks) (text : List ℕ) (i : ℕ) (counts : 
   pub line_breaks : counts.line_breaks ≡ char_to_line breaks text i
 
 -- a part and what lies before it are written, unless the range has a fault
-abbrev pub SliceAt : Option Error → RopeView → ℕ → Content → ℕ → Slice → Slice → Counts → Counts → Type 0
+abbrev pub SliceAt : Option Error → RopeView → ℕ → Content → ℕ → Slice → Slice → Counts → Counts
+    → Type 0
 SliceAt None rope i part status old new before_old before =
     (status ≡ OK) × (shown new ≡ shown_as part) × IsBefore rope.breaks rope.text i before
-SliceAt (Some e) rope i part status old new before_old before = (status ≡ status_of e) × (new ≡ old) × (before ≡ before_old)
+SliceAt (Some e) rope i part status old new before_old before = (status ≡ status_of e) × (new ≡ old)
+    × (before ≡ before_old)
 
 abbrev pub SliceOfCharsAt : Option RopeView → ℕ → ℕ → ℕ → Slice → Slice → Counts → Counts → Type 0
-SliceOfCharsAt None start end status old new before_old before = (status ≡ NO_ROPE_HELD) × (new ≡ old) × (before ≡ before_old)
+SliceOfCharsAt None start end status old new before_old before = (status ≡ NO_ROPE_HELD)
+    × (new ≡ old) × (before ≡ before_old)
 SliceOfCharsAt (Some rope) start end status old new before_old before =
-    SliceAt (char_range_error (Some start) (Some end) (length rope.text)) rope start (part_between (content rope) start end)
+    SliceAt (char_range_error (Some start) (Some end) (length rope.text)) rope start
+    (part_between (content rope) start end)
     status old new before_old before
 
 -- what is said of a range that may have a fault, by a call that takes no memory
@@ -42,34 +46,45 @@ SaysOf (Some e) status = status ≡ status_of e
 
 -- the same of a range of bytes
 abbrev pub SliceOfBytesAt : Option RopeView → ℕ → ℕ → ℕ → Slice → Slice → Counts → Counts → Type 0
-SliceOfBytesAt None start end status old new before_old before = (status ≡ NO_ROPE_HELD) × (new ≡ old) × (before ≡ before_old)
+SliceOfBytesAt None start end status old new before_old before = (status ≡ NO_ROPE_HELD)
+    × (new ≡ old) × (before ≡ before_old)
 SliceOfBytesAt (Some rope) start end status old new before_old before =
     let from = byte_to_char rope.text start in
-    SliceAt (byte_range_error rope.text (Some start) (Some end)) rope from (part_between (content rope) from (byte_to_char rope.text end))
+    SliceAt (byte_range_error rope.text (Some start) (Some end)) rope from
+    (part_between (content rope) from (byte_to_char rope.text end))
     status old new before_old before
 
 -- the same of how much the part holds
-abbrev pub CountsPartAt : Option Error → RopeView → ℕ → ℕ → ℕ → Counts → Counts → Counts → Counts → Type 0
+abbrev pub CountsPartAt : Option Error → RopeView → ℕ → ℕ → ℕ → Counts → Counts → Counts → Counts
+    → Type 0
 CountsPartAt None rope start end status old new before_old before =
-    (status ≡ OK) × IsCounts rope.breaks (slice_range rope.text start end) new × IsBefore rope.breaks rope.text start before
-CountsPartAt (Some e) rope start end status old new before_old before = (status ≡ status_of e) × (new ≡ old) × (before ≡ before_old)
+    (status ≡ OK) × IsCounts rope.breaks (slice_range rope.text start end) new
+    × IsBefore rope.breaks rope.text start before
+CountsPartAt (Some e) rope start end status old new before_old before = (status ≡ status_of e)
+    × (new ≡ old) × (before ≡ before_old)
 
-abbrev pub CountsInCharsAt : Option RopeView → ℕ → ℕ → ℕ → Counts → Counts → Counts → Counts → Type 0
-CountsInCharsAt None start end status old new before_old before = (status ≡ NO_ROPE_HELD) × (new ≡ old) × (before ≡ before_old)
+abbrev pub CountsInCharsAt : Option RopeView → ℕ → ℕ → ℕ → Counts → Counts → Counts → Counts
+    → Type 0
+CountsInCharsAt None start end status old new before_old before = (status ≡ NO_ROPE_HELD)
+    × (new ≡ old) × (before ≡ before_old)
 CountsInCharsAt (Some rope) start end status old new before_old before =
-    CountsPartAt (char_range_error (Some start) (Some end) (length rope.text)) rope start end status old new before_old before
+    CountsPartAt (char_range_error (Some start) (Some end) (length rope.text)) rope start end status
+    old new before_old before
 
 -- the lines of the text from a character on, and what lies before it
-abbrev pub ShowsLinesAt : Option RopeView → ℕ → ℕ → List Slice → List Slice → ℕ → ℕ → Counts → Counts → Type 0
+abbrev pub ShowsLinesAt : Option RopeView → ℕ → ℕ → List Slice → List Slice → ℕ → ℕ → Counts
+    → Counts → Type 0
 ShowsLinesAt None i status old new count_old count before_old before =
     (status ≡ NO_ROPE_HELD) × (new ≡ old) × (count ≡ count_old) × (before ≡ before_old)
 ShowsLinesAt (Some rope) i status old new count_old count before_old before =
-    (length rope.text < i → (status ≡ CHAR_INDEX_OUT_OF_BOUNDS) × (new ≡ old) × (count ≡ count_old) × (before ≡ before_old))
+    (length rope.text < i → (status ≡ CHAR_INDEX_OUT_OF_BOUNDS) × (new ≡ old) × (count ≡ count_old)
+    × (before ≡ before_old))
     × (i ≤ length rope.text → (status ≡ OK) × IsBefore rope.breaks rope.text i before
     × Shows (lines_of (part_between (content rope) i (length rope.text))) old new count)
 
 -- the lines from one on, and what lies before the first of them, where it is OK
-abbrev pub ShowsLinesFromAt : Option RopeView → ℕ → ℕ → List Slice → List Slice → ℕ → ℕ → Counts → Counts → Type 0
+abbrev pub ShowsLinesFromAt : Option RopeView → ℕ → ℕ → List Slice → List Slice → ℕ → ℕ → Counts
+    → Counts → Type 0
 ShowsLinesFromAt None i status old new count_old count before_old before =
     ShowsLinesFrom None i status old new count_old count × (before ≡ before_old)
 ShowsLinesFromAt (Some rope) i status old new count_old count before_old before =

@@ -8,11 +8,14 @@ use Rattle.rope_text.specs.Edit.{or_else, byte_index_error, byte_range_error, ch
 
 -- a byte past the end, or inside a character
 abbrev pub byte_place_error : List ℕ → ℕ → Option Error
-byte_place_error text b = or_else (byte_index_error b (byte_len text)) (if is_char_boundary text b then None else Some (ByteIndexNotCharBoundary b))
+byte_place_error text b =
+    or_else (byte_index_error b (byte_len text))
+    (if is_char_boundary text b then None else Some (ByteIndexNotCharBoundary b))
 
 -- why an insert before a byte is refused, but for memory
 abbrev pub byte_insert_error : List ℕ → ℕ → List ℕ → Option Error
-byte_insert_error text b new = or_else (byte_place_error text b) (size_error (byte_len text + byte_len new))
+byte_insert_error text b new =
+    or_else (byte_place_error text b) (size_error (byte_len text + byte_len new))
 
 -- the text with another in the place of the characters from a up to b
 abbrev pub replaced : List ℕ → ℕ → ℕ → List ℕ → List ℕ
@@ -24,8 +27,10 @@ replaced_size_error text a b new = size_error (byte_len (removed text a b) + byt
 
 -- why a replacement is refused, but for memory
 abbrev pub replace_error : List ℕ → ℕ → ℕ → List ℕ → Option Error
-replace_error text a b new = or_else (char_range_error (Some a) (Some b) (length text)) (replaced_size_error text a b new)
+replace_error text a b new =
+    or_else (char_range_error (Some a) (Some b) (length text)) (replaced_size_error text a b new)
 
 abbrev pub byte_replace_error : List ℕ → ℕ → ℕ → List ℕ → Option Error
 byte_replace_error text a b new =
-    or_else (byte_range_error text (Some a) (Some b)) (replaced_size_error text (byte_to_char text a) (byte_to_char text b) new)
+    or_else (byte_range_error text (Some a) (Some b))
+    (replaced_size_error text (byte_to_char text a) (byte_to_char text b) new)

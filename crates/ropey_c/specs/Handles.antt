@@ -43,7 +43,8 @@ held_lent R p (Some x) = fsep (fex (Testable p) (λ _. ftrue)) (fex Lft (lent_fo
 abbrev pub rope_lent : Ptr → Option RopeView → Fml
 rope_lent p rope = held_lent the_row p rope
 
--- a handle's rope, if there is one, is what every rope is: chunks of 1 to 984 bytes that join to its text, few of them
+-- a handle's rope, if there is one, is what every rope is: chunks of 1 to 984 bytes that join to
+-- its text, few of them
 abbrev pub HoldsRope : Option RopeView → Type 0
 HoldsRope rope = IfSome rope IsRope
 

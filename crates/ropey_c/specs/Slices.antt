@@ -25,7 +25,8 @@ pub record Shown : Type 0 where
 abbrev pub shown : Slice → Shown
 shown slice = record { bytes = slice.text.now; counts = slice.counts }
 
--- what it is to see of a part: its bytes where one chunk has them all, and else none; and how much it holds
+-- what it is to see of a part: its bytes where one chunk has them all, and else none; and how much
+-- it holds
 abbrev pub shown_as : Content → Shown
 shown_as part = record {
   bytes = if nat_le (length part.chunks) 1 then encode_utf8_all part.text else [];
@@ -42,7 +43,8 @@ abbrev pub SliceOfLine : Option RopeView → ℕ → ℕ → Slice → Slice →
 SliceOfLine None i status old new = (status ≡ NO_ROPE_HELD) × (new ≡ old)
 SliceOfLine (Some rope) i status old new =
     (line_count rope.breaks rope.text ≤ i → (status ≡ LINE_INDEX_OUT_OF_BOUNDS) × (new ≡ old))
-    × (i < line_count rope.breaks rope.text → (status ≡ OK) × (shown new ≡ shown_as (line_of (content rope) i)))
+    × (i < line_count rope.breaks rope.text → (status ≡ OK)
+    × (shown new ≡ shown_as (line_of (content rope) i)))
 
 -- the slice of a range of characters is written, unless the range has a fault
 abbrev pub SliceInRange : Option Error → Content → ℕ → Slice → Slice → Type 0
@@ -52,13 +54,16 @@ SliceInRange (Some e) part status old new = (status ≡ status_of e) × (new ≡
 abbrev pub SliceOfChars : Option RopeView → ℕ → ℕ → ℕ → Slice → Slice → Type 0
 SliceOfChars None start end status old new = (status ≡ NO_ROPE_HELD) × (new ≡ old)
 SliceOfChars (Some rope) start end status old new =
-    SliceInRange (char_range_error (Some start) (Some end) (length rope.text)) (part_between (content rope) start end) status old new
+    SliceInRange (char_range_error (Some start) (Some end) (length rope.text))
+    (part_between (content rope) start end) status old new
 
 abbrev pub shown_of : RopeSlice → Shown
 shown_of slice = shown_as (content_of slice)
 
--- an iterator was asked for slices as far as there is room, what C sees of them was written to the front, and the rest stayed
-pub record ShowsBy {S : Type 0} (steps : S → Option RopeSlice → S → Type 0) (s : S) (old new : List Slice) (count : ℕ) : Type 0 where
+-- an iterator was asked for slices as far as there is room, what C sees of them was written to the
+-- front, and the rest stayed
+pub record ShowsBy {S : Type 0} (steps : S → Option RopeSlice → S → Type 0) (s : S)
+    (old new : List Slice) (count : ℕ) : Type 0 where
   pub parts : List RopeSlice
   pub after : S
   pub given : Yields steps s parts after
@@ -71,18 +76,26 @@ pub record ShowsBy {S : Type 0} (steps : S → Option RopeSlice → S → Type 0
 -- as many of the parts as there is room for were written to the front, and the rest stayed
 abbrev pub Shows : List Content → List Slice → List Slice → ℕ → Type 0
 Shows parts old new count =
-    (count ≡ min (length old) (length parts)) × (map shown (take count new) ≡ map shown_as (take count parts)) × (drop count new ≡ drop count old)
+    (count ≡ min (length old) (length parts))
+    × (map shown (take count new) ≡ map shown_as (take count parts))
+    × (drop count new ≡ drop count old)
 
 -- the lines from one on
 abbrev pub ShowsLinesFrom : Option RopeView → ℕ → ℕ → List Slice → List Slice → ℕ → ℕ → Type 0
-ShowsLinesFrom None i status old new count_old count = (status ≡ NO_ROPE_HELD) × (new ≡ old) × (count ≡ count_old)
+ShowsLinesFrom None i status old new count_old count = (status ≡ NO_ROPE_HELD) × (new ≡ old)
+    × (count ≡ count_old)
 ShowsLinesFrom (Some rope) i status old new count_old count =
-    (line_count rope.breaks rope.text < i → (status ≡ LINE_INDEX_OUT_OF_BOUNDS) × (new ≡ old) × (count ≡ count_old))
-    × (i ≤ line_count rope.breaks rope.text → (status ≡ OK) × Shows (drop i (lines_of (content rope))) old new count)
+    (line_count rope.breaks rope.text < i → (status ≡ LINE_INDEX_OUT_OF_BOUNDS) × (new ≡ old)
+    × (count ≡ count_old))
+    × (i ≤ line_count rope.breaks rope.text → (status ≡ OK)
+    × Shows (drop i (lines_of (content rope))) old new count)
 
 -- the lines before one, the nearest first
 abbrev pub ShowsLinesBefore : Option RopeView → ℕ → ℕ → List Slice → List Slice → ℕ → ℕ → Type 0
-ShowsLinesBefore None i status old new count_old count = (status ≡ NO_ROPE_HELD) × (new ≡ old) × (count ≡ count_old)
+ShowsLinesBefore None i status old new count_old count = (status ≡ NO_ROPE_HELD) × (new ≡ old)
+    × (count ≡ count_old)
 ShowsLinesBefore (Some rope) i status old new count_old count =
-    (line_count rope.breaks rope.text < i → (status ≡ LINE_INDEX_OUT_OF_BOUNDS) × (new ≡ old) × (count ≡ count_old))
-    × (i ≤ line_count rope.breaks rope.text → (status ≡ OK) × Shows (reverse (take i (lines_of (content rope)))) old new count)
+    (line_count rope.breaks rope.text < i → (status ≡ LINE_INDEX_OUT_OF_BOUNDS) × (new ≡ old)
+    × (count ≡ count_old))
+    × (i ≤ line_count rope.breaks rope.text → (status ≡ OK)
+    × Shows (reverse (take i (lines_of (content rope)))) old new count)

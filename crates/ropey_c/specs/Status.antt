@@ -1,4 +1,5 @@
--- The numbers that stand for refusals and for sets of line breaks, and which of them a call answers.
+-- The numbers that stand for refusals and for sets of line breaks, and which of them a call
+-- answers.
 use Rattle.std.specs.Prelude.{◌≡◌, ◌⊎◌, ℕ, ◌==◌, List, Option, Some, None, if◌then◌else◌}
 use Rattle.std.specs.Str.{IsUtf8}
 use Rattle.std.specs.Char.{IsScalar}
@@ -27,25 +28,29 @@ status_of LineBreaksDiffer = BREAK_SETS_DIFFER
 -- the set of line breaks that a number stands for, and the other way round
 abbrev pub given_breaks : ℕ → Option LineBreaks
 given_breaks number =
-    if number == LF then Some Lf else if number == LF_CR then Some CrLf else if number == UNICODE then Some Unicode else None
+    if number == LF then Some Lf else if number == LF_CR then Some CrLf else if number ==
+    UNICODE then Some Unicode else None
 
 abbrev pub number_of : LineBreaks → ℕ
 number_of Lf = LF
 number_of CrLf = LF_CR
 number_of Unicode = UNICODE
 
--- a call that takes memory answers the error that its arguments give; where they give none it is done, or memory was refused
+-- a call that takes memory answers the error that its arguments give; where they give none it is
+-- done, or memory was refused
 abbrev pub IsStatus : Option Error → ℕ → Type 0
 IsStatus None status = (status ≡ OK) ⊎ (status ≡ OUT_OF_MEMORY)
 IsStatus (Some e) status = status ≡ status_of e
 
 -- bytes that are no text are refused before anything else
 abbrev pub IsTextStatus : List ℕ → Option Error → ℕ → Type 0
-IsTextStatus bytes e status = (¬ IsUtf8 bytes → status ≡ INVALID_UTF8) × (IsUtf8 bytes → IsStatus e status)
+IsTextStatus bytes e status = (¬ IsUtf8 bytes → status ≡ INVALID_UTF8)
+    × (IsUtf8 bytes → IsStatus e status)
 
 -- so is a number that is no character
 abbrev pub IsCharStatus : ℕ → Option Error → ℕ → Type 0
-IsCharStatus c e status = (¬ IsScalar c → status ≡ NOT_A_CHARACTER) × (IsScalar c → IsStatus e status)
+IsCharStatus c e status = (¬ IsScalar c → status ≡ NOT_A_CHARACTER)
+    × (IsScalar c → IsStatus e status)
 
 -- a number that is no set of line breaks is refused before the text
 abbrev pub IsMakerStatus : Option LineBreaks → List ℕ → ℕ → Type 0

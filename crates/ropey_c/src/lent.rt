@@ -23,7 +23,7 @@ impl Model for Lent {
 
 impl Lent {
     // Returns the rope at the pointer, for as long as the handle is lent.
-    fn behind<'a>(&'a self) -> Option<&'a Rope>
+    fn at_pointer<'a>(&'a self) -> Option<&'a Rope>
         ensures { MatchOption result (self.now.rope ≡ None)
             (λ rope. self.now.rope ≡ Some rope.now) }
     {
@@ -40,7 +40,7 @@ impl Lent {
             (λ rope. self.now.rope ≡ Some rope.now) }
         ensures kept { MatchOption result (self.now.rope ≡ None) (λ rope. IsRope rope.now) }
     {
-        let rope = self.behind()?;
+        let rope = self.at_pointer()?;
         // For the proof: a length opens what every rope keeps.
         let _ = rope.len_bytes();
         Some(rope)

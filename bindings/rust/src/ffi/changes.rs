@@ -8,7 +8,7 @@ pub(crate) const RANGE_INVALID: u32 = 10;
 pub(crate) const RANGE_OUT_OF_BOUNDS: u32 = 11;
 /// The status of a range that starts before the end of the last replacement.
 pub(crate) const OUT_OF_ORDER: u32 = 21;
-/// The status of a text of another length than the changes are for.
+/// The status of a text whose length isn't the one that the changes are for.
 pub(crate) const LENGTHS_DIFFER: u32 = 22;
 
 /// `ropey_replacement`.
@@ -37,7 +37,7 @@ extern "C" {
     fn ropey_changes_edits(changes: Held, edits: *mut RawReplacement, room: usize, count: *mut usize) -> u32;
 }
 
-/// Returns the status of a call that failed. Out of memory, the program ends as an edit of a `Vec` ends it.
+/// Returns the status of a call that failed. Out of memory, it aborts as `Vec` does.
 fn checked(status: u32) -> Result<(), u32> {
     match status {
         OK => Ok(()),
@@ -49,7 +49,7 @@ fn checked(status: u32) -> Result<(), u32> {
 /// Changes of the library.
 pub(crate) struct Changes(Handle);
 
-// Safety: nothing but the handle leads to the memory of changes, and calls by `&` only read it.
+// Safety: only the handle points to the memory of changes, and calls by `&` only read it.
 unsafe impl Send for Changes {}
 unsafe impl Sync for Changes {}
 
@@ -125,7 +125,7 @@ impl Changes {
             end: raw.end,
             new_start: raw.new_start,
             new_end: raw.new_end,
-            // Safety: the text is UTF-8, and stays until the changes are edited or freed.
+            // Safety: the text is UTF-8, and stays in place until the changes are edited or freed.
             text: unsafe { text_at(raw.text) },
         };
         list.iter().map(shown).collect()

@@ -10,7 +10,7 @@ const UNPAIRED_SURROGATE: u32 = 26;
 const HALF_CODE_UNIT: u32 = 27;
 const UNENCODABLE: u32 = 28;
 
-/// The number that stands for the encoding of a file's mark.
+/// The number that selects the encoding of a file's mark.
 pub(crate) const BY_MARK: u32 = 7;
 
 extern "C" {
@@ -48,7 +48,8 @@ impl Root {
         Ok((root, found))
     }
 
-    /// Returns the bytes of a file, or the index of the first character that the encoding has no bytes for.
+    /// Returns the bytes of a file, or the index of the first character that the encoding has no
+    /// bytes for.
     pub(crate) fn file(&self, encoding: u32) -> Result<Vec<u8>, usize> {
         let (mut bytes, mut len, mut char_idx) = (Vec::new(), 0, 0);
         loop {

@@ -14,8 +14,8 @@ use crate::iter::{counted_cursor, Chunks, InChunk};
 /// ```
 #[derive(Clone)]
 pub struct Bytes<'a> {
-    // Behind the chunk, before which lie so many bytes, and in which the cursor stands at the byte `idx`: a step changes that
-    // alone.
+    // `chunks` is after `chunk`, and `before` bytes are before `chunk`. A step inside it changes
+    // only `idx`.
     chunks: Chunks<'a>,
     chunk: &'a [u8],
     before: usize,
@@ -27,7 +27,7 @@ pub struct Bytes<'a> {
 counted_cursor!(Bytes, "bytes_at(3)", u8, |bytes: &Bytes<'_>| bytes.before + bytes.idx);
 
 impl<'a> Bytes<'a> {
-    /// In a chunk, at the byte `idx` of it and the byte `passed` of all.
+    /// Returns a cursor at a byte of a chunk, `passed` bytes after the start.
     #[inline]
     pub(crate) fn at((chunks, text, idx): InChunk<'a>, passed: usize, total: usize) -> Bytes<'a> {
         Bytes { chunks, chunk: text.as_bytes(), before: passed - idx, idx, total, is_reversed: false }

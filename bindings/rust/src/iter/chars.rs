@@ -16,14 +16,15 @@ use crate::iter::{counted_cursor, Chunks, InChunk};
 /// ```
 #[derive(Clone)]
 pub struct Chars<'a> {
-    // Behind the chunk. Of its characters, those on the side to which the cursor went last: a step the same way takes the
-    // next of them, and tests no boundary.
+    // `chunks` is after `chunk`. `side` has the characters of `chunk` after the cursor, or, after a
+    // step backward, those before it: a step in the same direction takes one without testing a
+    // boundary.
     chunks: Chunks<'a>,
     chunk: &'a str,
     side: str::Chars<'a>,
     is_ahead: bool,
-    // The same side as it was when the cursor came there, and how many characters it had passed by then. Those that it passed
-    // since are counted where they are asked for, so that a step changes `side` alone.
+    // `side` and the number of passed characters as they were at the last change of chunk or
+    // direction. The steps since are counted on demand, so that a step changes only `side`.
     whole: &'a str,
     passed: usize,
     total: usize,
@@ -33,7 +34,7 @@ pub struct Chars<'a> {
 counted_cursor!(Chars, "chars_at(3)", char, Chars::passed);
 
 impl<'a> Chars<'a> {
-    /// In a chunk, at the byte `idx` of it and the character `passed` of all.
+    /// Returns a cursor at a byte of a chunk, `passed` characters after the start.
     #[inline]
     pub(crate) fn at((chunks, chunk, idx): InChunk<'a>, passed: usize, total: usize) -> Chars<'a> {
         let whole = &chunk[idx..];
@@ -49,8 +50,8 @@ impl<'a> Chars<'a> {
         }
     }
 
-    /// Comes to one side of a place in the chunk.
-    fn face(&mut self, whole: &'a str, is_ahead: bool) {
+    /// Sets the side, after counting the steps on the old one.
+    fn set_side(&mut self, whole: &'a str, is_ahead: bool) {
         (self.passed, self.is_ahead) = (self.passed(), is_ahead);
         (self.whole, self.side) = (whole, whole.chars());
     }
@@ -58,28 +59,28 @@ impl<'a> Chars<'a> {
     #[inline(always)]
     fn forward(&mut self) -> Option<char> {
         if !self.is_ahead {
-            self.face(&self.chunk[self.side.as_str().len()..], true);
+            self.set_side(&self.chunk[self.side.as_str().len()..], true);
         }
         let next = self.side.next();
         if next.is_some() {
             return next;
         }
         self.chunk = self.chunks.forward()?;
-        self.face(self.chunk, true);
+        self.set_side(self.chunk, true);
         self.side.next()
     }
 
     #[inline(always)]
     fn backward(&mut self) -> Option<char> {
         if self.is_ahead {
-            self.face(&self.chunk[..self.chunk.len() - self.side.as_str().len()], false);
+            self.set_side(&self.chunk[..self.chunk.len() - self.side.as_str().len()], false);
         }
         let last = self.side.next_back();
         if last.is_some() {
             return last;
         }
         self.chunk = self.chunks.back()?;
-        self.face(self.chunk, false);
+        self.set_side(self.chunk, false);
         self.side.next_back()
     }
 }

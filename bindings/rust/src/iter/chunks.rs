@@ -1,10 +1,11 @@
-//! Chunks, fetched some at a time.
+//! Chunks, fetched several at a time.
 use crate::ffi::{Before, Counts, Pieces, Root, FEW_PIECES};
 use crate::iter::cursor;
 use crate::slice::{cut, known};
 use crate::MAX_BYTES;
 
-/// A cursor over the chunks of a text: pieces of at most 984 bytes, none of them empty, that join to the text.
+/// A cursor over the chunks of a text: pieces of at most 984 bytes, none of them empty, that join
+/// to the text.
 ///
 /// ```
 /// use ropey::Rope;
@@ -14,11 +15,12 @@ use crate::MAX_BYTES;
 /// assert_eq!(rope, joined);
 /// ```
 pub struct Chunks<'a> {
-    // The rope, and some chunks around the cursor, of which so many lie behind it. Without a rope, a text in one piece.
+    // The rope, or `None` for a plain text; some chunks around the cursor, `passed` of them before
+    // it.
     root: Option<&'a Root>,
     pieces: Pieces<'a>,
     passed: usize,
-    // The range, its first character, and where the cursor stands, in bytes of the rope.
+    // The range, its first character, and the cursor's position, in bytes of the rope.
     start: usize,
     first_char: usize,
     end: usize,
@@ -28,16 +30,17 @@ pub struct Chunks<'a> {
     is_reversed: bool,
 }
 
-/// How many chunks are fetched at once at most.
+/// The largest number of chunks fetched at once.
 const MOST: usize = 256;
 
 cursor!(Chunks, "chunks_at_byte(3).0", &'a str, {});
 
-/// A cursor behind a chunk, the chunk, and how many of its bytes lie before a place in it.
+/// A cursor after a chunk, the chunk, and a byte index in it.
 pub(crate) type InChunk<'a> = (Chunks<'a>, &'a str, usize);
 
 impl Clone for Chunks<'_> {
-    /// The same place. Of what was fetched no more than a few are copied, as many a clone is soon dropped.
+    /// Returns a cursor at the same position. Copies at most a few of the fetched chunks, since
+    /// many clones are soon dropped.
     #[inline]
     fn clone(&self) -> Self {
         let pieces = self.pieces.few();
@@ -46,7 +49,7 @@ impl Clone for Chunks<'_> {
 }
 
 impl<'a> Chunks<'a> {
-    /// Over so many bytes of a rope from a place on, or, where there is no rope, over a text in one piece.
+    /// Returns a cursor over `len` bytes of a rope from `start` on, or without a rope over `text`.
     #[inline(always)]
     pub(crate) fn over(root: Option<&'a Root>, start: Counts, len: usize, text: &'a str) -> Chunks<'a> {
         let (pieces, first_char, start) = (Pieces::of(text), start.chars, start.bytes);
@@ -60,10 +63,10 @@ impl<'a> Chunks<'a> {
         self
     }
 
-    /// Behind the chunk of the range that holds its byte `at`, or behind the last one; with that chunk, as far as it lies in the
-    /// range, and how many of its bytes lie before `at`.
+    /// Returns a cursor after the chunk that contains the byte `at` of the range, or after the last
+    /// one for the length; with that chunk, cut to the range, and the index of the byte in it.
     #[inline]
-    pub(crate) fn behind(mut self, root: &'a Root, start: Counts, counts: Counts, at: usize) -> InChunk<'a> {
+    pub(crate) fn in_chunk(mut self, root: &'a Root, start: Counts, counts: Counts, at: usize) -> InChunk<'a> {
         if at == 0 {
             let text = known(self.forward());
             return (self, text, 0);
@@ -79,7 +82,7 @@ impl<'a> Chunks<'a> {
         let text = match self.pieces.get(self.passed) {
             Some(text) => text,
             None if self.at == self.end => return None,
-            None => self.fetch_ahead()?,
+            None => self.fetch_next()?,
         };
         self.passed += 1;
         self.at += text.len();
@@ -90,7 +93,7 @@ impl<'a> Chunks<'a> {
     pub(crate) fn backward(&mut self) -> Option<&'a str> {
         let text = match self.passed {
             0 if self.at == self.start => return None,
-            0 => self.fetch_behind()?,
+            0 => self.fetch_previous()?,
             passed => self.pieces.get(passed - 1)?,
         };
         self.passed -= 1;
@@ -98,17 +101,18 @@ impl<'a> Chunks<'a> {
         Some(text)
     }
 
-    /// Forward, by one who reads each text: the next one is on its way to the processor by then.
+    /// Iterates forward, and prefetches each chunk while the one before it is read.
     #[inline]
     pub(crate) fn read(mut self) -> impl Iterator<Item = &'a str> {
         std::iter::from_fn(move || {
             let text = self.forward();
-            self.pieces.touch(self.passed);
+            self.pieces.prefetch(self.passed);
             text
         })
     }
 
-    /// From behind a chunk to behind the one before it, which is answered; stays where there is none.
+    /// Moves from after a chunk to after the previous one, and returns that. Stays if there is
+    /// none.
     #[inline]
     pub(crate) fn back(&mut self) -> Option<&'a str> {
         self.backward();
@@ -117,11 +121,11 @@ impl<'a> Chunks<'a> {
         before
     }
 
-    /// Fetches the chunks ahead, and answers the first of them.
+    /// Fetches the next chunks, and returns the first of them.
     #[inline(never)]
-    fn fetch_ahead(&mut self) -> Option<&'a str> {
+    fn fetch_next(&mut self) -> Option<&'a str> {
         let (root, at) = (self.root?, self.at);
-        // By character, as the range was found, of which the processor has the counts at hand.
+        // At the start by character, as the range was found: those totals are in the cache.
         let first_char = (at == self.start).then_some(self.first_char);
         self.find(|pieces| match first_char {
             Some(first_char) => pieces.fetch_at_char(root, first_char),
@@ -130,9 +134,10 @@ impl<'a> Chunks<'a> {
         self.pieces.get(0)
     }
 
-    /// Fetches the chunks behind, and answers the last of them; of the one in which the range ends, the part behind the cursor.
+    /// Fetches the previous chunks, and returns the last of them. If the cursor is inside a chunk,
+    /// at the end of the range, that is the part before the cursor.
     #[inline(never)]
-    fn fetch_behind(&mut self) -> Option<&'a str> {
+    fn fetch_previous(&mut self) -> Option<&'a str> {
         let (root, left) = (self.root?, self.at - self.start);
         let next = self.set_room(left, true);
         let end = self.pieces.fetch_before(root, self.at, left);
@@ -147,9 +152,10 @@ impl<'a> Chunks<'a> {
         self.pieces.get(self.passed - 1)
     }
 
-    /// Sets how many chunks to fetch: about as many as hold the text that is left if they are full, and at least two. Returns how
-    /// many to fetch the next time in the same direction: a few at first and after a turn, since many cursors are soon dropped or
-    /// turned again, and then twice as many each time.
+    /// Sets the number of chunks to fetch, at least two and about as many as full chunks would need
+    /// for `left` bytes. Returns the limit for the next fetch in the same direction: it starts low,
+    /// also after a turn, since many cursors are soon dropped or turned again, and doubles each
+    /// time.
     fn set_room(&mut self, left: usize, is_back: bool) -> usize {
         let room = if is_back == self.is_back { self.pieces.room } else { FEW_PIECES };
         self.is_back = is_back;
@@ -157,12 +163,12 @@ impl<'a> Chunks<'a> {
         MOST.min(2 * room)
     }
 
-    /// Fetches chunks from the one on that a look-up finds, and stands before it; answers what lies before it in the rope. Of the
-    /// chunks it keeps what lies in the range.
+    /// Fetches chunks by a lookup, cuts them to the range, and moves before the first of them.
+    /// Returns the counts before that chunk in the rope.
     #[inline]
-    pub(crate) fn find(&mut self, look_up: impl FnOnce(&mut Pieces<'a>) -> Before) -> Before {
+    pub(crate) fn find(&mut self, fetch: impl FnOnce(&mut Pieces<'a>) -> Before) -> Before {
         let next = self.set_room(self.end - self.at, false);
-        let before = look_up(&mut self.pieces);
+        let before = fetch(&mut self.pieces);
         self.pieces.room = next;
         self.at = before.0.max(self.start);
         self.passed = 0;

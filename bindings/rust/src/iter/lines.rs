@@ -1,4 +1,5 @@
-//! Lines, chunk by chunk. A line that lies in one chunk is a slice of that chunk; any other is a range of the rope.
+//! Lines, fetched several at a time. A line in one chunk is a slice of that chunk, any other a
+//! range of the rope.
 use crate::ffi::{Counts, Plain, Root, Window};
 use crate::iter::counted_cursor;
 use crate::slice::{Part, RopeSlice};
@@ -18,9 +19,9 @@ use crate::str_utils::{first_line, last_line};
 pub struct Lines<'a> {
     slice: RopeSlice<'a>,
     is_whole: bool,
-    // Of a rope: some lines around the cursor.
+    // In a rope, some lines around the cursor.
     window: Window<'a>,
-    // Of a text in one piece: the byte at which it stands.
+    // In a plain text, the cursor's byte index.
     idx: usize,
     passed: usize,
     total: usize,
@@ -87,18 +88,18 @@ impl<'a> Lines<'a> {
         RopeSlice::counted(plain.with(&plain.text[start..end]))
     }
 
-    /// A line of a rope's range: by the window, where it is the rope's.
+    /// Returns a line of a range of a rope: from the window, unless the slice may cut the line.
     #[inline(always)]
     fn of_range(&mut self, line_idx: usize, is_back: bool) -> RopeSlice<'a> {
         let Some((root, line)) = self.slice.line_of_rope(line_idx, self.is_whole) else {
             return self.cut_line(line_idx, is_back);
         };
-        // The first line of a slice that isn't whole may be cut, and is fetched going forward alone, from where the slice starts.
+        // The first line of a slice that isn't whole may be cut, so it isn't fetched backward.
         let left = if is_back { line_idx + usize::from(self.is_whole) } else { self.total - line_idx };
         let at = self.window.find(root, line, is_back, left);
         let Some(text) = self.window.text(at) else { return self.long_line(root, line, at, is_back) };
         self.pass(self.window.counts(at), is_back);
-        // Read again, and not kept: it would be stored and loaded in other parts.
+        // Read again: a kept copy would cause a store-forwarding stall.
         RopeSlice::of_text(Plain { text, breaks: root.breaks() }, self.window.counts(at))
     }
 
@@ -109,7 +110,7 @@ impl<'a> Lines<'a> {
         }
     }
 
-    /// A line that lies in several chunks.
+    /// Returns a line that spans several chunks.
     #[inline(never)]
     fn long_line(&mut self, root: &'a Root, line: usize, at: usize, is_back: bool) -> RopeSlice<'a> {
         let counts = self.window.counts(at);
@@ -122,7 +123,7 @@ impl<'a> Lines<'a> {
         RopeSlice::of_range(root, start, counts)
     }
 
-    /// A line at an end of a slice, which may be less than the rope's.
+    /// Returns a line at an end of a slice, which may cut it.
     #[inline(never)]
     fn cut_line(&mut self, line_idx: usize, is_back: bool) -> RopeSlice<'a> {
         let line = match self.window.before {
@@ -133,7 +134,7 @@ impl<'a> Lines<'a> {
         line
     }
 
-    /// The line that the cursor stands before, as far as it lies in the slice.
+    /// Returns the part in the slice of the line after the cursor.
     fn clipped(&mut self, line_idx: usize, before: Counts) -> RopeSlice<'a> {
         let left = self.slice.start().plus(self.slice.counts).minus(before);
         let Some((root, line)) = self.slice.line_of_rope(line_idx, true).filter(|_| left.bytes > 0) else {

@@ -1,11 +1,12 @@
 //! Cursors over a text's bytes, characters, lines and chunks.
 //!
-//! A cursor stands between two items, or at an end of the text. `next` passes the item after it, and `prev` the one
-//! before it, so that either takes back what the other did; at an end they return `None`, and may be called again. Turned
-//! round by `reverse`, a cursor goes back on `next`, from where it stands.
+//! A cursor is between two items, or at an end of the text. `next` returns the item after it, and
+//! `prev` the item before it; each moves over that item, so each undoes the other. At an end they
+//! return `None`, and may be called again. `reverse` swaps the two directions.
 //!
-//! A cursor fetches one line or three chunks at first and after a turn. Each further fetch has four times as many lines, up
-//! to 50, or twice as many chunks, up to 256. It takes at most 6 KB of memory, of which a thread keeps 2.4 KB for its next cursor over lines.
+//! A cursor fetches one line or three chunks at first and after a turn. Each further fetch has four
+//! times as many lines, up to 50, or twice as many chunks, up to 256. It takes at most 6 KB of
+//! memory. A thread keeps 2.4 KB of it for its next cursor over lines.
 //!
 //! ```
 //! use ropey::Rope;
@@ -30,7 +31,7 @@ pub use self::chunks::Chunks;
 pub(crate) use self::chunks::InChunk;
 pub use self::lines::Lines;
 
-/// An example: two values that are equal, after a step of a cursor over a text.
+/// An example of a cursor over a text.
 macro_rules! example {
     ($at:literal, $first:literal, $shown:literal) => {
         concat!(
@@ -44,18 +45,19 @@ macro_rules! example {
     };
 }
 
-/// What the four cursors have alike, over `forward` and `backward`. In examples they stand at the end of a text.
+/// The calls that all cursors have, over `forward` and `backward`. In the examples a cursor is at
+/// the end of its text.
 macro_rules! cursor {
     ($name:ident, $at:literal, $item:ty, {$($size_hint:item)?}) => {
         impl<'a> $name<'a> {
-            /// Turns the cursor round where it stands.
+            /// Reverses the cursor in place.
             #[doc = crate::iter::example!($at, "cursor.reverse();\n", "assert!(cursor.next().is_some());")]
             #[inline]
             pub fn reverse(&mut self) {
                 self.is_reversed = !self.is_reversed;
             }
 
-            /// Returns the cursor, turned round where it stands.
+            /// Returns the cursor, reversed in place.
             #[doc = crate::iter::example!($at, "let mut cursor = cursor.reversed();\n", "assert!(cursor.next().is_some());")]
             #[inline]
             #[must_use]
@@ -64,7 +66,8 @@ macro_rules! cursor {
                 self
             }
 
-            /// Passes the item before the cursor and returns it, or `None` at the start of the text.
+            /// Returns the previous item and moves before it, or returns `None` at the start of the
+            /// text.
             #[doc = crate::iter::example!($at, "", "assert!(cursor.next().is_none());\nassert!(cursor.prev().is_some());")]
             #[inline(always)]
             pub fn prev(&mut self) -> Option<$item> {
@@ -99,7 +102,7 @@ macro_rules! cursor {
     };
 }
 
-/// A cursor that can tell how many items it has passed, of how many.
+/// A cursor that knows its number of items, and the number `$passed` of items before it.
 macro_rules! counted_cursor {
     ($name:ident, $at:literal, $item:ty, $passed:expr) => {
         crate::iter::cursor!($name, $at, $item, {

@@ -1,7 +1,7 @@
-//! Random numbers, random texts, and what a rope has to answer, computed from a plain text by its definition.
+//! Random numbers, random texts, and the expected results of lookups, computed from a plain text.
 #![allow(dead_code)]
 
-/// A generator of random numbers (xorshift): the same from the same seed.
+/// A generator of random numbers (xorshift).
 pub struct Random(u64);
 
 impl Random {
@@ -16,13 +16,13 @@ impl Random {
         (self.0 % bound as u64) as usize
     }
 
-    /// Two numbers up to `most`, the smaller first.
+    /// Returns two numbers up to `most`, the smaller first.
     pub fn range(&mut self, most: usize) -> (usize, usize) {
         let (a, b) = (self.below(most + 1), self.below(most + 1));
         (a.min(b), a.max(b))
     }
 
-    /// A text of characters of all widths, with many line breaks of every kind.
+    /// Returns a text of characters of all widths, with many line breaks of every kind.
     pub fn text(&mut self, chars: usize) -> String {
         const KINDS: [&str; 16] = [
             "a", "b", " ", "é", "ß", "语", "あ", "😀", "\n", "\r", "\r\n", "\u{b}", "\u{c}", "\u{85}", "\u{2028}",
@@ -31,7 +31,7 @@ impl Random {
         (0..chars).map(|_| KINDS[self.below(KINDS.len())]).collect()
     }
 
-    /// A text of lines of all lengths.
+    /// Returns a text of lines of various lengths.
     pub fn lines(&mut self, lines: usize) -> String {
         const ENDS: [&str; 4] = ["\n", "\r\n", "\n", "\u{2028}"];
         let mut text = String::new();
@@ -50,7 +50,7 @@ impl Random {
     }
 }
 
-/// The bytes at which the line breaks of a text end.
+/// Returns the byte index at which each line break ends.
 pub fn break_ends(text: &str) -> Vec<usize> {
     let mut ends = Vec::new();
     for (i, c) in text.char_indices() {
@@ -68,7 +68,7 @@ pub fn break_ends(text: &str) -> Vec<usize> {
     ends
 }
 
-/// The byte at which each line starts, and at last the length.
+/// Returns the byte index at which each line starts, and the length.
 pub fn line_starts(text: &str) -> Vec<usize> {
     let mut starts = vec![0];
     starts.extend(break_ends(text));
@@ -80,7 +80,7 @@ pub fn lines(text: &str) -> Vec<&str> {
     line_starts(text).windows(2).map(|ends| &text[ends[0]..ends[1]]).collect()
 }
 
-/// The byte at which each character starts, and at last the length.
+/// Returns the byte index at which each character starts, and the length.
 pub fn char_starts(text: &str) -> Vec<usize> {
     text.char_indices().map(|(i, _)| i).chain([text.len()]).collect()
 }
@@ -89,19 +89,19 @@ pub fn utf16_len(text: &str) -> usize {
     text.encode_utf16().count()
 }
 
-/// The character that holds a byte.
+/// Returns the index of the character that contains a byte.
 pub fn char_of_byte(text: &str, byte_idx: usize) -> usize {
     let starts = char_starts(text);
     starts.iter().rposition(|&start| start <= byte_idx).unwrap()
 }
 
-/// The line on which a byte lies: how many breaks end at or before it.
+/// Returns the index of the line that contains a byte: the number of breaks that end at or before
+/// it.
 pub fn line_of_byte(text: &str, byte_idx: usize) -> usize {
     break_ends(text).iter().filter(|&&end| end <= byte_idx).count()
 }
 
-/// Where a line of a rope ends that is cut between a CR and its LF, the answer is a slice's: these are the breaks of a text
-/// of its own.
+/// Returns the bytes, characters, lines and UTF-16 code units of a text.
 pub fn counts(text: &str) -> (usize, usize, usize, usize) {
     (text.len(), text.chars().count(), break_ends(text).len() + 1, utf16_len(text))
 }

@@ -18,7 +18,7 @@
 //! Each list keeps the index of the child of its last edit. While a descent follows the path of the
 //! last edit (`follows`), it tries that child before it searches. Where the paths differ, it
 //! prefetches the lowest list and the leaf, so that their cache misses overlap.
-ghost use Rattle.std.specs.Prelude.{◌≡◌, ◌+◌, ◌*◌, ◌<◌, ◌≤◌, ◌-◌, ◌^◌, [], ◌∷◌, true, false, length, take, slice_index_or, Ok, IfOk, OnErr, IfSome, IfNone};
+ghost use Rattle.std.specs.Prelude.{◌≡◌, ◌+◌, ◌*◌, ◌<◌, ◌≤◌, ◌-◌, ◌^◌, [], ◌∷◌, true, false, length, take, slice_index_or, Ok, IfOk, OnErr, IfSome};
 ghost use Rattle.std.specs.List.{insert};
 ghost use Rattle.rope_text.specs.declared.TheConstants.{MAX_CHILDREN, MAX_SHORT_BYTES};
 ghost use Rattle.rope_text.specs.Text.{byte_len};
@@ -120,8 +120,8 @@ fn touch_leaf(totals: &Totals, nodes: &[Node], place: usize, at: usize) -> bool
     let total = totals.get(place);
     let bytes = total.bytes.wrapping_sub(before.bytes);
     let chars = total.chars.wrapping_sub(before.chars);
-    let is_behind = bytes == chars || at > chars / 2;
-    let from = if is_behind { at } else { 0 };
+    let is_after = bytes == chars || at > chars / 2;
+    let from = if is_after { at } else { 0 };
     matches!(nodes[place].leaf(), Some(leaf) if leaf.touch(from, bytes))
 }
 
@@ -157,7 +157,7 @@ fn put_after(nodes: &mut [Node], place: usize, node: Node)
 
 /// The next step of a descent, from a list of children.
 #[derive(Clone, Copy)]
-struct WayIn {
+struct Branch {
     /// The index of the child.
     place: usize,
     /// The character index in the child.
@@ -170,7 +170,7 @@ impl Children {
     /// Returns the step to the child that takes a text before the character `at`. While the path
     /// follows that of the last edit, the child of that edit is tried first.
     #[inline(always)]
-    fn way_in(&self, editor: &mut Editor, at: usize, to_right: bool, follows: bool) -> WayIn
+    fn branch_at(&self, editor: &mut Editor, at: usize, to_right: bool, follows: bool) -> Branch
         requires children { AreFamily self.now }
         requires within { at ≤ length (joined self.now) }
         requires right { to_right ≡ true → at < length (joined self.now) }
@@ -191,7 +191,7 @@ impl Children {
             follows,
         );
         let before = total_before(&self.totals, place).chars;
-        WayIn {
+        Branch {
             place,
             inside: at - before,
             follows,
@@ -202,32 +202,38 @@ impl Children {
     /// leaves that of the last edit, prefetches the list and the leaf. Returns `None` only if
     /// `touch_list` or `touch_leaf` return true, which they never do.
     #[inline(always)]
-    fn locate(&self, editor: &mut Editor, at: usize, to_right: bool, follows: bool) -> Option<WayIn>
+    fn locate(
+        &self,
+        editor: &mut Editor,
+        at: usize,
+        to_right: bool,
+        follows: bool,
+    ) -> Option<Branch>
         requires children { AreFamily self.now }
         requires within { at ≤ length (joined self.now) }
         requires right { to_right ≡ true → at < length (joined self.now) }
         ensures made { editor.new.maker.made ≡ editor.old.maker.made }
         ensures searched { HasSearched 1 7 editor.old editor.new }
-        ensures child { IfSome result (λ way. way.place < length self.now) }
+        ensures child { IfSome result (λ descent. descent.place < length self.now) }
         ensures place { IfSome result
-            (λ way. at ≡ length (joined (take way.place self.now)) + way.inside) }
+            (λ descent. at ≡ length (joined (take descent.place self.now)) + descent.inside) }
         ensures goes { IfSome result
-            (λ way. (child : Tree)
-            → GoesIn at way.inside (length (text (slice_index_or self.now way.place child)))
+            (λ descent. (child : Tree)
+            → GoesIn at descent.inside (length (text (slice_index_or self.now descent.place child)))
             to_right) }
     {
         if !follows && self.height == 1 && touch_list(&self.nodes) {
             return None;
         }
-        let way = self.way_in(editor, at, to_right, follows);
-        let WayIn { place, inside, .. } = way;
-        if !way.follows
+        let descent = self.branch_at(editor, at, to_right, follows);
+        let Branch { place, inside, .. } = descent;
+        if !descent.follows
             && self.height == 1
             && touch_leaf(&self.totals, &self.nodes, place, inside)
         {
             return None;
         }
-        Some(way)
+        Some(descent)
     }
 
     /// Inserts a text before the character `at`, if its leaf has room, or if the list above the
@@ -259,14 +265,14 @@ impl Children {
         if !self.totals.has_room_for(added.len()) {
             return unchanged();
         }
-        let Some(way) = self.locate(editor, at, to_right, follows) else {
+        let Some(descent) = self.locate(editor, at, to_right, follows) else {
             return unchanged();
         };
-        let WayIn {
+        let Branch {
             place,
             inside,
             follows,
-        } = way;
+        } = descent;
         let most = MAX_BYTES.saturating_sub(added.len());
         if self.nodes[place].is_leaf_above(most) {
             return self.cut_child(editor, at, added, to_right, more);
@@ -352,7 +358,7 @@ impl Children {
         if count >= MAX_CHILDREN || !self.totals.has_room_for(added.len()) {
             return Ok(false);
         }
-        let WayIn { place, inside, .. } = self.way_in(editor, at, to_right, false);
+        let Branch { place, inside, .. } = self.branch_at(editor, at, to_right, false);
         let node = &mut self.nodes[place];
         let old = node.info();
         let back = match node.cut(editor, inside, added, to_right)? {
@@ -404,7 +410,7 @@ impl Children {
         if self.height == 1 || !self.totals.has_room_for(added.len()) {
             return Ok(false);
         }
-        let WayIn { place, inside, .. } = self.way_in(editor, at, to_right, false);
+        let Branch { place, inside, .. } = self.branch_at(editor, at, to_right, false);
         let node = &mut self.nodes[place];
         let old = node.info();
         if !node.insert_splitting(editor, inside, added, to_right)? {
@@ -441,14 +447,14 @@ impl Children {
         ensures tried { IsTried result self.old self.new
             (AreRemoved least.first least.last self.old self.new start end) }
     {
-        let Some(way) = self.locate(editor, start, true, follows) else {
+        let Some(descent) = self.locate(editor, start, true, follows) else {
             return unchanged();
         };
-        let WayIn {
+        let Branch {
             place,
             inside,
             follows,
-        } = way;
+        } = descent;
         if self.totals.get(place).chars < end {
             let maker = &mut editor.maker;
             return self.remove_across(maker, place, start, inside, end, least, less);
@@ -465,19 +471,6 @@ impl Children {
 }
 
 impl Node {
-    /// Returns the leaf, if the node is one.
-    #[inline(always)]
-    fn leaf(&self) -> Option<&Leaf>
-        ensures leaf { IfSome result (λ leaf. leaf.now ≡ self.now) }
-        ensures flat { IfSome result (λ _. self.now.height ≡ 0) }
-        ensures none { IfNone result (self.now.height ≡ 0 → text self.now ≡ []) }
-    {
-        match &self.form {
-            Form::Leaf(leaf) => Some(leaf),
-            _ => None,
-        }
-    }
-
     /// Returns whether the node is a leaf of more than `bytes` bytes.
     #[inline(always)]
     fn is_leaf_above(&self, bytes: usize) -> bool
@@ -487,11 +480,6 @@ impl Node {
             → byte_len (text self.now) ≤ bytes }
     {
         matches!(self.leaf(), Some(leaf) if leaf.info().bytes > bytes)
-    }
-
-    /// Returns whether the node has neither text nor children.
-    fn is_empty(&self) -> bool {
-        matches!(self.form, Form::Empty(_))
     }
 
     /// Inserts a text of at most 981 bytes before the character `at`, if its leaf has room, or if

@@ -49,7 +49,8 @@ fn masks_from(from: usize) -> &'static [u32]
     requires { from ≤ MAX_CHILDREN }
     ensures len { length result.now ≡ MAX_CHILDREN }
     ensures before { (j : ℕ) → j < from → slice_index result.now j ≡ 0 }
-    ensures behind { (j : ℕ) → from ≤ j → j < MAX_CHILDREN → slice_index result.now j ≡ 2 ^ 32 - 1 }
+    ensures following { (j : ℕ) → from ≤ j → j < MAX_CHILDREN
+        → slice_index result.now j ≡ 2 ^ 32 - 1 }
 {
     &MASKS[MAX_CHILDREN - from..2 * MAX_CHILDREN - from]
 }
@@ -211,7 +212,7 @@ impl CountRows {
         ensures len { length self.new ≡ length self.old + 1 }
         ensures before { SameBefore place self.old self.new }
         ensures here { (d : TextInfo) → slice_index_or self.new place d ≡ total }
-        ensures behind { MovedFrom place self.old self.new }
+        ensures following { MovedFrom place self.old self.new }
     {
         put_in(&mut self.bytes, place, total.bytes as u32);
         put_in(&mut self.chars, place, total.chars as u32);
@@ -259,7 +260,7 @@ impl CountRows {
         requires room { length self.old + count ≤ MAX_CHILDREN }
         ensures len { length self.new ≡ length self.old + count }
         ensures before { SameBefore (length self.old) self.old self.new }
-        ensures behind { (j : ℕ) (d : TextInfo) → j < count
+        ensures following { (j : ℕ) (d : TextInfo) → j < count
             → slice_index_or self.new (length self.old + j) d
             ≡ slice_index_or others.now (from + j) d }
     {
@@ -291,7 +292,7 @@ impl CountRows {
             → FitsWith (slice_index_or others.now (from + j) d) old new }
         ensures len { length self.new ≡ length self.old + count }
         ensures before { SameBefore (length self.old) self.old self.new }
-        ensures behind { (j : ℕ) (d : TextInfo) → j < count
+        ensures following { (j : ℕ) (d : TextInfo) → j < count
             → info_sum (slice_index_or self.new (length self.old + j) d) old
             ≡ info_sum (slice_index_or others.now (from + j) d) new }
     {

@@ -7,8 +7,13 @@ pub returns-clause-text : goal.returns-clause-text
 returns-clause-text c =
     ap encode_utf8_all c.in_ok-append.ensures.ok
     ∙ encodes-append c.args.builder.now.text (chars c.args.text.now)
-    ∙ ap (λ bs. encode_utf8_all c.args.builder.now.text ++ bs) (encodes-chars c.args.text.now c.utf8.text)
+    ∙ ap (λ bs. encode_utf8_all c.args.builder.now.text ++ bs)
+    (encodes-chars c.args.text.now c.utf8.text)
 
 pub returns-clause-fits : goal.returns-clause-fits
 returns-clause-fits c =
-    omega (arith, ap length (returns-clause-text c), length-append (encode_utf8_all c.args.builder.now.text) c.args.text.now)
+    omega (
+      arith,
+      ap length (returns-clause-text c),
+      length-append (encode_utf8_all c.args.builder.now.text) c.args.text.now,
+    )

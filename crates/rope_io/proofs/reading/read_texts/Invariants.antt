@@ -5,7 +5,8 @@ use Rattle.rope_io.proofs.reading.read_texts.Given as goal
 
 abbrev pub invariant-loop-count : goal.invariant-loop-count
 invariant-loop-count g l = record {
-  reading : IsReading (g.S.Source.remaining l.fn.source) (g.S.Source.remaining l.source) l.builder.text l.buffer l.filled (g.S.Mark.marked l.source);
+  reading : IsReading (g.S.Source.remaining l.fn.source) (g.S.Source.remaining l.source)
+      l.builder.text l.buffer l.filled (g.S.Mark.marked l.source);
   none_failed : g.S.Mark.failures l.source ≡ g.S.Mark.failures l.fn.source;
   breaks : l.builder.breaks ≡ l.fn.builder.breaks;
 }

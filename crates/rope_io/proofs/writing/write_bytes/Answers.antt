@@ -14,13 +14,17 @@ loop-rest-preserved g c =
     record {
       writing = record {
         done = i.done ++ take n r;
-        whole = i.whole ∙ ap (λ zs. i.done ++ zs) (sym (take-append-drop n r)) ∙ sym (append_assoc i.done (take n r) (drop n r)) ∙ ap (λ zs. (i.done ++ take n r) ++ zs) (sym (take_all _ (drop n r) (omega (arith, length-drop n r))));
+        whole = i.whole ∙ ap (λ zs. i.done ++ zs) (sym (take-append-drop n r))
+            ∙ sym (append_assoc i.done (take n r) (drop n r))
+            ∙ ap (λ zs. (i.done ++ take n r) ++ zs)
+            (sym (take_all _ (drop n r) (omega (arith, length-drop n r))));
         appended = Appends-more _ _ _ i.done (take n r) i.appended c.in_ok-count.ensures.bytes;
       };
       none_failed = record {
         clear = c.in_ok-count.ensures.ok (inl (omega arith)) ∙ f.clear;
         none = c.in_ok-count.ensures.failure ∙ good;
-        same = c.in_ok-count.ensures.failures ∙ ap (λ k. count_failure k (g.S.Mark.failures c.loop-rest.sink)) good ∙ f.same;
+        same = c.in_ok-count.ensures.failures
+            ∙ ap (λ k. count_failure k (g.S.Mark.failures c.loop-rest.sink)) good ∙ f.same;
       };
     }
 

@@ -14,8 +14,13 @@ loop-chunk-init g c =
     record {
       written = record {
         before = [];
-        whole = sym (chunks_join c.args.slice.now) ∙ ap (λ x. concat (ahead x)) (sym (c.into_iter-chunk-iterator.ensures.into_iter_gives ∙ c.chunks-chunk-items.ensures));
-        appended = rw (c.clear.ensures, g.met.S.Sink.cleared_contents old) (Appends-none (g.S.Sink.contents old));
+        whole = sym (chunks_join c.args.slice.now)
+            ∙ ap (λ x. concat (ahead x))
+            (sym (c.into_iter-chunk-iterator.ensures.into_iter_gives
+            ∙ c.chunks-chunk-items.ensures));
+        appended =
+            rw (c.clear.ensures, g.met.S.Sink.cleared_contents old)
+            (Appends-none (g.S.Sink.contents old));
       };
       none_failed = record {
         clear = rw c.clear.ensures (g.met.S.Mark.cleared_unmarked old);
@@ -33,13 +38,18 @@ loop-chunk-preserved g c =
     record {
       written = record {
         before = i.before ++ chars s;
-        whole = i.whole ∙ ap (λ a. i.before ++ concat a) (c.in-Some.ensures.steps ∙ ap (λ b. chars b ∷ more) (sym c.as_bytes.ensures.value)) ∙ sym (append_assoc i.before (chars s) (concat more));
-        appended = chunk_written _ _ _ i.before s c.as_bytes.ensures.utf8 i.appended c.in_ok-write_bytes.ensures.ok;
+        whole = i.whole ∙ ap (λ a. i.before ++ concat a) (c.in-Some.ensures.steps
+            ∙ ap (λ b. chars b ∷ more) (sym c.as_bytes.ensures.value))
+            ∙ sym (append_assoc i.before (chars s) (concat more));
+        appended =
+            chunk_written _ _ _ i.before s c.as_bytes.ensures.utf8 i.appended
+            c.in_ok-write_bytes.ensures.ok;
       };
       none_failed = record {
         clear = c.in_ok-write_bytes.ensures.clear;
         none = w.0;
-        same = w.1 ∙ ap (λ k. count_failure k (g.S.Mark.failures c.loop-chunk.sink)) w.0 ∙ c.loop-chunk.invariant.none_failed.same;
+        same = w.1 ∙ ap (λ k. count_failure k (g.S.Mark.failures c.loop-chunk.sink)) w.0
+            ∙ c.loop-chunk.invariant.none_failed.same;
       };
     }
 
@@ -49,10 +59,12 @@ returns-in_err-write_bytes-clause-front g c =
     let s = c.as_bytes.result.now in
     let more = ahead c.next.new.self in
     chunk_begun _ _ _ (text_of c.args.slice.now) i.before s more c.as_bytes.ensures.utf8
-    (i.whole ∙ ap (λ a. i.before ++ concat a) (c.in-Some.ensures.steps ∙ ap (λ b. chars b ∷ more) (sym c.as_bytes.ensures.value)))
+    (i.whole ∙ ap (λ a. i.before ++ concat a) (c.in-Some.ensures.steps
+    ∙ ap (λ b. chars b ∷ more) (sym c.as_bytes.ensures.value)))
     i.appended c.in_err-write_bytes.ensures.front
 
 pub returns-clause-front : goal.returns-clause-front
 returns-clause-front g c =
     let i = c.loop-chunk.invariant.written in
-    front_all _ _ _ (all_written _ _ _ i.before (ahead c.loop-chunk.chunk-iterator) c.in-None.ensures.steps.0 i.whole i.appended)
+    front_all _ _ _ (all_written _ _ _ i.before (ahead c.loop-chunk.chunk-iterator)
+    c.in-None.ensures.steps.0 i.whole i.appended)

@@ -7,6 +7,8 @@ use Rattle.rope_join.proofs.cut.between.Goals as goal
 pub returns-clause-text : goal.returns-clause-text
 returns-clause-text c =
     let whole = c.in_ok-front.ensures.front.text_is in
-    let more : c.args.end ≡ c.args.start + (c.args.end - c.args.start) = omega (arith, c.requires.ordered) in
+    let more : c.args.end ≡ c.args.start + (c.args.end - c.args.start) =
+    omega (arith, c.requires.ordered) in
     IfOk-weaker c.back.result _ _ (λ part is.
-    is.text_is ∙ ap (drop c.args.start) (whole ∙ ap (λ n. take n (text c.args.node.now)) more) ∙ drop-take c.args.start (c.args.end - c.args.start) (text c.args.node.now)) c.back.ensures.back
+    is.text_is ∙ ap (drop c.args.start) (whole ∙ ap (λ n. take n (text c.args.node.now)) more)
+    ∙ drop-take c.args.start (c.args.end - c.args.start) (text c.args.node.now)) c.back.ensures.back

@@ -10,7 +10,14 @@ use Rattle.rope_join.proofs.long_edits.insert_apart.Goals as goal
 -- the two sides and the new text together
 pub append-requires-clause-fits : goal.append-requires-clause-fits
 append-requires-clause-fits c =
-    omega (arith, c.requires.fits, byte_len-parts c.args.at (text c.args.node.now), ap byte_len c.in_ok-front.ensures.front.text_is, ap byte_len c.in_ok-middle.ensures.text, byte_len-chars c.args.added.now c.utf8.added)
+    omega (
+      arith,
+      c.requires.fits,
+      byte_len-parts c.args.at (text c.args.node.now),
+      ap byte_len c.in_ok-front.ensures.front.text_is,
+      ap byte_len c.in_ok-middle.ensures.text,
+      byte_len-chars c.args.added.now c.utf8.added,
+    )
 
 pub append-requires-2-clause-fits : goal.append-requires-2-clause-fits
 append-requires-2-clause-fits c =

@@ -16,12 +16,18 @@ use Rattle.rope_join.proofs.long_edits.insert_into_leaf.Goals.{After-range, Afte
 use Rattle.rope_join.proofs.long_edits.insert_into_leaf.Goals as goal
 
 front : (c : After-range) → chars c.range.result.now ≡ take c.args.at c.args.leaf.now
-front c = chars_front c.as_str-text.result.now c.range.result.now c.args.leaf.now c.args.at c.char_to_byte_idx-place.result c.as_str-text.utf8 c.as_str-text.ensures.chars
-    (c.char_to_byte_idx-place.ensures.value ∙ ap (λ s. byte_len (take c.args.at s)) (sym c.as_str-text.ensures.chars)) c.range.ensures.value
+front c =
+    chars_front c.as_str-text.result.now c.range.result.now c.args.leaf.now c.args.at
+    c.char_to_byte_idx-place.result c.as_str-text.utf8 c.as_str-text.ensures.chars
+    (c.char_to_byte_idx-place.ensures.value
+    ∙ ap (λ s. byte_len (take c.args.at s)) (sym c.as_str-text.ensures.chars)) c.range.ensures.value
 
 back : (c : After-range_from) → chars c.range_from.result.now ≡ drop c.args.at c.args.leaf.now
-back c = chars_back c.as_str-text.result.now c.range_from.result.now c.args.leaf.now c.args.at c.char_to_byte_idx-place.result c.as_str-text.utf8 c.as_str-text.ensures.chars
-    (c.char_to_byte_idx-place.ensures.value ∙ ap (λ s. byte_len (take c.args.at s)) (sym c.as_str-text.ensures.chars)) c.range_from.ensures.value
+back c = chars_back c.as_str-text.result.now c.range_from.result.now c.args.leaf.now c.args.at
+    c.char_to_byte_idx-place.result c.as_str-text.utf8 c.as_str-text.ensures.chars
+    (c.char_to_byte_idx-place.ensures.value
+    ∙ ap (λ s. byte_len (take c.args.at s)) (sym c.as_str-text.ensures.chars))
+    c.range_from.ensures.value
 
 leaf_text : (c : After-range) → text c.args.node.now ≡ c.args.leaf.now
 leaf_text c = text_of_leaf c.args.node.now.breaks c.args.node.now c.args.leaf.now c.requires.leaf
@@ -32,7 +38,8 @@ append-requires-2 c =
     omega (
       arith,
       c.requires.fits,
-      ap byte_len (c.in_ok-append.ensures.ok ∙ ap (λ z. z ++ chars c.range.result.now) c.new-builder.ensures.text ∙ front e),
+      ap byte_len (c.in_ok-append.ensures.ok
+          ∙ ap (λ z. z ++ chars c.range.result.now) c.new-builder.ensures.text ∙ front e),
       ap byte_len (leaf_text e),
       byte_len-parts c.args.at c.args.leaf.now,
     )
@@ -44,7 +51,8 @@ append-requires-3 c =
     omega (
       arith,
       c.requires.fits,
-      ap byte_len (c.in_ok-append.ensures.ok ∙ ap (λ z. z ++ chars c.range.result.now) c.new-builder.ensures.text ∙ front e),
+      ap byte_len (c.in_ok-append.ensures.ok
+          ∙ ap (λ z. z ++ chars c.range.result.now) c.new-builder.ensures.text ∙ front e),
       ap byte_len c.in_ok-append-2.ensures.ok,
       IsMeasure-byte_len.joined c.append.new.self.text (chars c.args.added.now),
       byte_len-chars c.args.added.now c.utf8.added,
@@ -55,32 +63,39 @@ append-requires-3 c =
     )
 
 -- the text that is built
-built : (c : In_ok-append-3) → c.append-3.new.self.text ≡ take c.args.at c.args.leaf.now ++ (chars c.args.added.now ++ drop c.args.at c.args.leaf.now)
+built : (c : In_ok-append-3) → c.append-3.new.self.text ≡ take c.args.at c.args.leaf.now
+    ++ (chars c.args.added.now ++ drop c.args.at c.args.leaf.now)
 built c =
     let e = (goal.at.In_ok-append-3 c).After-range in
     let f = (goal.at.In_ok-append-3 c).After-range_from in
-    let first = c.in_ok-append.ensures.ok ∙ ap (λ z. z ++ chars c.range.result.now) c.new-builder.ensures.text ∙ front e in
+    let first = c.in_ok-append.ensures.ok
+    ∙ ap (λ z. z ++ chars c.range.result.now) c.new-builder.ensures.text ∙ front e in
     let second = c.in_ok-append-2.ensures.ok ∙ ap (λ z. z ++ chars c.args.added.now) first in
-    c.in_ok-append-3.ensures.ok ∙ ap₂ (λ y z. y ++ z) second (back f) ∙ append_assoc (take c.args.at c.args.leaf.now) (chars c.args.added.now) (drop c.args.at c.args.leaf.now)
+    c.in_ok-append-3.ensures.ok ∙ ap₂ (λ y z. y ++ z) second (back f)
+    ∙ append_assoc (take c.args.at c.args.leaf.now) (chars c.args.added.now)
+    (drop c.args.at c.args.leaf.now)
 
 pub returns-clause-text : goal.returns-clause-text
 returns-clause-text c =
     let e = (goal.at.returns-clause-text c).After-range in
     let b = (goal.at.returns-clause-text c).In_ok-append-3 in
-    IfOk-weaker c.finish.result _ _ (λ node is. is ∙ built b ∙ sym (inserted_is c.args.leaf.now c.args.at (chars c.args.added.now)) ∙ ap (λ z. inserted z c.args.at (chars c.args.added.now)) (sym (leaf_text e))) c.finish.ensures.text
+    IfOk-weaker c.finish.result _ _ (λ node is. is ∙ built b
+    ∙ sym (inserted_is c.args.leaf.now c.args.at (chars c.args.added.now))
+    ∙ ap (λ z. inserted z c.args.at (chars c.args.added.now)) (sym (leaf_text e)))
+    c.finish.ensures.text
 
 -- two nodes for each leaf: those that the new text fills, and at most three more
 pub returns-clause-made : goal.returns-clause-made
 returns-clause-made c =
     let b = (goal.at.returns-clause-made c).In_ok-append-3 in
     let added = chars c.args.added.now in
-    let behind = drop c.args.at c.args.leaf.now in
+    let following = drop c.args.at c.args.leaf.now in
     omega (
       arith,
       c.finish.ensures.made,
       ap byte_len (built b),
-      IsMeasure-byte_len.joined (take c.args.at c.args.leaf.now) (added ++ behind),
-      IsMeasure-byte_len.joined added behind,
+      IsMeasure-byte_len.joined (take c.args.at c.args.leaf.now) (added ++ following),
+      IsMeasure-byte_len.joined added following,
       byte_len-chars c.args.added.now c.utf8.added,
       byte_len-parts c.args.at c.args.leaf.now,
       c.as_str-text.ensures.fits,

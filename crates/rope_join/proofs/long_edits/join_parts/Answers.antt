@@ -8,43 +8,68 @@ use Rattle.rope_join.proofs.long_edits.join_parts.Goals.{After-meets, In_ok-pair
 use Rattle.rope_join.proofs.long_edits.join_parts.Goals as goal
 
 -- the indices at which the CR and the LF meet
-meet : (c : After-meets) → c.meets.result ≡ true → Meets (text c.args.left.now) (text c.args.right.now) c.args.end c.args.start
-meet c e = meets (text c.args.left.now) (text c.args.right.now) c.args.end c.args.start c.requires.end (sym c.meets.ensures.value ∙ e)
+meet : (c : After-meets) → c.meets.result ≡ true
+    → Meets (text c.args.left.now) (text c.args.right.now) c.args.end c.args.start
+meet c e =
+    meets (text c.args.left.now) (text c.args.right.now) c.args.end c.args.start c.requires.end
+    (sym c.meets.ensures.value ∙ e)
 
-met : (c : In_ok-pair) → Meets (text c.args.left.now) (text c.args.right.now) c.args.end c.args.start
+met : (c : In_ok-pair) → Meets (text c.args.left.now) (text c.args.right.now) c.args.end
+    c.args.start
 met c = meet (goal.at.In_ok-pair c).After-meets c.if-not-meets.false
 
-fits : (c : In_ok-pair) → byte_len (text c.in_ok-first.first) + byte_len (text c.in_ok-second.second) + 2 < 2 ^ 63
-fits c = omega (arith, (met c).sizes, c.requires.fits, ap byte_len c.in_ok-first.ensures.front.text_is, ap byte_len c.in_ok-second.ensures.back.text_is)
+fits : (c : In_ok-pair) → byte_len (text c.in_ok-first.first) + byte_len
+    (text c.in_ok-second.second) + 2 < 2 ^ 63
+fits c = omega (
+  arith,
+  (met c).sizes,
+  c.requires.fits,
+  ap byte_len c.in_ok-first.ensures.front.text_is,
+  ap byte_len c.in_ok-second.ensures.back.text_is,
+)
 
 breaks : (c : In_ok-pair) → c.in_ok-second.second.breaks ≡ c.in_ok-first.first.breaks
-breaks c = c.in_ok-second.ensures.back.same_breaks ∙ c.requires.same_breaks ∙ sym c.in_ok-first.ensures.front.same_breaks
+breaks c = c.in_ok-second.ensures.back.same_breaks ∙ c.requires.same_breaks
+    ∙ sym c.in_ok-first.ensures.front.same_breaks
 
 pair_is : (c : In_ok-pair) → c.in_ok-pair.pair ≡ leaf_tree c.in_ok-first.first.breaks (13 ∷ 10 ∷ [])
-pair_is c = c.in_ok-pair.ensures.ok ∙ ap₂ leaf_tree (c.line_breaks.ensures ∙ sym c.in_ok-first.ensures.front.same_breaks) chars_crlf
+pair_is c = c.in_ok-pair.ensures.ok
+    ∙ ap₂ leaf_tree (c.line_breaks.ensures ∙ sym c.in_ok-first.ensures.front.same_breaks) chars_crlf
 
 pub overflow_sub-end : goal.overflow_sub-end
-overflow_sub-end c = omega (arith, (meet (goal.at.overflow_sub-end c).After-meets c.if-not-meets.false).some)
+overflow_sub-end c =
+    omega (arith, (meet (goal.at.overflow_sub-end c).After-meets c.if-not-meets.false).some)
 
 pub overflow_add-start : goal.overflow_add-start
-overflow_add-start c = omega (arith, (meet (goal.at.overflow_add-start c).After-meets c.if-not-meets.false).more, (c.meets.ensures.tree c.if-not-meets.false).fits, length-le-encodes (text c.args.right.now))
+overflow_add-start c =
+    omega (
+      arith,
+      (meet (goal.at.overflow_add-start c).After-meets c.if-not-meets.false).more,
+      (c.meets.ensures.tree c.if-not-meets.false).fits,
+      length-le-encodes (text c.args.right.now),
+    )
 
 pub join-requires : goal.join-requires
 join-requires c =
     let e = (goal.at.join-requires c).In_ok-pair in
-    pair_first c.in_ok-first.first c.in_ok-pair.pair c.in_ok-second.second (breaks e) (pair_is e) (fits e)
+    pair_first c.in_ok-first.first c.in_ok-pair.pair c.in_ok-second.second (breaks e) (pair_is e)
+    (fits e)
 
 pub join-requires-2 : goal.join-requires-2
 join-requires-2 c =
     let e = (goal.at.join-requires-2 c).In_ok-pair in
-    pair_second c.in_ok-first.first c.in_ok-pair.pair c.in_ok-second.second (breaks e) (pair_is e) (fits e) c.in_ok-ended.ended c.in_ok-ended.ensures.join
+    pair_second c.in_ok-first.first c.in_ok-pair.pair c.in_ok-second.second (breaks e) (pair_is e)
+    (fits e) c.in_ok-ended.ended c.in_ok-ended.ensures.join
 
 pub returns-clause-text : goal.returns-clause-text
 returns-clause-text c =
     let e = (goal.at.returns-clause-text c).In_ok-pair in
     IfOk-weaker c.join-2.result _ _ (λ node joined.
-    pair_joined c.in_ok-first.first c.in_ok-pair.pair c.in_ok-second.second (breaks e) (pair_is e) (fits e) c.in_ok-ended.ended c.in_ok-ended.ensures.join node joined
-    ∙ rw (c.in_ok-first.ensures.front.text_is, c.in_ok-second.ensures.back.text_is) (sym (met e).text_is)) c.join-2.ensures.join
+    pair_joined c.in_ok-first.first c.in_ok-pair.pair c.in_ok-second.second (breaks e) (pair_is e)
+    (fits e) c.in_ok-ended.ended c.in_ok-ended.ensures.join node joined
+    ∙ rw (c.in_ok-first.ensures.front.text_is, c.in_ok-second.ensures.back.text_is)
+    (sym (met e).text_is)) c.join-2.ensures.join
 
 pub join_sides-requires-clause-seam : goal.join_sides-requires-clause-seam
-join_sides-requires-clause-seam c = record { apart = sym c.meets.ensures.value ∙ c.if-not-meets.true }
+join_sides-requires-clause-seam c =
+    record { apart = sym c.meets.ensures.value ∙ c.if-not-meets.true }

@@ -12,7 +12,9 @@ pub returns-then-char_at-eq13-clause-value : goal.returns-then-char_at-eq13-clau
 returns-then-char_at-eq13-clause-value c = elim c.if-end-gt0.branch [
   | then-end-gt0 w ↦
       let more : c.args.end - 1 + 1 ≡ c.args.end = omega (arith, w.if-end-gt0.true) in
-      let cr = ap (λ k. ends_in_cr (take k (text c.args.left.now))) (sym more) ∙ ends_at (text c.args.left.now) (c.args.end - 1) w.char_at.result w.char_at.ensures.value ∙ sym w.value-is ∙ c.if-char_at-eq13.true in
+      let cr = ap (λ k. ends_in_cr (take k (text c.args.left.now))) (sym more)
+      ∙ ends_at (text c.args.left.now) (c.args.end - 1) w.char_at.result w.char_at.ensures.value
+      ∙ sym w.value-is ∙ c.if-char_at-eq13.true in
       rw (cr, c.is_lf.ensures.value) refl
   | else-end-gt0 w ↦
       let none : c.args.end ≡ 0 = omega (arith, w.if-end-gt0.false) in
@@ -23,7 +25,9 @@ pub returns-else-char_at-eq13-clause-value : goal.returns-else-char_at-eq13-clau
 returns-else-char_at-eq13-clause-value c = elim c.if-end-gt0.branch [
   | then-end-gt0 w ↦
       let more : c.args.end - 1 + 1 ≡ c.args.end = omega (arith, w.if-end-gt0.true) in
-      let cr = ap (λ k. ends_in_cr (take k (text c.args.left.now))) (sym more) ∙ ends_at (text c.args.left.now) (c.args.end - 1) w.char_at.result w.char_at.ensures.value ∙ sym w.value-is ∙ c.if-char_at-eq13.false in
+      let cr = ap (λ k. ends_in_cr (take k (text c.args.left.now))) (sym more)
+      ∙ ends_at (text c.args.left.now) (c.args.end - 1) w.char_at.result w.char_at.ensures.value
+      ∙ sym w.value-is ∙ c.if-char_at-eq13.false in
       rw (cr, c.if-char_at-eq13.false) refl
   | else-end-gt0 w ↦
       let none : c.args.end ≡ 0 = omega (arith, w.if-end-gt0.false) in

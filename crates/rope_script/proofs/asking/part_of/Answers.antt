@@ -8,4 +8,5 @@ use Rattle.rope_script.proofs.asking.part_of.Goals as goal
 pub returns-in-None : goal.returns-in-None
 returns-in-None c =
     ap (part_of (content c.args.rope.now)) c.in-None.is
-    ∙ ap Some (sym (whole_slice (content c.args.rope.now) (content_of c.slice.result) c.len_bytes.ensures.kept.content c.slice.ensures))
+    ∙ ap Some (sym (whole_slice (content c.args.rope.now) (content_of c.slice.result)
+    c.len_bytes.ensures.kept.content c.slice.ensures))

@@ -7,6 +7,10 @@ returns c =
     let old = c.args.ropes.now.items in
     let rope = c.index_mut.result.now in
     rw c.reply_to_edit.ensures
-    (of_content _ old _ c.args.rope rope _ (omega (arith, c.args.ropes.now.ok.0)) c.index_mut.ensures.value
-    (edit_of c.try_insert_char.result old c.args.rope rope c.try_insert_char.new.self _ _ _ c.index_mut.ensures.value
-    c.try_insert_char.ensures.ok c.try_insert_char.ensures.refused c.try_insert_char.ensures.kept.0 (λ z fine. absurd (true≢false (sym z))) c.try_insert_char.ensures.kept.1 c.try_insert_char.ensures.kept.2))
+    (of_content _ old _ c.args.rope rope _ (omega (arith, c.args.ropes.now.ok.0))
+    c.index_mut.ensures.value
+    (edit_of c.try_insert_char.result old c.args.rope rope c.try_insert_char.new.self _ _ _
+    c.index_mut.ensures.value
+    c.try_insert_char.ensures.ok c.try_insert_char.ensures.refused c.try_insert_char.ensures.kept.0
+    (λ z fine. absurd (true≢false (sym z))) c.try_insert_char.ensures.kept.1
+    c.try_insert_char.ensures.kept.2))

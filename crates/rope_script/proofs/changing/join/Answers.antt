@@ -6,8 +6,10 @@ use Rattle.rope_script.proofs.changing.join.Goals as goal
 
 pub returns-in-Some : goal.returns-in-Some
 returns-in-Some c =
-    unjoined_of c.args.ropes.now.items c.args.rope c.args.other c.index.result.now c.index-2.result.now (Some c.in-Some.error) c.in-Some.error
-    (omega (arith, c.args.ropes.now.ok.0)) c.index.ensures (omega (arith, c.args.ropes.now.ok.0)) c.index-2.ensures
+    unjoined_of c.args.ropes.now.items c.args.rope c.args.other c.index.result.now
+    c.index-2.result.now (Some c.in-Some.error) c.in-Some.error
+    (omega (arith, c.args.ropes.now.ok.0)) c.index.ensures (omega (arith, c.args.ropes.now.ok.0))
+    c.index-2.ensures
     (sym c.in-Some.is ∙ c.join_error.ensures.error) refl
 
 pub returns-in-Ok : goal.returns-in-Ok
@@ -18,16 +20,23 @@ returns-in-Ok c =
     let at_rope : c.args.rope < length old = omega (arith, c.args.ropes.now.ok.0) in
     let at_other : c.args.other < length old = omega (arith, c.args.ropes.now.ok.0) in
     let same : clone ≡ c.index-3.result.now = c.in-Ok.ensures.cases in
-    let read : clone ≡ get_or old c.args.other clone = same ∙ c.index-3.ensures ∙ ap (get_or old c.args.other) (sym same) in
+    let read : clone ≡ get_or old c.args.other clone = same ∙ c.index-3.ensures
+    ∙ ap (get_or old c.args.other) (sym same) in
     rw c.reply_to_edit.ensures
-    (join_of c.append.result old c.args.rope c.args.other rope clone c.append.new.self at_rope c.index_mut.ensures.value at_other read
-    c.append.ensures.ok c.append.ensures.refused c.append.ensures.kept.0 c.append.ensures.empty_other c.append.ensures.empty_self
-    (subst IsRope (same_place old c.args.rope c.index.result.now rope at_rope c.index.ensures c.index_mut.ensures.value) c.join_error.ensures.rope)
-    (subst IsRope (same_place old c.args.other c.index-2.result.now clone at_other c.index-2.ensures read) c.join_error.ensures.other)
+    (join_of c.append.result old c.args.rope c.args.other rope clone c.append.new.self at_rope
+    c.index_mut.ensures.value at_other read
+    c.append.ensures.ok c.append.ensures.refused c.append.ensures.kept.0
+    c.append.ensures.empty_other c.append.ensures.empty_self
+    (subst IsRope (same_place old c.args.rope c.index.result.now rope at_rope c.index.ensures
+    c.index_mut.ensures.value) c.join_error.ensures.rope)
+    (subst IsRope (same_place old c.args.other c.index-2.result.now clone at_other c.index-2.ensures
+    read) c.join_error.ensures.other)
     c.append.ensures.kept.1 c.append.ensures.kept.2)
 
 pub returns-in-Err : goal.returns-in-Err
 returns-in-Err c =
-    unjoined_of c.args.ropes.now.items c.args.rope c.args.other c.index.result.now c.index-2.result.now None OutOfMemory
-    (omega (arith, c.args.ropes.now.ok.0)) c.index.ensures (omega (arith, c.args.ropes.now.ok.0)) c.index-2.ensures
+    unjoined_of c.args.ropes.now.items c.args.rope c.args.other c.index.result.now
+    c.index-2.result.now None OutOfMemory
+    (omega (arith, c.args.ropes.now.ok.0)) c.index.ensures (omega (arith, c.args.ropes.now.ok.0))
+    c.index-2.ensures
     (sym c.in_default.is ∙ c.join_error.ensures.error) refl

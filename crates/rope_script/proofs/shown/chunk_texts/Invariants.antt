@@ -6,7 +6,8 @@ use Rattle.rope_slice.specs.Slice.{chunks_of}
 use Rattle.rope_script.proofs.shown.chunk_texts.Given as goal
 
 abbrev pub invariant-loop-texts : goal.invariant-loop-texts
-invariant-loop-texts l = map (λ s. chars (string_bytes s)) l.texts.items ++ ahead l.chunks ≡ chunks_of l.part
+invariant-loop-texts l = map (λ s. chars (string_bytes s)) l.texts.items ++ ahead l.chunks
+    ≡ chunks_of l.part
 
 abbrev pub decreases-loop-texts : goal.decreases-loop-texts
 decreases-loop-texts l = length (ahead l.chunks)

@@ -11,5 +11,10 @@ use Rattle.rope_script.proofs.walks.walk_lines.Goals as goal
 
 pub returns-in_ok-items-in-Some-clause-walk : goal.returns-in_ok-items-in-Some-clause-walk
 returns-in_ok-items-in-Some-clause-walk c =
-    walks_from IsLineItem (nat_le c.args.index (line_count (breaks_of c.args.part.now) (text_of c.args.part.now))) (lines_of (content_of c.args.part.now)) c.args.index c.in-Some.lines c.args.moves.now (Walk c.in_ok-items-in-Some.field-0)
-    (le-leb _ _ c.in-Some.ensures.0) (omega (arith, length-lines_of (content_of c.args.part.now), c.in-Some.ensures.0)) c.in-Some.ensures.1 c.in_ok-items-in-Some.ensures.items
+    walks_from IsLineItem (nat_le c.args.index
+    (line_count (breaks_of c.args.part.now) (text_of c.args.part.now)))
+    (lines_of (content_of c.args.part.now)) c.args.index c.in-Some.lines c.args.moves.now
+    (Walk c.in_ok-items-in-Some.field-0)
+    (le-leb _ _ c.in-Some.ensures.0)
+    (omega (arith, length-lines_of (content_of c.args.part.now), c.in-Some.ensures.0))
+    c.in-Some.ensures.1 c.in_ok-items-in-Some.ensures.items

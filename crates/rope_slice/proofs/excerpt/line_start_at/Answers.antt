@@ -19,31 +19,45 @@ use Rattle.rope_slice.proofs.excerpt.line_start_at.Goals.{After-before_line-fron
 use Rattle.rope_slice.proofs.excerpt.line_start_at.Goals as goal
 
 front_is : (c : After-before_line-front) → c.before_line-front.result
-    ≡ info_of c.args.node.now.breaks (take (line_start c.args.node.now.breaks c.leaf_at-found.result.leaf (c.args.line_idx - c.leaf_at-found.result.before.break_count)) c.leaf_at-found.result.leaf)
+    ≡ info_of c.args.node.now.breaks
+    (take (line_start c.args.node.now.breaks c.leaf_at-found.result.leaf
+    (c.args.line_idx - c.leaf_at-found.result.before.break_count)) c.leaf_at-found.result.leaf)
 front_is c =
     let l : ℕ = c.args.line_idx - c.leaf_at-found.result.before.break_count in
     c.before_line-front.ensures
-    ∙ ap (λ b. info_of b (take (line_start b (chars c.as_str-leaf.result.now) l) (chars c.as_str-leaf.result.now))) c.line_breaks.ensures
-    ∙ ap (λ s. info_of c.args.node.now.breaks (take (line_start c.args.node.now.breaks s l) s)) c.as_str-leaf.ensures.chars
+    ∙ ap (λ b. info_of b (take (line_start b (chars c.as_str-leaf.result.now) l)
+    (chars c.as_str-leaf.result.now))) c.line_breaks.ensures
+    ∙ ap (λ s. info_of c.args.node.now.breaks (take (line_start c.args.node.now.breaks s l) s))
+    c.as_str-leaf.ensures.chars
 
 pub before_line-front-requires-clause-within : goal.before_line-front-requires-clause-within
 before_line-front-requires-clause-within c =
     let l : ℕ = c.args.line_idx - c.leaf_at-found.result.before.break_count in
-    let same : break_count c.line_breaks.result (chars c.as_str-leaf.result.now) ≡ break_count c.args.node.now.breaks c.leaf_at-found.result.leaf =
-    ap (λ b. break_count b (chars c.as_str-leaf.result.now)) c.line_breaks.ensures ∙ ap (break_count c.args.node.now.breaks) c.as_str-leaf.ensures.chars in
-    omega (arith, same, line_within c.args.line_idx c.args.node.now c.leaf_at-found.result.leaf c.leaf_at-found.result.before c.leaf_at-found.ensures.found c.requires.later)
+    let same : break_count c.line_breaks.result (chars c.as_str-leaf.result.now)
+    ≡ break_count c.args.node.now.breaks c.leaf_at-found.result.leaf =
+    ap (λ b. break_count b (chars c.as_str-leaf.result.now)) c.line_breaks.ensures
+    ∙ ap (break_count c.args.node.now.breaks) c.as_str-leaf.ensures.chars in
+    omega (
+      arith,
+      same,
+      line_within c.args.line_idx c.args.node.now c.leaf_at-found.result.leaf
+          c.leaf_at-found.result.before c.leaf_at-found.ensures.found c.requires.later,
+    )
 
 pub range_from-requires : goal.range_from-requires
 range_from-requires c = λ some.
     let bs = c.as_str-leaf.result.now in
     subst (IsCharBoundary bs) (sym (ap (λ x. x.bytes) c.before_line-front.ensures))
-    (byte_len_boundary bs (line_start c.line_breaks.result (chars bs) (c.args.line_idx - c.leaf_at-found.result.before.break_count)) c.as_str-leaf.utf8)
+    (byte_len_boundary bs (line_start c.line_breaks.result (chars bs)
+    (c.args.line_idx - c.leaf_at-found.result.before.break_count)) c.as_str-leaf.utf8)
 
 pub plus-requires : goal.plus-requires
 plus-requires c =
     let small = small_found _ _ _ _ _ c.requires.tree c.leaf_at-found.ensures.found in
     let leaf : List ℕ = c.leaf_at-found.result.leaf in
-    let k : ℕ = line_start c.args.node.now.breaks leaf (c.args.line_idx - c.leaf_at-found.result.before.break_count) in
+    let k : ℕ =
+    line_start c.args.node.now.breaks leaf
+    (c.args.line_idx - c.leaf_at-found.result.before.break_count) in
     let is = front_is (goal.at.plus-requires c).After-before_line-front in
     let less = size_le_all byte_len IsMeasure-byte_len leaf k in
     let fits = c.as_str-leaf.ensures.fits in
@@ -55,33 +69,65 @@ returns-clause-before c =
     let front = front_is (goal.at.returns-clause-before c).After-before_line-front in
     let leaf : List ℕ = c.leaf_at-found.result.leaf in
     let l : ℕ = c.args.line_idx - c.leaf_at-found.result.before.break_count in
-    let within = line_within c.args.line_idx c.args.node.now leaf c.leaf_at-found.result.before c.leaf_at-found.ensures.found c.requires.later in
-    let here : c.leaf_at-found.result.before.break_count + c.before_line-front.result.break_count ≡ c.args.line_idx =
-    omega (arith, ap (λ x. x.break_count) front, break_count-front c.args.node.now.breaks leaf l (omega arith)) in
+    let within =
+    line_within c.args.line_idx c.args.node.now leaf c.leaf_at-found.result.before
+    c.leaf_at-found.ensures.found c.requires.later in
+    let here : c.leaf_at-found.result.before.break_count + c.before_line-front.result.break_count
+    ≡ c.args.line_idx =
+    omega (
+      arith,
+      ap (λ x. x.break_count) front,
+      break_count-front c.args.node.now.breaks leaf l (omega arith),
+    ) in
     c.plus.ensures.sum
-    ∙ ap (λ (n : ℕ). (let r : TextInfo = record { bytes = c.leaf_at-found.result.before.bytes + c.before_line-front.result.bytes; chars = c.leaf_at-found.result.before.chars + c.before_line-front.result.chars; utf16_surrogates = c.leaf_at-found.result.before.utf16_surrogates + c.before_line-front.result.utf16_surrogates; break_count = n } in r)) here
-    ∙ line_found c.args.line_idx c.args.node.now c.leaf_at-found.result.leaf c.leaf_at-found.result.before c.requires.tree c.leaf_at-found.ensures.found (omega arith) (omega arith)
-    c.before_line-front.result.bytes c.before_line-front.result.chars c.before_line-front.result.utf16_surrogates
+    ∙ ap (λ (n : ℕ). (let r : TextInfo =
+    record {
+      bytes = c.leaf_at-found.result.before.bytes + c.before_line-front.result.bytes;
+      chars = c.leaf_at-found.result.before.chars + c.before_line-front.result.chars;
+      utf16_surrogates =
+          c.leaf_at-found.result.before.utf16_surrogates
+          + c.before_line-front.result.utf16_surrogates;
+      break_count = n;
+    } in r)) here
+    ∙ line_found c.args.line_idx c.args.node.now c.leaf_at-found.result.leaf
+    c.leaf_at-found.result.before c.requires.tree c.leaf_at-found.ensures.found (omega arith)
+    (omega arith)
+    c.before_line-front.result.bytes c.before_line-front.result.chars
+    c.before_line-front.result.utf16_surrogates
     (ap (λ x. x.bytes) front) (ap (λ x. x.chars) front) (ap (λ x. x.utf16_surrogates) front)
 
 pub returns-clause-rest : goal.returns-clause-rest
 returns-clause-rest c =
     let leaf : List ℕ = c.leaf_at-found.result.leaf in
-    let k : ℕ = line_start c.args.node.now.breaks leaf (c.args.line_idx - c.leaf_at-found.result.before.break_count) in
-    rw (chars_back c.as_str-leaf.result.now c.range_from.result.now leaf k c.before_line-front.result.bytes c.as_str-leaf.utf8 c.as_str-leaf.ensures.chars
-    (ap (λ x. x.bytes) (front_is (goal.at.returns-clause-rest c).After-before_line-front) ∙ ap (λ s. byte_len (take k s)) (sym c.as_str-leaf.ensures.chars)) c.range_from.ensures.value)
-    (line_rest c.args.line_idx c.args.node.now leaf c.leaf_at-found.result.before c.requires.tree c.leaf_at-found.ensures.found (omega arith) (omega arith))
+    let k : ℕ =
+    line_start c.args.node.now.breaks leaf
+    (c.args.line_idx - c.leaf_at-found.result.before.break_count) in
+    rw (chars_back c.as_str-leaf.result.now c.range_from.result.now leaf k
+    c.before_line-front.result.bytes c.as_str-leaf.utf8 c.as_str-leaf.ensures.chars
+    (ap (λ x. x.bytes) (front_is (goal.at.returns-clause-rest c).After-before_line-front)
+    ∙ ap (λ s. byte_len (take k s)) (sym c.as_str-leaf.ensures.chars)) c.range_from.ensures.value)
+    (line_rest c.args.line_idx c.args.node.now leaf c.leaf_at-found.result.before c.requires.tree
+    c.leaf_at-found.ensures.found (omega arith) (omega arith))
 
 pub returns-clause-chunk : goal.returns-clause-chunk
 returns-clause-chunk c =
     let leaf : List ℕ = c.leaf_at-found.result.leaf in
-    let k : ℕ = line_start c.args.node.now.breaks leaf (c.args.line_idx - c.leaf_at-found.result.before.break_count) in
-    in_found LineBreak (c.args.line_idx - 1) c.args.node.now leaf c.leaf_at-found.result.before c.leaf_at-found.ensures.found k _ _
-    (line_start-le-length c.args.node.now.breaks leaf (c.args.line_idx - c.leaf_at-found.result.before.break_count))
-    (found_line_start (c.args.line_idx - 1) c.args.line_idx c.args.node.now leaf c.leaf_at-found.result.before c.requires.tree c.leaf_at-found.ensures.found (omega arith))
-    (chars_back c.as_str-leaf.result.now c.range_from.result.now leaf k c.before_line-front.result.bytes c.as_str-leaf.utf8 c.as_str-leaf.ensures.chars
-    (ap (λ x. x.bytes) (front_is (goal.at.returns-clause-chunk c).After-before_line-front) ∙ ap (λ s. byte_len (take k s)) (sym c.as_str-leaf.ensures.chars)) c.range_from.ensures.value)
+    let k : ℕ =
+    line_start c.args.node.now.breaks leaf
+    (c.args.line_idx - c.leaf_at-found.result.before.break_count) in
+    in_found LineBreak (c.args.line_idx - 1) c.args.node.now leaf c.leaf_at-found.result.before
+    c.leaf_at-found.ensures.found k _ _
+    (line_start-le-length c.args.node.now.breaks leaf
+    (c.args.line_idx - c.leaf_at-found.result.before.break_count))
+    (found_line_start (c.args.line_idx - 1) c.args.line_idx c.args.node.now leaf
+    c.leaf_at-found.result.before c.requires.tree c.leaf_at-found.ensures.found (omega arith))
+    (chars_back c.as_str-leaf.result.now c.range_from.result.now leaf k
+    c.before_line-front.result.bytes c.as_str-leaf.utf8 c.as_str-leaf.ensures.chars
+    (ap (λ x. x.bytes) (front_is (goal.at.returns-clause-chunk c).After-before_line-front)
+    ∙ ap (λ s. byte_len (take k s)) (sym c.as_str-leaf.ensures.chars)) c.range_from.ensures.value)
 
 pub before_line-front-requires-clause-info : goal.before_line-front-requires-clause-info
 before_line-front-requires-clause-info c =
-    c.leaf_at-found.ensures.inside ∙ ap (λ b. info_of b c.leaf_at-found.result.leaf) (sym c.line_breaks.ensures) ∙ ap (info_of c.line_breaks.result) (sym c.as_str-leaf.ensures.chars)
+    c.leaf_at-found.ensures.inside
+    ∙ ap (λ b. info_of b c.leaf_at-found.result.leaf) (sym c.line_breaks.ensures)
+    ∙ ap (info_of c.line_breaks.result) (sym c.as_str-leaf.ensures.chars)

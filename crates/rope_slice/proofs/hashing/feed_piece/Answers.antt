@@ -14,14 +14,27 @@ loop-rest-init g c =
           let block = w.put.new.block in
           let size : length block ≡ 256 = w.put.ensures.size ∙ c.requires.size in
           let whole : block ≡ take c.args.held c.args.block.now ++ front =
-          sym (take_all (c.args.held + length front) block (omega (arith, size, w.split_at.ensures.front_len, w.min-count.ensures, w.if-held-count-lt-BLOCK_BYTES.false))) ∙ w.put.ensures.bytes in
+          sym (take_all (c.args.held + length front) block
+          (omega (
+            arith,
+            size,
+            w.split_at.ensures.front_len,
+            w.min-count.ensures,
+            w.if-held-count-lt-BLOCK_BYTES.false,
+          ))) ∙ w.put.ensures.bytes in
           rw (w.state-is, w.rest-is, w.write.ensures)
-          (held_block write c.args.state.now c.args.block.now block front w.split_at.result.1.now c.args.bytes.now c.args.held size whole w.split_at.ensures.by_index.0)
-      | else-held-gt0 w ↦ rw (w.state-is, w.rest-is) (none_held write c.args.state.now c.args.block.now c.args.bytes.now c.args.held (omega (arith, w.if-held-gt0.false)))
+          (held_block write c.args.state.now c.args.block.now block front w.split_at.result.1.now
+          c.args.bytes.now c.args.held size whole w.split_at.ensures.by_index.0)
+      | else-held-gt0 w ↦ rw (w.state-is, w.rest-is)
+          (none_held write c.args.state.now c.args.block.now c.args.bytes.now c.args.held
+          (omega (arith, w.if-held-gt0.false)))
     ]
 
 pub loop-rest-preserved : goal.loop-rest-preserved
-loop-rest-preserved g c = rw c.write-in-loop-rest.ensures (feed_block g.H.Hasher.write _ _ _ _ _ _ c.loop-rest.invariant c.split_at-in-loop-rest.ensures.by_index.0 c.split_at-in-loop-rest.ensures.front_len)
+loop-rest-preserved g c =
+    rw c.write-in-loop-rest.ensures
+    (feed_block g.H.Hasher.write _ _ _ _ _ _ c.loop-rest.invariant
+    c.split_at-in-loop-rest.ensures.by_index.0 c.split_at-in-loop-rest.ensures.front_len)
 
 pub returns-clause-writes : goal.returns-clause-writes
 returns-clause-writes g c = λ more.
@@ -29,4 +42,6 @@ returns-clause-writes g c = λ more.
     let size : length c.loop-rest.rest.now ≡ 0 + length c.loop-rest.rest.now = omega arith in
     ap (λ n. fold write c.loop-rest.state (blocks (take n c.put-2.new.block ++ more))) size
     ∙ ap (λ (xs : List ℕ). fold write c.loop-rest.state (blocks (xs ++ more))) c.put-2.ensures.bytes
-    ∙ c.loop-rest.invariant.writes more ∙ ap (λ xs. fold write c.args.state.now (blocks xs)) (append_assoc (take c.args.held c.args.block.now) c.args.bytes.now more)
+    ∙ c.loop-rest.invariant.writes more
+    ∙ ap (λ xs. fold write c.args.state.now (blocks xs))
+    (append_assoc (take c.args.held c.args.block.now) c.args.bytes.now more)

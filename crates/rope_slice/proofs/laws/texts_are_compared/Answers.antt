@@ -12,5 +12,7 @@ returns-clause-total c = on_total text_of text_cmp_total
 
 pub returns-clause-ties : goal.returns-clause-ties
 returns-clause-ties c = λ a b.
-    let tell = bytes_tell (text_of a) (text_of b) in
-    (λ h. tell.1 (same_from_text_cmp (text_of a) (text_of b) h), λ h. text_cmp_same (text_of a) (text_of b) (tell.0 h))
+    let tell = bytes_tell (text_of a) (text_of b) in (
+      λ h. tell.1 (same_from_text_cmp (text_of a) (text_of b) h),
+      λ h. text_cmp_same (text_of a) (text_of b) (tell.0 h),
+    )

@@ -10,7 +10,13 @@ returns c =
     elim (cases_lt 0 (ones_below mask 64)) [
       | inl some ↦
           let first = first_one 64 64 mask (omega arith) some in
-          record { bound = omega (arith, first.bound); before = first.before; some = λ _. first.bound; block = λ one. first_within mask _ _ 32 first one; after = λ _. first.after }
+          record {
+            bound = omega (arith, first.bound);
+            before = first.before;
+            some = λ _. first.bound;
+            block = λ one. first_within mask _ _ 32 first one;
+            after = λ _. first.after;
+          }
       | inr none ↦
           let all = no_first 64 mask (omega (arith, none)) in
           record {

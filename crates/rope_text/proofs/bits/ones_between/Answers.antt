@@ -6,4 +6,8 @@ pub returns : goal.returns
 returns c =
     let from = c.args.from in
     let size : ℕ = c.args.to - from in
-    omega (arith, ones_more c.args.mask from size c.args.to (omega (arith, c.requires.from)), c.ones_before.ensures)
+    omega (
+      arith,
+      ones_more c.args.mask from size c.args.to (omega (arith, c.requires.from)),
+      c.ones_before.ensures,
+    )

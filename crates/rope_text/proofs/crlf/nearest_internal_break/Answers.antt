@@ -6,36 +6,57 @@ use Rattle.rope_text.proofs.crlf.nearest_internal_break.Goals.{else-at-gt0-via-t
 use Rattle.rope_text.proofs.crlf.nearest_internal_break.Goals as goal
 
 -- no cut inside is at the position itself
-before : (c : After-next_break-right) (k : ℕ) → 0 < k → k < length c.args.text.now → IsTrue (is_cut c.args.text.now k) → k ≤ c.args.at → k ≤ c.prev_break-left.result
-before c k some inside cut up = ⊎_elim (λ (less : k < c.args.at). c.prev_break-left.ensures.nearest k less cut)
+before : (c : After-next_break-right) (k : ℕ) → 0 < k → k < length c.args.text.now
+    → IsTrue (is_cut c.args.text.now k) → k ≤ c.args.at → k ≤ c.prev_break-left.result
+before c k some inside cut up =
+    ⊎_elim (λ (less : k < c.args.at). c.prev_break-left.ensures.nearest k less cut)
     (λ (more : c.args.at ≤ k).
     let same : k ≡ c.args.at = omega arith in
     elim c.else-at-gt0.branch [
-      | else-at-gt0-via-then-at-gt0+then-at-text+else-is_break w ↦ absurd (grind (arith, ap (is_cut c.args.text.now) same, w.is_break.ensures.value, w.if-is_break.false))
+      | else-at-gt0-via-then-at-gt0+then-at-text+else-is_break w ↦
+          absurd (grind (
+            arith,
+            ap (is_cut c.args.text.now) same,
+            w.is_break.ensures.value,
+            w.if-is_break.false,
+          ))
       | else-at-gt0-via-then-at-gt0+else-at-text w ↦ absurd (omega (arith, w.if-at-text.false))
       | else-at-gt0-via-else-at-gt0 w ↦ absurd (omega (arith, w.if-at-gt0.false))
     ]) (cases_lt k c.args.at)
 
 pub returns-then-left-eq0-clause-inside : goal.returns-then-left-eq0-clause-inside
 returns-then-left-eq0-clause-inside c k some inside cut =
-    let up = before (goal.at.returns-then-left-eq0-clause-inside c).After-next_break-right k some inside cut in
+    let up = before (goal.at.returns-then-left-eq0-clause-inside c).After-next_break-right k some
+    inside cut in
     let on = c.next_break-right.ensures.nearest k in
-    ⊎_elim (λ (more : c.args.at < k). (omega arith, omega (arith, on more (omega arith) cut))) (λ (most : k ≤ c.args.at). absurd (omega (arith, up most))) (cases_lt c.args.at k)
+    ⊎_elim (λ (more : c.args.at < k). (omega arith, omega (arith, on more (omega arith) cut)))
+    (λ (most : k ≤ c.args.at). absurd (omega (arith, up most))) (cases_lt c.args.at k)
 
 pub returns-then-left-eq0-clause-nearest : goal.returns-then-left-eq0-clause-nearest
 returns-then-left-eq0-clause-nearest c k some inside cut =
-    let up = before (goal.at.returns-then-left-eq0-clause-nearest c).After-next_break-right k some inside cut in
-    ⊎_elim (λ (more : c.args.at < k). omega (arith, c.next_break-right.ensures.nearest k more (omega arith) cut)) (λ (most : k ≤ c.args.at). absurd (omega (arith, up most))) (cases_lt c.args.at k)
+    let up = before (goal.at.returns-then-left-eq0-clause-nearest c).After-next_break-right k some
+    inside cut in
+    ⊎_elim (λ (more : c.args.at < k). omega (
+      arith,
+      c.next_break-right.ensures.nearest k more (omega arith) cut,
+    )) (λ (most : k ≤ c.args.at). absurd (omega (arith, up most))) (cases_lt c.args.at k)
 
 pub returns-then-right-text-clause-nearest : goal.returns-then-right-text-clause-nearest
 returns-then-right-text-clause-nearest c k some inside cut =
-    let up = before (goal.at.returns-then-right-text-clause-nearest c).After-next_break-right k some inside cut in
+    let up = before (goal.at.returns-then-right-text-clause-nearest c).After-next_break-right k some
+    inside cut in
     elim c.then-right-text.branch [
-      | then-right-text-via-then-right-text w ↦ left_is_only _ _ c.next_break-right.result _ (omega arith) (omega (arith, w.if-right-text.true)) up (λ j. c.next_break-right.ensures.nearest k j (omega arith) cut)
-      | then-right-text-via-else-right-text+then-at-left w ↦ left_is_nearer _ _ c.next_break-right.result _ (omega arith) (omega arith) w.if-at-left.true up (λ j. c.next_break-right.ensures.nearest k j (omega arith) cut)
+      | then-right-text-via-then-right-text w ↦
+          left_is_only _ _ c.next_break-right.result _ (omega arith)
+          (omega (arith, w.if-right-text.true)) up
+          (λ j. c.next_break-right.ensures.nearest k j (omega arith) cut)
+      | then-right-text-via-else-right-text+then-at-left w ↦
+          left_is_nearer _ _ c.next_break-right.result _ (omega arith) (omega arith)
+          w.if-at-left.true up (λ j. c.next_break-right.ensures.nearest k j (omega arith) cut)
     ]
 
 pub returns-clause-nearest : goal.returns-clause-nearest
 returns-clause-nearest c k some inside cut =
     let up = before (goal.at.returns-clause-nearest c).After-next_break-right k some inside cut in
-    right_is_nearer _ c.prev_break-left.result _ _ (omega arith) (omega arith) c.if-at-left.false up (λ j. c.next_break-right.ensures.nearest k j (omega arith) cut)
+    right_is_nearer _ c.prev_break-left.result _ _ (omega arith) (omega arith) c.if-at-left.false up
+    (λ j. c.next_break-right.ensures.nearest k j (omega arith) cut)

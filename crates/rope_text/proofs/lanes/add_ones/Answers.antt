@@ -9,4 +9,5 @@ returns c = λ most total fit before.
     let a = added most 1 total _ _ _ (omega (arith, fit)) before c.ones_from.ensures in
     let b = added _ 1 _ _ _ _ (omega (arith, fit)) a c.ones_from-2.ensures in
     let d = added _ 1 _ _ _ _ (omega (arith, fit)) b c.ones_from-3.ensures in
-    four_more (ascii_mark_at c.args.mark s) c.args.at most total (added _ 1 _ _ _ _ (omega (arith, fit)) d c.ones_from-4.ensures)
+    four_more (ascii_mark_at c.args.mark s) c.args.at most total
+    (added _ 1 _ _ _ _ (omega (arith, fit)) d c.ones_from-4.ensures)

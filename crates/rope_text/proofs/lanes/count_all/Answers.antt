@@ -20,11 +20,24 @@ returns c =
     let rest = drop n (replicate 34 0) in
     let are : AreZeros rest = zeros_dropped n (replicate 34 0) (zeros_at 34) in
     let ys = c.copy_from_slice.new.self in
-    let whole : byte_break_count b (ys ++ rest) ≡ byte_break_count b bs = ap (λ x. byte_break_count b (x ++ rest)) c.copy_from_slice.ensures.after ∙ breaks_padded b bs rest are in
-    let behind : byte_break_count b (drop (0 + n) (ys ++ rest)) ≡ 0 = ap (λ k. byte_break_count b (drop k (ys ++ rest))) (let e : 0 + n ≡ n = omega arith in e) ∙ ap (λ x. byte_break_count b (drop n (x ++ rest))) c.copy_from_slice.ensures.after ∙ ap (byte_break_count b) (drop_at bs rest _ refl) ∙ no_breaks b rest are in
+    let whole : byte_break_count b (ys ++ rest) ≡ byte_break_count b bs =
+    ap (λ x. byte_break_count b (x ++ rest)) c.copy_from_slice.ensures.after
+    ∙ breaks_padded b bs rest are in
+    let following : byte_break_count b (drop (0 + n) (ys ++ rest)) ≡ 0 =
+    ap (λ k. byte_break_count b (drop k (ys ++ rest))) (let e : 0 + n ≡ n = omega arith in e)
+    ∙ ap (λ x. byte_break_count b (drop n (x ++ rest))) c.copy_from_slice.ensures.after
+    ∙ ap (byte_break_count b) (drop_at bs rest _ refl) ∙ no_breaks b rest are in
     record {
       bytes_are = search rules;
       chars = grind (arith, common_steps);
       pairs = grind (arith, common_steps);
-      break_count = omega (arith, c.mask-3.ensures n (omega arith), whole, behind, c.ones_before-3.ensures, byte_break_count-past b bs n (omega arith));
+      break_count =
+          omega (
+            arith,
+            c.mask-3.ensures n (omega arith),
+            whole,
+            following,
+            c.ones_before-3.ensures,
+            byte_break_count-past b bs n (omega arith),
+          );
     }

@@ -14,7 +14,13 @@ loop-counts-init c =
       within = omega (arith, none.bytes);
       chars = omega (arith, none.chars, ap (λ k. count_by begins_char (drop k s)) start);
       pairs = omega (arith, none.pairs, ap (λ k. count_by begins_pair (drop k s)) start);
-      break_count = omega (arith, none.break_count, ap (λ k. byte_break_count c.args.breaks (drop k s)) start);
+      break_count =
+          omega (
+            arith,
+            none.break_count,
+            ap (λ k. byte_break_count c.args.breaks (drop k s))
+                start,
+          );
     }
 
 pub plus-counts-requires : goal.plus-counts-requires
@@ -27,7 +33,13 @@ plus-counts-requires c =
       bytes = omega arith;
       chars = omega (arith, so_far.chars, run.chars, begins_le rest, long);
       pairs = omega (arith, so_far.pairs, run.pairs, pairs_le rest, long);
-      breaks = omega (arith, so_far.break_count, run.break_count, byte_break_count_le c.args.breaks rest, long);
+      breaks = omega (
+        arith,
+        so_far.break_count,
+        run.break_count,
+        byte_break_count_le c.args.breaks rest,
+        long,
+      );
     }
 
 pub overflow_add-counts-then-to-at-ge32-2 : goal.overflow_add-counts-then-to-at-ge32-2

@@ -8,7 +8,8 @@ invariant-loop-i l = record {
   within : l.i ≤ l.from + l.size;
   whole : ((l.from + l.size) - l.i) % 64 ≡ 0;
   short : l.size ≤ 4032;
-  run : IsRun l.breaks l.bytes l.from (l.i - l.from) ((l.i - l.from) / 16) l.chars l.pairs l.ascii l.multibyte;
+  run : IsRun l.breaks l.bytes l.from (l.i - l.from) ((l.i - l.from) / 16) l.chars l.pairs l.ascii
+      l.multibyte;
 }
 
 abbrev pub decreases-loop-i : goal.decreases-loop-i

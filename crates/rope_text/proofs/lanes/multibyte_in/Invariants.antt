@@ -7,8 +7,10 @@ use Rattle.rope_text.proofs.lanes.multibyte_in.Given as goal
 abbrev pub invariant-loop-begins : goal.invariant-loop-begins
 invariant-loop-begins l = record {
   within : l.i ≤ l.at + 64;
-  marked : (m : ℕ) → ones_below l.begins m ≡ count_by (multibyte_begin l.bytes) (take m (places l.i ((l.at + 64) - l.i)));
-  counted : l.total + multibyte_of Unicode l.bytes l.i ((l.at + 64) - l.i) ≡ multibyte_of Unicode l.bytes l.at 64;
+  marked : (m : ℕ) → ones_below l.begins m
+      ≡ count_by (multibyte_begin l.bytes) (take m (places l.i ((l.at + 64) - l.i)));
+  counted : l.total + multibyte_of Unicode l.bytes l.i ((l.at + 64) - l.i)
+      ≡ multibyte_of Unicode l.bytes l.at 64;
 }
 
 abbrev pub decreases-loop-begins : goal.decreases-loop-begins

@@ -11,5 +11,6 @@ returns c =
     let s = c.args.bytes.now in
     let i = c.args.at in
     ones_of (ascii_mark_at c.args.mark s) i
-    (c.ones.ensures (range_with_len i 16) (λ k. get_or s k 0) (λ k. get_or s (k + 1) 0) (length-range_with_len i 16) (λ k. (c.type_inv.bytes k).fits)
+    (c.ones.ensures (range_with_len i 16) (λ k. get_or s k 0) (λ k. get_or s (k + 1) 0)
+    (length-range_with_len i 16) (λ k. (c.type_inv.bytes k).fits)
     (loaded s i 16 (omega arith)) (loaded_from s i 1 16 (omega arith)))

@@ -12,7 +12,8 @@ pub overflow_add-result : goal.overflow_add-result
 overflow_add-result c =
     let xs = c.args.lanes in
     let low = bytes_below xs c.fits-lanes.1 in
-    sum_fits w16 0 (widened xs) (omega (arith, ap sum_l (map-id xs), sum_bound 255 xs low, c.fits-lanes.0))
+    sum_fits w16 0 (widened xs)
+    (omega (arith, ap sum_l (map-id xs), sum_bound 255 xs low, c.fits-lanes.0))
 
 pub returns : goal.returns
 returns c = omega (arith, fold-sum 0 (widened c.args.lanes), ap sum_l (map-id c.args.lanes))

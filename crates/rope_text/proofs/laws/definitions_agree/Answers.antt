@@ -8,10 +8,15 @@ use Rattle.rope_text.proofs.EditLaws.{removed-inserted, split_append}
 use Rattle.rope_text.proofs.laws.definitions_agree.Goals as goal
 
 pub returns-clause-greatest : goal.returns-clause-greatest
-returns-clause-greatest c = λ test n z. record { within = greatest-le test n; passes = greatest_passes test n z; greatest = greatest_above test n }
+returns-clause-greatest c = λ test n z. record {
+  within = greatest-le test n;
+  passes = greatest_passes test n z;
+  greatest = greatest_above test n;
+}
 
 pub returns-clause-chars : goal.returns-clause-chars
-returns-clause-chars c = λ text i l. (byte_to_char-char_to_byte text i l, utf16_to_char-char_to_utf16 text i l)
+returns-clause-chars c =
+    λ text i l. (byte_to_char-char_to_byte text i l, utf16_to_char-char_to_utf16 text i l)
 
 pub returns-clause-lines : goal.returns-clause-lines
 returns-clause-lines c = char_to_line-line_start
@@ -23,7 +28,8 @@ pub returns-clause-counts : goal.returns-clause-counts
 returns-clause-counts c = info_of-append
 
 pub returns-clause-slices : goal.returns-clause-slices
-returns-clause-slices c = λ text chunks a b c d l. (slice_range-slice_range text a b c d l, clip-clip chunks a b c d l)
+returns-clause-slices c =
+    λ text chunks a b c d l. (slice_range-slice_range text a b c d l, clip-clip chunks a b c d l)
 
 pub returns-clause-byte_slices : goal.returns-clause-byte_slices
 returns-clause-byte_slices c = nested

@@ -13,7 +13,9 @@ loop-at-preserved c =
     let test : c.is_mark.result ≡ mark_at m s i = c.is_mark.ensures in
     elim c.if-is_mark.branch [
       | then-is_mark+else-left-eq0 w ↦
-          let yes : cond {A = ℕ} (mark_at m s i) 1 0 ≡ 1 = ap (λ (t : Bool). cond {A = ℕ} t 1 0) (sym test ∙ w.if-is_mark.true) in omega arith
+          let yes : cond {A = ℕ} (mark_at m s i) 1 0 ≡ 1 =
+          ap (λ (t : Bool). cond {A = ℕ} t 1 0) (sym test ∙ w.if-is_mark.true) in omega arith
       | else-is_mark w ↦
-          let no : cond {A = ℕ} (mark_at m s i) 1 0 ≡ 0 = ap (λ (t : Bool). cond {A = ℕ} t 1 0) (sym test ∙ w.if-is_mark.false) in omega arith
+          let no : cond {A = ℕ} (mark_at m s i) 1 0 ≡ 0 =
+          ap (λ (t : Bool). cond {A = ℕ} t 1 0) (sym test ∙ w.if-is_mark.false) in omega arith
     ]

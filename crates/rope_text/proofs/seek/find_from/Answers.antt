@@ -14,10 +14,12 @@ returns-then-left-passed c =
     let place = c.place_of_mark in
     let r : ℕ = place.result in
     let next : i + (r + 1) ≡ (i + r) + 1 = omega arith in
-    let more = mask.ensures (r + 1) (omega (arith, place.ensures.bound)) ∙ ap (λ j. ones_below mask.result (r + 1) + marks m (drop j s)) next in
+    let more = mask.ensures (r + 1) (omega (arith, place.ensures.bound))
+    ∙ ap (λ j. ones_below mask.result (r + 1) + marks m (drop j s)) next in
     let found : i + r < length s → IsMark m s c.args.from c.args.n (i + r) = λ inside.
     let found =
-    found_mark mask.result c.loop-at.left r _ _ _ (mark_at m s (i + r)) (mask.ensures r (omega (arith, place.ensures.bound))) more
+    found_mark mask.result c.loop-at.left r _ _ _ (mark_at m s (i + r))
+    (mask.ensures r (omega (arith, place.ensures.bound))) more
     (marks-drop m s (i + r) inside) place.ensures.before place.ensures.after in
     (omega (arith, found.0, c.loop-at.invariant.counted), found.1) in
     record {

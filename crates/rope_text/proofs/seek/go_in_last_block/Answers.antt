@@ -17,7 +17,13 @@ returns c =
     let few : skip ≤ 32 = omega arith in
     let all : skip + more ≤ 32 = omega (arith, few, c.min.ensures) in
     let end : at + (skip + more) ≡ c.args.from.at + more = omega (arith, start) in
-    let none : ones_below (c.mask.result / 2 ^ skip) more ≡ 0 = omega (arith, ones_more (c.mask.result / 2 ^ skip) more (first - more) first (omega (arith, c.min.ensures)), c.first_mark.ensures.before) in
+    let none : ones_below (c.mask.result / 2 ^ skip) more ≡ 0 =
+    omega (
+      arith,
+      ones_more (c.mask.result / 2 ^ skip) more (first - more) first
+          (omega (arith, c.min.ensures)),
+      c.first_mark.ensures.before,
+    ) in
     record {
       within = omega (arith, all, end);
       none = omega (

@@ -8,7 +8,8 @@ abbrev pub invariant-loop-at : goal.invariant-loop-at
 invariant-loop-at l = record {
   within : l.at ≤ length l.bytes;
   ahead : 32 ≤ l.at → l.at + ahead (Break l.fn.breaks) ≤ length l.bytes;
-  counted : l.n + (l.left + byte_break_count l.fn.breaks (drop l.at l.bytes)) ≡ byte_break_count l.fn.breaks l.bytes;
+  counted : l.n + (l.left + byte_break_count l.fn.breaks (drop l.at l.bytes))
+      ≡ byte_break_count l.fn.breaks l.bytes;
 }
 
 abbrev pub decreases-loop-at : goal.decreases-loop-at

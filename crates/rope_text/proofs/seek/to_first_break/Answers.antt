@@ -13,8 +13,13 @@ returns-then-ones_before-gt0-clause-inside c = λ inside.
     let mask = c.masks_of-masks in
     let mark = c.first_mark-skip in
     let r : ℕ = mark.result in
-    let few : r < 32 = mark.ensures.block (omega (arith, c.ones_before.ensures, c.if-ones_before-gt0.true)) in
+    let few : r < 32 =
+    mark.ensures.block (omega (arith, c.ones_before.ensures, c.if-ones_before-gt0.true)) in
     let next : i + (r + 1) ≡ (i + r) + 1 = omega arith in
-    let more = mask.ensures.breaks (r + 1) (omega (arith, few)) ∙ ap (λ j. ones_below mask.result.breaks (r + 1) + byte_break_count breaks (drop j s)) next in
-    (found_mark mask.result.breaks 0 r _ _ _ (breaks_at breaks s (i + r)) (mask.ensures.breaks r (omega (arith, few))) more (byte_break_count-drop breaks s (i + r) inside)
-    (omega (arith, mark.ensures.before, no_marks r)) (omega (arith, mark.ensures.after (omega (arith, few))))).1
+    let more = mask.ensures.breaks (r + 1) (omega (arith, few))
+    ∙ ap (λ j. ones_below mask.result.breaks (r + 1) + byte_break_count breaks (drop j s)) next in
+    (found_mark mask.result.breaks 0 r _ _ _ (breaks_at breaks s (i + r))
+    (mask.ensures.breaks r (omega (arith, few))) more
+    (byte_break_count-drop breaks s (i + r) inside)
+    (omega (arith, mark.ensures.before, no_marks r))
+    (omega (arith, mark.ensures.after (omega (arith, few))))).1

@@ -13,5 +13,8 @@ returns c =
     let text = c.args.text.now in
     let last = c.floor_char_boundary-last in
     let some : 0 < length text = grind (arith, nat_tests) in
-    let place = last_place text last.result c.utf8.text some last.ensures.boundary last.ensures.bound last.ensures.nearest in
-    rw c.as_bytes.ensures.value at c.is_mark.ensures ∙ last_ends c.args.breaks text last.result place.0 c.utf8.text place.1 place.2
+    let place =
+    last_place text last.result c.utf8.text some last.ensures.boundary last.ensures.bound
+    last.ensures.nearest in
+    rw c.as_bytes.ensures.value at c.is_mark.ensures
+    ∙ last_ends c.args.breaks text last.result place.0 c.utf8.text place.1 place.2

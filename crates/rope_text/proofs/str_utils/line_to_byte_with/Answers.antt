@@ -6,4 +6,6 @@ use Rattle.rope_text.proofs.str_utils.line_to_byte_with.Goals as goal
 
 pub returns-clause-boundary : goal.returns-clause-boundary
 returns-clause-boundary c =
-    subst (IsCharBoundary c.args.text.now) (sym c.front_of_line.ensures.bytes) (byte_len_boundary c.args.text.now (line_start c.args.breaks (chars c.args.text.now) c.args.line_idx) c.utf8.text)
+    subst (IsCharBoundary c.args.text.now) (sym c.front_of_line.ensures.bytes)
+    (byte_len_boundary c.args.text.now
+    (line_start c.args.breaks (chars c.args.text.now) c.args.line_idx) c.utf8.text)

@@ -12,11 +12,18 @@ pub returns-then-info : goal.returns-then-info
 returns-then-info c =
     let t = chars c.args.text.now in
     let l = line_start c.args.breaks t c.args.line_idx in
-    let ascii : byte_len t ≡ length t = omega (arith, ap (λ x. x.bytes) c.requires, ap (λ x. x.chars) c.requires, c.if-info.true) in
-    omega (arith, c.line_to_byte_of-place.ensures.value, ascii_front t ascii l, line_start-le-length c.args.breaks t c.args.line_idx)
+    let ascii : byte_len t ≡ length t =
+    omega (arith, ap (λ x. x.bytes) c.requires, ap (λ x. x.chars) c.requires, c.if-info.true) in
+    omega (
+      arith,
+      c.line_to_byte_of-place.ensures.value,
+      ascii_front t ascii l,
+      line_start-le-length c.args.breaks t c.args.line_idx,
+    )
 
 pub returns : goal.returns
 returns c =
     let t = chars c.args.text.now in
     c.byte_to_char_idx_of.ensures ∙ ap (byte_to_char t) c.line_to_byte_of-place.ensures.value
-    ∙ byte_to_char-char_to_byte t (line_start c.args.breaks t c.args.line_idx) (line_start-le-length c.args.breaks t c.args.line_idx)
+    ∙ byte_to_char-char_to_byte t (line_start c.args.breaks t c.args.line_idx)
+    (line_start-le-length c.args.breaks t c.args.line_idx)

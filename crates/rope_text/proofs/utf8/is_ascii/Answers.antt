@@ -10,4 +10,6 @@ returns c = λ n ascii over before.
     let i : ℕ = c.args.at - 3 in
     let long = length-range_with_len i 64 in
     let high = compared_left leb 128 64 long (loaded s i 64 (omega arith)) in
-    block_more s c.args.at n 61 c.requires.from over before (λ k from to. ascii_block s i (none_set (omega (arith, long)) high (eqb-true _ _ ascii)) k (omega arith) (omega arith))
+    block_more s c.args.at n 61 c.requires.from over before
+    (λ k from to. ascii_block s i (none_set (omega (arith, long)) high (eqb-true _ _ ascii)) k
+    (omega arith) (omega arith))

@@ -17,7 +17,8 @@ record IsShare (left groups n : ℕ) : Type 0 where
   least_after : 12 * (groups - 1) ≤ left - n
   most_after : left - n ≤ 24 * (groups - 1)
 
-share : (left groups : ℕ) → 1 ≤ groups → 12 * groups ≤ left → left ≤ 24 * groups → IsShare left groups (left / groups)
+share : (left groups : ℕ) → 1 ≤ groups → 12 * groups ≤ left → left ≤ 24 * groups
+    → IsShare left groups (left / groups)
 share left groups some least most = record {
   least = share_least left groups some least;
   most = share_most left groups most;
@@ -26,23 +27,32 @@ share left groups some least most = record {
   most_after = most_after left groups some most;
 }
 
-over_at : {breaks : LineBreaks} {h : ℕ} {whole : List Tree} {done more rest left : List Tree} → more ≡ done → left ≡ rest → AreOver breaks h whole done rest → AreOver breaks h whole more left
-over_at {breaks = breaks} {h = h} {whole = whole} {more = more} {rest = rest} e f a = subst (AreOver breaks h whole more) (sym f) (subst (λ ts. AreOver breaks h whole ts rest) (sym e) a)
+over_at : {breaks : LineBreaks} {h : ℕ} {whole : List Tree} {done more rest left : List Tree}
+    → more ≡ done → left ≡ rest → AreOver breaks h whole done rest
+    → AreOver breaks h whole more left
+over_at {breaks = breaks} {h = h} {whole = whole} {more = more} {rest = rest} e f a =
+    subst (AreOver breaks h whole more) (sym f)
+    (subst (λ ts. AreOver breaks h whole ts rest) (sym e) a)
 
 pub node_over-requires : goal.node_over-requires
 node_over-requires c =
     let rest = c.loop-groups.rest.now in
     let n = length rest / c.loop-groups.groups in
-    let g = share (length rest) c.loop-groups.groups (omega arith) c.loop-groups.invariant.least c.loop-groups.invariant.most in
-    let a = group_children _ _ rest n c.loop-groups.invariant.over.left g.least g.most (omega (arith, g.within)) in
+    let g = share (length rest) c.loop-groups.groups (omega arith) c.loop-groups.invariant.least
+    c.loop-groups.invariant.most in
+    let a = group_children _ _ rest n c.loop-groups.invariant.over.left g.least g.most
+    (omega (arith, g.within)) in
     children_of_first _ _ (take n rest) a
 
 pub loop-groups-preserved : goal.loop-groups-preserved
 loop-groups-preserved c =
     let rest = c.loop-groups.rest.now in
     let n = length rest / c.loop-groups.groups in
-    let g = share (length rest) c.loop-groups.groups (omega arith) c.loop-groups.invariant.least c.loop-groups.invariant.most in
-    let over = over_more _ _ _ _ rest n c.in_ok-node_over.field-0 c.loop-groups.invariant.over g.least g.most (omega (arith, g.within))
+    let g = share (length rest) c.loop-groups.groups (omega arith) c.loop-groups.invariant.least
+    c.loop-groups.invariant.most in
+    let over =
+    over_more _ _ _ _ rest n c.in_ok-node_over.field-0 c.loop-groups.invariant.over g.least g.most
+    (omega (arith, g.within))
     c.in_ok-node_over.ensures.ok in
     let pushed = c.in_ok-push.ensures.items in
     let after = back_of rest _ n refl in
@@ -52,6 +62,18 @@ loop-groups-preserved c =
       over = over_at pushed after over;
       least = omega (arith, g.least_after);
       most = omega (arith, g.most_after);
-      counted = omega (arith, ap length c.in_ok-push.ensures.items, length-append c.loop-groups.level.items (c.in_ok-node_over.field-0 ∷ []), c.loop-groups.invariant.counted);
-      made = omega (arith, c.in_ok-node_over.ensures.made, ap length c.in_ok-push.ensures.items, length-append c.loop-groups.level.items (c.in_ok-node_over.field-0 ∷ []), c.loop-groups.invariant.made);
+      counted =
+          omega (
+            arith,
+            ap length c.in_ok-push.ensures.items,
+            length-append c.loop-groups.level.items (c.in_ok-node_over.field-0 ∷ []),
+            c.loop-groups.invariant.counted,
+          );
+      made = omega (
+        arith,
+        c.in_ok-node_over.ensures.made,
+        ap length c.in_ok-push.ensures.items,
+        length-append c.loop-groups.level.items (c.in_ok-node_over.field-0 ∷ []),
+        c.loop-groups.invariant.made,
+      );
     }

@@ -18,22 +18,34 @@ loop-level-preserved c =
     let most = rw c.deref.ensures.value at c.count_over-count.ensures.most in
     let more : 1 ≤ length us = omega arith in
     record {
-      siblings = level_up _ _ ts us c.loop-level.invariant.siblings c.loop-level.invariant.some (rw c.deref-in-loop-level.ensures.value at c.in_ok-level.ensures.siblings) more;
+      siblings =
+          level_up _ _ ts us c.loop-level.invariant.siblings c.loop-level.invariant.some
+          (rw c.deref-in-loop-level.ensures.value at c.in_ok-level.ensures.siblings) more;
       some = more;
-      same = rw c.deref-in-loop-level.ensures.value at c.in_ok-level.ensures.leaves ∙ c.loop-level.invariant.same;
+      same = rw c.deref-in-loop-level.ensures.value at c.in_ok-level.ensures.leaves
+          ∙ c.loop-level.invariant.same;
       made = omega (arith, c.in_ok-level.ensures.made, few, c.loop-level.invariant.made);
     }
 
-children : (c : After-deref-2) → AreChildren (breaks_of c.loop-level.level.items) (height_of c.loop-level.level.items) c.loop-level.level.items
+children : (c : After-deref-2)
+    → AreChildren (breaks_of c.loop-level.level.items) (height_of c.loop-level.level.items)
+    c.loop-level.level.items
 children c =
     let ts = c.loop-level.level.items in
-    children_of_first _ _ ts (children_of _ _ ts c.loop-level.invariant.siblings (omega (arith, c.loop-level.invariant.some)) (omega arith))
+    children_of_first _ _ ts
+    (children_of _ _ ts c.loop-level.invariant.siblings (omega (arith, c.loop-level.invariant.some))
+    (omega arith))
 
 pub node_over-requires : goal.node_over-requires
-node_over-requires c = rw c.deref-2.ensures.value (children (goal.at.node_over-requires c).After-deref-2)
+node_over-requires c =
+    rw c.deref-2.ensures.value (children (goal.at.node_over-requires c).After-deref-2)
 
 pub returns-clause-tree : goal.returns-clause-tree
 returns-clause-tree c =
     let ts = c.loop-level.level.items in
-    let whole = is_tree_over (breaks_of ts) (height_of ts) ts (children (goal.at.returns-clause-tree c).After-deref-2) in
-    IfOk-weaker c.node_over.result _ _ (λ node is. subst IsTree (sym (is ∙ ap tree_over c.deref-2.ensures.value)) whole) c.node_over.ensures.ok
+    let whole =
+    is_tree_over (breaks_of ts) (height_of ts) ts
+    (children (goal.at.returns-clause-tree c).After-deref-2) in
+    IfOk-weaker c.node_over.result _ _
+    (λ node is. subst IsTree (sym (is ∙ ap tree_over c.deref-2.ensures.value)) whole)
+    c.node_over.ensures.ok

@@ -14,8 +14,10 @@ invariant-loop-left l = record {
   utf8 : shadow (Utf8 l.left);
   within : length l.left ≤ length l.fn.text;
   some : 0 < byte_len l.rest + length l.left;
-  nodes : AreFrontNodes l.fn.breaks (joined l.fn.leaves.items ++ (l.fn.rest ++ chars l.fn.text)) l.leaves.items (l.rest ++ chars l.left);
-  long : 981 * length (leaves_of l.leaves.items) + byte_len l.rest + length l.left ≤ 981 * length (leaves_of l.fn.leaves.items) + byte_len l.fn.rest + length l.fn.text;
+  nodes : AreFrontNodes l.fn.breaks (joined l.fn.leaves.items ++ (l.fn.rest ++ chars l.fn.text))
+      l.leaves.items (l.rest ++ chars l.left);
+  long : 981 * length (leaves_of l.leaves.items) + byte_len l.rest + length l.left ≤ 981 * length
+      (leaves_of l.fn.leaves.items) + byte_len l.fn.rest + length l.fn.text;
 }
 
 abbrev pub decreases-loop-left : goal.decreases-loop-left

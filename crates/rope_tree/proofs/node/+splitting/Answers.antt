@@ -11,71 +11,116 @@ use Rattle.rope_tree.proofs.node.+splitting.Goals as goal
 
 -- the child that takes the text
 abbrev child : (t : ℕ) → Children::insert_splitting-After-info-old t → Tree
-child t c = get_or c.self.inside.nodes c.way_in-place.result.place c.index-self-place.result
+child t c = get_or c.self.inside.nodes c.branch_at-place.result.place c.index-self-place.result
 
-found : (t : ℕ) (c : Children::insert_splitting-After-info-old t) → Finds c.self.inside c.args.self.now c.way_in-place.result.place (child t c) c.args.at c.way_in-place.result.inside c.args.to_right
+found : (t : ℕ) (c : Children::insert_splitting-After-info-old t)
+    → Finds c.self.inside c.args.self.now c.branch_at-place.result.place (child t c) c.args.at
+    c.branch_at-place.result.inside c.args.to_right
 found t c =
-    found_at c.self.inside c.args.self.now c.way_in-place.result.place c.index-self-place.result c.args.at c.way_in-place.result.inside c.args.to_right
-    c.self.view_is c.self.invariant c.requires.children c.way_in-place.ensures.child c.way_in-place.ensures.place c.way_in-place.ensures.goes
+    found_at c.self.inside c.args.self.now c.branch_at-place.result.place c.index-self-place.result
+    c.args.at c.branch_at-place.result.inside c.args.to_right
+    c.self.view_is c.self.invariant c.requires.children c.branch_at-place.ensures.child
+    c.branch_at-place.ensures.place c.branch_at-place.ensures.goes
 
 pub Children::insert_splitting-insert_splitting-requires :
     goal.Children::insert_splitting-insert_splitting-requires
 Children::insert_splitting-insert_splitting-requires t c =
-    let f = found t (goal.at.Children::insert_splitting-insert_splitting-requires t c).After-info-old in
-    let low = rw f.taken.child_is at (tallest_above c.args.self.now c.way_in-place.result.place (child t (goal.at.Children::insert_splitting-insert_splitting-requires t c).After-info-old) f.taken.within) in
-    let fits = child_fits _ _ _ _ _ _ _ f c.args.added.now c.requires.takes.some c.requires.side c.requires.takes.fits in
-    let side = may _ _ _ _ _ _ _ f c.args.added.now c.requires.takes.some c.requires.side c.requires.takes.fits in
-    (omega (arith, c.decreases, low), (record { within = f.taken.goes.within; some = c.requires.takes.some; fits = fits }, side))
+    let f = found t (goal.at.Children::insert_splitting-insert_splitting-requires t
+    c).After-info-old in
+    let low =
+    rw f.taken.child_is at (tallest_above c.args.self.now c.branch_at-place.result.place
+    (child t (goal.at.Children::insert_splitting-insert_splitting-requires t c).After-info-old)
+    f.taken.within) in
+    let fits =
+    child_fits _ _ _ _ _ _ _ f c.args.added.now c.requires.takes.some c.requires.side
+    c.requires.takes.fits in
+    let side =
+    may _ _ _ _ _ _ _ f c.args.added.now c.requires.takes.some c.requires.side
+    c.requires.takes.fits in (
+      omega (arith, c.decreases, low),
+      (record { within = f.taken.goes.within; some = c.requires.takes.some; fits = fits }, side),
+    )
 
 pub Children::insert_splitting-returns-in_err-insert_splitting-clause-made :
     goal.Children::insert_splitting-returns-in_err-insert_splitting-clause-made
 Children::insert_splitting-returns-in_err-insert_splitting-clause-made t c =
-    omega (arith, c.insert_splitting.ensures.made, (found t (goal.at.Children::insert_splitting-returns-in_err-insert_splitting-clause-made t c).After-info-old).taken.own.at_height)
+    omega (
+      arith,
+      c.insert_splitting.ensures.made,
+      (found t (goal.at.Children::insert_splitting-returns-in_err-insert_splitting-clause-made t
+          c).After-info-old).taken.own.at_height,
+    )
 
 pub Children::insert_splitting-retotal-requires-clause-small :
     goal.Children::insert_splitting-retotal-requires-clause-small
 Children::insert_splitting-retotal-requires-clause-small t c =
-    let f = found t (goal.at.Children::insert_splitting-retotal-requires-clause-small t c).After-info-old in
-    small_totals (breaks_of c.args.self.now) c.self.inside.totals c.args.self.now (read _ _ _ _ _ _ _ f c.self.inside.totals refl) c.requires.children.fits
+    let f = found t (goal.at.Children::insert_splitting-retotal-requires-clause-small t
+    c).After-info-old in
+    small_totals (breaks_of c.args.self.now) c.self.inside.totals c.args.self.now
+    (read _ _ _ _ _ _ _ f c.self.inside.totals refl) c.requires.children.fits
 
 pub Children::insert_splitting-retotal-requires-clause-part :
     goal.Children::insert_splitting-retotal-requires-clause-part
 Children::insert_splitting-retotal-requires-clause-part t c =
-    part _ _ _ _ _ _ _ (found t (goal.at.Children::insert_splitting-retotal-requires-clause-part t c).After-info-old) c.self.inside.totals refl c.info-old.result c.info-old.ensures.value
+    part _ _ _ _ _ _ _ (found t
+    (goal.at.Children::insert_splitting-retotal-requires-clause-part t c).After-info-old)
+    c.self.inside.totals refl c.info-old.result c.info-old.ensures.value
 
 pub Children::insert_splitting-retotal-requires-clause-new :
     goal.Children::insert_splitting-retotal-requires-clause-new
 Children::insert_splitting-retotal-requires-clause-new t c =
     small_below c.info-grown.result
-    (small _ _ _ _ _ _ _ (found t (goal.at.Children::insert_splitting-retotal-requires-clause-new t c).After-info-old) c.args.added.now c.requires.takes.some c.requires.side c.requires.takes.fits
-    c.insert_splitting.new.self (c.in_ok-insert_splitting.ensures.tried.done c.if-not-branch.false) c.info-grown.result c.info-grown.ensures.value)
+    (small _ _ _ _ _ _ _ (found t
+    (goal.at.Children::insert_splitting-retotal-requires-clause-new t c).After-info-old)
+    c.args.added.now c.requires.takes.some c.requires.side c.requires.takes.fits
+    c.insert_splitting.new.self (c.in_ok-insert_splitting.ensures.tried.done c.if-not-branch.false)
+    c.info-grown.result c.info-grown.ensures.value)
 
 pub Children::insert_splitting-retotal-requires-clause-fits :
     goal.Children::insert_splitting-retotal-requires-clause-fits
 Children::insert_splitting-retotal-requires-clause-fits t c =
-    still_narrow _ _ _ _ _ _ _ (found t (goal.at.Children::insert_splitting-retotal-requires-clause-fits t c).After-info-old) c.args.added.now c.requires.takes.some c.requires.side c.requires.takes.fits
+    still_narrow _ _ _ _ _ _ _
+    (found t (goal.at.Children::insert_splitting-retotal-requires-clause-fits t c).After-info-old)
+    c.args.added.now c.requires.takes.some c.requires.side c.requires.takes.fits
     c.insert_splitting.new.self (c.in_ok-insert_splitting.ensures.tried.done c.if-not-branch.false)
-    c.self.inside.totals refl (rw c.len.ensures.value at c.has_room_for.ensures.room c.if-not-has_room_for.false) c.info-old.result c.info-grown.result c.info-old.ensures.value c.info-grown.ensures.value
+    c.self.inside.totals refl
+    (rw c.len.ensures.value at c.has_room_for.ensures.room c.if-not-has_room_for.false)
+    c.info-old.result c.info-grown.result c.info-old.ensures.value c.info-grown.ensures.value
 
 pub Children::insert_splitting-invariant_of-self-2 :
     goal.Children::insert_splitting-invariant_of-self-2
 Children::insert_splitting-invariant_of-self-2 t c =
-    fields_after _ _ _ _ _ _ _ (found t (goal.at.Children::insert_splitting-invariant_of-self-2 t c).After-info-old) c.args.added.now c.requires.takes.some c.requires.side c.requires.takes.fits
+    fields_after _ _ _ _ _ _ _
+    (found t (goal.at.Children::insert_splitting-invariant_of-self-2 t c).After-info-old)
+    c.args.added.now c.requires.takes.some c.requires.side c.requires.takes.fits
     c.insert_splitting.new.self (c.in_ok-insert_splitting.ensures.tried.done c.if-not-branch.false)
-    _ refl refl refl c.self.inside.totals c.retotal.new.self c.info-old.result c.info-grown.result refl c.info-old.ensures.value c.info-grown.ensures.value c.retotal.ensures.len c.retotal.ensures.before c.retotal.ensures.after refl
+    _ refl refl refl c.self.inside.totals c.retotal.new.self c.info-old.result c.info-grown.result
+    refl c.info-old.ensures.value c.info-grown.ensures.value c.retotal.ensures.len
+    c.retotal.ensures.before c.retotal.ensures.after refl
 
 pub Children::insert_splitting-returns-clause-made :
     goal.Children::insert_splitting-returns-clause-made
 Children::insert_splitting-returns-clause-made t c =
-    omega (arith, c.insert_splitting.ensures.made, (found t (goal.at.Children::insert_splitting-returns-clause-made t c).After-info-old).taken.own.at_height)
+    omega (
+      arith,
+      c.insert_splitting.ensures.made,
+      (found t (goal.at.Children::insert_splitting-returns-clause-made t
+          c).After-info-old).taken.own.at_height,
+    )
 
 pub Children::insert_splitting-returns-clause-tried :
     goal.Children::insert_splitting-returns-clause-tried
 Children::insert_splitting-returns-clause-tried t c = record {
   done = λ yes.
-      all_grown _ _ _ _ _ _ _ (found t (goal.at.Children::insert_splitting-returns-clause-tried t c).After-info-old) c.args.added.now c.requires.takes.some c.requires.side c.requires.takes.fits
-      c.insert_splitting.new.self (c.in_ok-insert_splitting.ensures.tried.done c.if-not-branch.false)
-      (record { height = _; breaks = _; last = c.self.inside.last; totals = _; nodes = _ }) refl refl refl c.self.inside.totals c.retotal.new.self c.info-old.result c.info-grown.result refl c.info-old.ensures.value c.info-grown.ensures.value c.retotal.ensures.len c.retotal.ensures.before c.retotal.ensures.after refl;
+      all_grown _ _ _ _ _ _ _ (found t
+      (goal.at.Children::insert_splitting-returns-clause-tried t c).After-info-old) c.args.added.now
+      c.requires.takes.some c.requires.side c.requires.takes.fits
+      c.insert_splitting.new.self
+      (c.in_ok-insert_splitting.ensures.tried.done c.if-not-branch.false)
+      (record { height = _; breaks = _; last = c.self.inside.last; totals = _; nodes = _ }) refl
+      refl refl c.self.inside.totals c.retotal.new.self c.info-old.result c.info-grown.result refl
+      c.info-old.ensures.value c.info-grown.ensures.value c.retotal.ensures.len
+      c.retotal.ensures.before c.retotal.ensures.after refl;
   kept = λ no. cc;
   err = tt;
 }
@@ -88,20 +133,30 @@ ended t c =
           let did = w.insert_splitting in
           let ts = w.in-Some.children.now in
           let us = did.new.self in
-          let i = inner_seen c.self.inside c.args.self.now w.in-Inner.children ts c.self.invariant w.in-Inner.is c.self.view_is w.in-Some.ensures.value in
+          let i = inner_seen c.self.inside c.args.self.now w.in-Inner.children ts c.self.invariant
+          w.in-Inner.is c.self.view_is w.in-Some.ensures.value in
           rw w.self-inside-is (record {
-            form = by_outcome did.result ts us did.ensures.tried (grown_children c.args.self.now ts us c.args.at c.args.added.now i) (still_children c.args.self.now ts us i);
+            form = by_outcome did.result ts us did.ensures.tried
+                (grown_children c.args.self.now ts us c.args.at c.args.added.now i)
+                (still_children c.args.self.now ts us i);
           })
       | Node::insert_splitting-in-Inner+in-None w ↦
-          rw w.self-inside-is (record { form = (inner_of c.self.inside c.args.self.now w.in-Inner.children c.self.invariant w.in-Inner.is c.self.view_is).children })
+          rw w.self-inside-is (record {
+            form =
+                (inner_of c.self.inside c.args.self.now w.in-Inner.children c.self.invariant
+                w.in-Inner.is c.self.view_is).children;
+          })
       | Node::insert_splitting-in_default w ↦ rw w.self-inside-is c.self.invariant
     ]
 
 pub Node::insert_splitting-invariant_of-self : goal.Node::insert_splitting-invariant_of-self
-Node::insert_splitting-invariant_of-self t c = ended t (goal.at.Node::insert_splitting-invariant_of-self t c).Joined-self
+Node::insert_splitting-invariant_of-self t c =
+    ended t (goal.at.Node::insert_splitting-invariant_of-self t c).Joined-self
 
 pub Node::insert_splitting-returns-clause-tree : goal.Node::insert_splitting-returns-clause-tree
-Node::insert_splitting-returns-clause-tree t c = node_tree _ _ (ended t (goal.at.Node::insert_splitting-returns-clause-tree t c).Joined-self) refl
+Node::insert_splitting-returns-clause-tree t c =
+    node_tree _ _ (ended t (goal.at.Node::insert_splitting-returns-clause-tree t c).Joined-self)
+    refl
 
 pub Node::insert_splitting-returns-clause-tried : goal.Node::insert_splitting-returns-clause-tried
 Node::insert_splitting-returns-clause-tried t c =
@@ -110,18 +165,31 @@ Node::insert_splitting-returns-clause-tried t c =
           let did = w.insert_splitting in
           let ts = w.in-Some.children.now in
           let us = did.new.self in
-          let i = inner_seen c.self.inside c.args.self.now w.in-Inner.children ts c.self.invariant w.in-Inner.is c.self.view_is w.in-Some.ensures.value in
-          rw (w.result-is, w.self-inside-is) (tried_in did.result tree_over ts us c.args.self.now (tree_over us) i.is refl (grown_node c.args.self.now ts us c.args.at c.args.added.now i) did.ensures.tried)
-      | Node::insert_splitting-in-Inner+in-None w ↦ rw (w.result-is, w.self-inside-is) (not_tried c.args.self.now _ (sym (inner_of c.self.inside c.args.self.now w.in-Inner.children c.self.invariant w.in-Inner.is c.self.view_is).is))
-      | Node::insert_splitting-in_default w ↦ rw (w.result-is, w.self-inside-is) (not_tried c.args.self.now _ c.self.view_is)
+          let i = inner_seen c.self.inside c.args.self.now w.in-Inner.children ts c.self.invariant
+          w.in-Inner.is c.self.view_is w.in-Some.ensures.value in
+          rw (w.result-is, w.self-inside-is)
+          (tried_in did.result tree_over ts us c.args.self.now (tree_over us) i.is refl
+          (grown_node c.args.self.now ts us c.args.at c.args.added.now i) did.ensures.tried)
+      | Node::insert_splitting-in-Inner+in-None w ↦
+          rw (w.result-is, w.self-inside-is)
+          (not_tried c.args.self.now _
+          (sym (inner_of c.self.inside c.args.self.now w.in-Inner.children c.self.invariant
+          w.in-Inner.is c.self.view_is).is))
+      | Node::insert_splitting-in_default w ↦
+          rw (w.result-is, w.self-inside-is) (not_tried c.args.self.now _ c.self.view_is)
     ]
 
-pub Children::insert_splitting-returns-in_err-insert_splitting-clause-searched : goal.Children::insert_splitting-returns-in_err-insert_splitting-clause-searched
+pub Children::insert_splitting-returns-in_err-insert_splitting-clause-searched :
+    goal.Children::insert_splitting-returns-in_err-insert_splitting-clause-searched
 Children::insert_splitting-returns-in_err-insert_splitting-clause-searched t c =
-    let h = (found t (goal.at.Children::insert_splitting-returns-in_err-insert_splitting-clause-searched t c).After-info-old).taken.own.at_height in
+    let w =
+    goal.at.Children::insert_splitting-returns-in_err-insert_splitting-clause-searched t c in
+    let h = (found t w.After-info-old).taken.own.at_height in
     record { rise = omega (arith, h); nodes = omega (arith, h); compares = omega (arith, h) }
 
-pub Children::insert_splitting-returns-clause-searched : goal.Children::insert_splitting-returns-clause-searched
+pub Children::insert_splitting-returns-clause-searched :
+    goal.Children::insert_splitting-returns-clause-searched
 Children::insert_splitting-returns-clause-searched t c =
-    let h = (found t (goal.at.Children::insert_splitting-returns-clause-searched t c).After-info-old).taken.own.at_height in
+    let h = (found t (goal.at.Children::insert_splitting-returns-clause-searched t
+    c).After-info-old).taken.own.at_height in
     record { rise = omega (arith, h); nodes = omega (arith, h); compares = omega (arith, h) }

@@ -6,6 +6,9 @@ use Rattle.rope_tree.proofs.search.append_wide.Given as goal
 abbrev pub invariant-loop-other : goal.invariant-loop-other
 invariant-loop-other l = record {
   len : length l.totals.items ≡ length l.initial.totals.items + l.other-index;
-  before : (j : ℕ) (d : TextInfo) → j < length l.initial.totals.items → get_or l.totals.items j d ≡ get_or l.initial.totals.items j d;
-  behind : (j : ℕ) (d : TextInfo) → j < l.other-index → info_sum (get_or l.totals.items (length l.initial.totals.items + j) d) l.old ≡ info_sum (get_or l.others j d) l.new;
+  before : (j : ℕ) (d : TextInfo) → j < length l.initial.totals.items
+      → get_or l.totals.items j d ≡ get_or l.initial.totals.items j d;
+  following : (j : ℕ) (d : TextInfo) → j < l.other-index
+      → info_sum (get_or l.totals.items (length l.initial.totals.items + j) d) l.old
+      ≡ info_sum (get_or l.others j d) l.new;
 }

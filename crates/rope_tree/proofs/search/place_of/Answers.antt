@@ -10,9 +10,13 @@ none : TextInfo
 none = record { chars = 0; utf16_surrogates = 0; break_count = 0; bytes = 0 }
 
 pub count-requires : goal.count-requires
-count-requires c = subst IsSmall (sym (c.get.ensures c.get.result)) (c.requires.small _ c.get.result (omega (arith, c.if-base-half.true, c.len.ensures)))
+count-requires c =
+    subst IsSmall (sym (c.get.ensures c.get.result))
+    (c.requires.small _ c.get.result (omega (arith, c.if-base-half.true, c.len.ensures)))
 
-told : (c : After-from) → c.count.result ≡ count_of c.args.unit (get_or c.args.totals.now (c.loop-room.base + c.loop-room.room / 2 - 1) none)
+told : (c : After-from) → c.count.result
+    ≡ count_of c.args.unit (get_or c.args.totals.now (c.loop-room.base + c.loop-room.room / 2 - 1)
+    none)
 told c = c.count.ensures ∙ ap (count_of c.args.unit) (c.get.ensures none)
 
 pub loop-room-preserved-then-base-half : goal.loop-room-preserved-then-base-half
@@ -20,8 +24,12 @@ loop-room-preserved-then-base-half c =
     elim (leb_tells c.count.result c.args.at) [
       | inl y ↦
           let moved : c.from.result ≡ 1 = rw y.0 at c.from.ensures in
-          passed _ _ _ _ _ _ _ _ _ c.loop-room.invariant c.loop-room-test.true (rw c.len.ensures at c.if-base-half.true) _ refl refl refl (rw moved (omega arith)) (rw (told c) at y.1)
+          passed _ _ _ _ _ _ _ _ _ c.loop-room.invariant c.loop-room-test.true
+          (rw c.len.ensures at c.if-base-half.true) _ refl refl refl (rw moved (omega arith))
+          (rw (told c) at y.1)
       | inr n ↦
           let moved : c.from.result ≡ 0 = rw n.0 at c.from.ensures in
-          stopped _ _ _ _ _ _ _ _ _ c.loop-room.invariant c.loop-room-test.true (rw c.len.ensures at c.if-base-half.true) _ refl refl refl (rw moved (omega arith)) (rw (told c) at n.1)
+          stopped _ _ _ _ _ _ _ _ _ c.loop-room.invariant c.loop-room-test.true
+          (rw c.len.ensures at c.if-base-half.true) _ refl refl refl (rw moved (omega arith))
+          (rw (told c) at n.1)
     ]

@@ -7,6 +7,7 @@ abbrev pub invariant-loop-j : goal.invariant-loop-j
 invariant-loop-j l = record {
   len : length l.totals ≡ length l.initial.totals;
   before : (k : ℕ) (d : TextInfo) → k < l.from → get_or l.totals k d ≡ get_or l.initial.totals k d;
-  done : (k : ℕ) (d : TextInfo) → l.from ≤ k → k < l.j → info_sum (get_or l.totals k d) l.old ≡ info_sum (get_or l.initial.totals k d) l.new;
+  done : (k : ℕ) (d : TextInfo) → l.from ≤ k → k < l.j
+      → info_sum (get_or l.totals k d) l.old ≡ info_sum (get_or l.initial.totals k d) l.new;
   left : (k : ℕ) (d : TextInfo) → l.j ≤ k → get_or l.totals k d ≡ get_or l.initial.totals k d;
 }

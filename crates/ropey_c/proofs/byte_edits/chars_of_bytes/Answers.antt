@@ -8,5 +8,11 @@ returns-clause-ok c =
     let fine = c.in_ok-try_byte_slice.ensures.ok.0 in
     let first = c.byte_to_char.ensures.value in
     let last = c.byte_to_char-2.ensures.value in
-    let ordered = chars_ordered c.args.rope.now.text c.args.start c.args.end fine in
-    (fine, first, last, subst (λ n. n ≤ c.byte_to_char-2.result) (sym first) (subst (λ n. byte_to_char c.args.rope.now.text c.args.start ≤ n) (sym last) ordered), c.byte_to_char-2.ensures.within)
+    let ordered = chars_ordered c.args.rope.now.text c.args.start c.args.end fine in (
+      fine,
+      first,
+      last,
+      subst (λ n. n ≤ c.byte_to_char-2.result) (sym first)
+          (subst (λ n. byte_to_char c.args.rope.now.text c.args.start ≤ n) (sym last) ordered),
+      c.byte_to_char-2.ensures.within,
+    )

@@ -5,7 +5,8 @@ use Rattle.ropey_c.proofs.change_edits.list.Given as goal
 
 abbrev pub invariant-loop-at : goal.invariant-loop-at
 invariant-loop-at l = record {
-  listing : IsListing l.changes.edits l.left.edits l.left.end l.left.new_end l.fn.edits l.edits l.at;
+  listing : IsListing l.changes.edits l.left.edits l.left.end l.left.new_end l.fn.edits l.edits
+      l.at;
   all : l.count ≡ length l.changes.edits;
 }
 

@@ -1,4 +1,5 @@
 use Rattle.ropey_c.proofs.conversions.ropey_line_to_char.Goals as goal
 
 pub returns-clause-answer : goal.returns-clause-answer
-returns-clause-answer c = rw c.in-Some.ensures.found (rw c.try_line_to_char.ensures at c.answer.ensures)
+returns-clause-answer c =
+    rw c.in-Some.ensures.found (rw c.try_line_to_char.ensures at c.answer.ensures)

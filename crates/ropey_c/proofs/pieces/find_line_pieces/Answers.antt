@@ -14,6 +14,7 @@ returns c =
         c.line_to_byte.ensures,
         c.line_to_byte-2.ensures,
         subst (λ chunks. Fills chunks c.args.pieces.now c.fill.new.pieces c.fill.result)
-            (ap ahead c.chunks.ensures ∙ ap (λ (s : Content). s.chunks) c.line.ensures) (chunks_filled _ _ _ _ c.fill.ensures),
+            (ap ahead c.chunks.ensures ∙ ap (λ (s : Content). s.chunks) c.line.ensures)
+            (chunks_filled _ _ _ _ c.fill.ensures),
       ),
     )

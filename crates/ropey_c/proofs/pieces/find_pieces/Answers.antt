@@ -14,6 +14,7 @@ returns c =
       λ _. (
         refl,
         found.ensures.before.bytes_are,
-        subst (λ chunks. Fills chunks c.args.pieces.now c.fill.new.pieces c.fill.result) (ap ahead found.ensures.cursor_is) (chunks_filled _ _ _ _ c.fill.ensures),
+        subst (λ chunks. Fills chunks c.args.pieces.now c.fill.new.pieces c.fill.result)
+            (ap ahead found.ensures.cursor_is) (chunks_filled _ _ _ _ c.fill.ensures),
       ),
     )

@@ -14,6 +14,8 @@ returns c =
       λ _. (
         refl,
         found.ensures.before.bytes_are,
-        subst (λ chunks. Fills chunks c.args.pieces.now c.fill.new.pieces c.fill.result) (ap ahead c.reversed.ensures ∙ ap (λ x. ahead (turned x)) found.ensures.cursor_is) (chunks_filled _ _ _ _ c.fill.ensures),
+        subst (λ chunks. Fills chunks c.args.pieces.now c.fill.new.pieces c.fill.result)
+            (ap ahead c.reversed.ensures ∙ ap (λ x. ahead (turned x)) found.ensures.cursor_is)
+            (chunks_filled _ _ _ _ c.fill.ensures),
       ),
     )

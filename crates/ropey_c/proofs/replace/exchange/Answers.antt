@@ -10,8 +10,10 @@ pub returns-then-not-has_room-clause-empty : goal.returns-then-not-has_room-clau
 unfolding chars
 returns-then-not-has_room-clause-empty c = λ _ none fine.
     let text = c.args.rope.now.text in
-    let Long : List ℕ → Type 0 = λ bytes. replaced_size_error text c.args.start c.args.end (chars bytes) ≡ Some TooLong in
-    let long : Long [] = subst Long (nil_from_length c.args.text.now none) c.if-not-has_room.ensures in
+    let Long : List ℕ → Type 0 =
+    λ bytes. replaced_size_error text c.args.start c.args.end (chars bytes) ≡ Some TooLong in
+    let long : Long [] =
+    subst Long (nil_from_length c.args.text.now none) c.if-not-has_room.ensures in
     absurd (cc)
 
 pub returns-then-is_empty-clause-ok : goal.returns-then-is_empty-clause-ok
@@ -22,5 +24,6 @@ returns-then-is_empty-clause-ok c = λ _.
     let same : c.args.start ≡ c.args.end = search rules in
     let Idle : ℕ → Type 0 = λ end. text ≡ replaced text c.args.start end [] in
     let idle : Idle c.args.end = subst Idle same (sym (nothing_replaced text c.args.start)) in
-    let Done : List ℕ → Type 0 = λ bytes. text ≡ replaced text c.args.start c.args.end (chars bytes) in
+    let Done : List ℕ → Type 0 = λ bytes. text
+    ≡ replaced text c.args.start c.args.end (chars bytes) in
     subst Done (sym none) idle

@@ -10,6 +10,7 @@ returns c =
       λ past. absurd (omega (arith, past, within, c.len_lines.ensures)),
       λ _. (
         refl,
-        subst (λ lines. Shows lines c.args.lines.now c.fill_slices.new.slices c.fill_slices.result) (ap ahead c.lines_at.ensures) (lines_shown _ _ _ _ c.fill_slices.ensures),
+        subst (λ lines. Shows lines c.args.lines.now c.fill_slices.new.slices c.fill_slices.result)
+            (ap ahead c.lines_at.ensures) (lines_shown _ _ _ _ c.fill_slices.ensures),
       ),
     )

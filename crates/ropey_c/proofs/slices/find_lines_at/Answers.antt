@@ -13,6 +13,7 @@ returns c =
         refl,
         c.rest_from.ensures.before,
         subst (λ lines. Shows lines c.args.lines.now c.fill_slices.new.slices c.fill_slices.result)
-            (ap ahead c.lines.ensures ∙ ap lines_of c.rest_from.ensures.rest) (lines_shown _ _ _ _ c.fill_slices.ensures),
+            (ap ahead c.lines.ensures ∙ ap lines_of c.rest_from.ensures.rest)
+            (lines_shown _ _ _ _ c.fill_slices.ensures),
       ),
     )

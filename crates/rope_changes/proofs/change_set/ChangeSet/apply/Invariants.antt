@@ -1,4 +1,5 @@
--- The text so far is changed up to `at`, and what follows is changed by the replacements that are left.
+-- The text so far is changed up to `at`, and what follows is changed by the replacements that are
+-- left.
 use Rattle.std.proofs.Common.{◌≡◌, ◌+◌, ◌++◌, take, drop, length}
 use Rattle.ropey.specs.View.{IsRope}
 use Rattle.rope_changes.specs.Ops.{run, len_before, len_after}

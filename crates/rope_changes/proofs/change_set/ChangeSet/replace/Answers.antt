@@ -18,7 +18,9 @@ add-requires-clause-fits c =
     last_fits c.self.inside.edits c.self.inside.rest _ _ (omega arith) (omega arith)
 
 -- the edits that are left at the end, and both lengths
-ends_at : (c : In_ok-add) → c.args.start - (c.self.inside.len_before - c.self.inside.rest) + (c.args.end - c.args.start) + (c.self.inside.len_before - c.args.end) ≡ c.self.inside.rest
+ends_at : (c : In_ok-add)
+    → c.args.start - (c.self.inside.len_before - c.self.inside.rest) + (c.args.end - c.args.start)
+    + (c.self.inside.len_before - c.args.end) ≡ c.self.inside.rest
 ends_at c = omega (arith, rest_before c.self.inside.edits c.self.inside.rest)
 
 made_before : (c : In_ok-add) → c.self.inside.len_before
@@ -29,11 +31,13 @@ made_before c =
     omega (
       arith,
       ap (λ es. len_before (ops_of es rest)) c.in_ok-add.ensures.ok,
-      appended_before edits (c.args.start - (c.self.inside.len_before - c.self.inside.rest)) (chars c.args.text.now) (c.args.end - c.args.start) rest,
+      appended_before edits (c.args.start - (c.self.inside.len_before - c.self.inside.rest))
+          (chars c.args.text.now) (c.args.end - c.args.start) rest,
       ap (λ r. len_before (ops_of edits r)) (ends_at c),
     )
 
-made_after : (c : In_ok-add) → c.self.inside.len_after - (c.args.end - c.args.start) + c.count_chars-inserted.result
+made_after : (c : In_ok-add)
+    → c.self.inside.len_after - (c.args.end - c.args.start) + c.count_chars-inserted.result
     ≡ len_after (ops_of c.add.new.self (c.self.inside.len_before - c.args.end))
 made_after c =
     let edits = c.self.inside.edits in
@@ -41,7 +45,8 @@ made_after c =
     omega (
       arith,
       ap (λ es. len_after (ops_of es rest)) c.in_ok-add.ensures.ok,
-      appended_after edits (c.args.start - (c.self.inside.len_before - c.self.inside.rest)) (chars c.args.text.now) (c.args.end - c.args.start) rest,
+      appended_after edits (c.args.start - (c.self.inside.len_before - c.self.inside.rest))
+          (chars c.args.text.now) (c.args.end - c.args.start) rest,
       ap (λ r. len_after (ops_of edits r)) (ends_at c),
       rest_after edits c.self.inside.rest,
       rest_before edits c.self.inside.rest,
@@ -67,8 +72,16 @@ invariant_of-self-2 c =
 
 pub returns-clause-len_before : goal.returns-clause-len_before
 returns-clause-len_before c =
-    omega (arith, made_before (goal.at.returns-clause-len_before c).In_ok-add, ap (λ (x : Change). before x) c.self.view_is)
+    omega (
+      arith,
+      made_before (goal.at.returns-clause-len_before c).In_ok-add,
+      ap (λ (x : Change). before x) c.self.view_is,
+    )
 
 pub returns-clause-len_after : goal.returns-clause-len_after
 returns-clause-len_after c =
-    omega (arith, made_after (goal.at.returns-clause-len_after c).In_ok-add, ap (λ (x : Change). after x) c.self.view_is)
+    omega (
+      arith,
+      made_after (goal.at.returns-clause-len_after c).In_ok-add,
+      ap (λ (x : Change). after x) c.self.view_is,
+    )

@@ -13,10 +13,14 @@ some_left : (n : ℕ) → (n == 0) ≡ false → 1 ≤ n
 some_left n e = grind (arith, nat_tests)
 
 pub returns-in-Before-clause-stays : goal.returns-in-Before-clause-stays
-returns-in-Before-clause-stays c = λ yes ops. rw (c.in-Before.is, none_left c.args.left yes) (moved_zero ops)
+returns-in-Before-clause-stays c =
+    λ yes ops. rw (c.in-Before.is, none_left c.args.left yes) (moved_zero ops)
 
 pub returns-in-Before-clause-passes : goal.returns-in-Before-clause-passes
-returns-in-Before-clause-passes c = λ no text ops. rw c.in-Before.is (inserted_passed Before text c.args.left ops (some_left c.args.left no))
+returns-in-Before-clause-passes c =
+    λ no text ops. rw c.in-Before.is
+    (inserted_passed Before text c.args.left ops (some_left c.args.left no))
 
 pub returns-in-After-clause-passes : goal.returns-in-After-clause-passes
-returns-in-After-clause-passes c = λ _ text ops. rw c.in-After.is (inserted_passed_after text c.args.left ops)
+returns-in-After-clause-passes c =
+    λ _ text ops. rw c.in-After.is (inserted_passed_after text c.args.left ops)

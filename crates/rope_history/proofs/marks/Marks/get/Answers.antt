@@ -30,6 +30,12 @@ returns-clause-none c =
     let slice = c.as_slice.ensures in
     let Other : Mark → Type 0 = λ m. m.id ≢ c.args.id in
     let none = c.index_of-index.ensures.none
-    (omega (arith, c.if-index-len.false, c.len.ensures, slice.len, c.index_of-index.ensures.within)) in
+    (omega (
+      arith,
+      c.if-index-len.false,
+      c.len.ensures,
+      slice.len,
+      c.index_of-index.ensures.within,
+    )) in
     subst (λ (s : Marking). All Other s.marks) c.self.view_is
     (all_in Other marks order (subst (All Other) slice.value none) c.self.invariant.within)

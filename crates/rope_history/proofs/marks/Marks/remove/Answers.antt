@@ -123,7 +123,8 @@ returns-clause-found c =
     let becomes : new ≡ map (closed index) (remove order position) =
     c.close_gap.ensures ∙ ap (map (closed index)) (lent.value ∙ c.remove.ensures.items) in
     let kept = c.self.invariant in
-    let moves = removed_permuted marks order position index m kept.is.distinct kept.within at p_at is
+    let moves =
+    removed_permuted marks order position index m kept.is.distinct kept.within at p_at is
     c.remove-2.ensures.value in
     let slots_left = take c.remove.new.self.len (new ++ drop (length new) left) in
     let marks_left = marks_in c.remove-2.new.self.items slots_left in

@@ -5,7 +5,12 @@ use Rattle.rope_script.proofs.Steps.{gives_next}
 use Rattle.rope_script.proofs.walker.BytesWalker.next_item.Goals as goal
 
 pub returns-in-Some-clause-item : goal.returns-in-Some-clause-item
-returns-in-Some-clause-item c = λ moves items g. gives_next IsByteItem (λ x. x) c.args.self.now c.next.new.self (Some c.in-Some.byte) (Some (Byte c.in-Some.byte)) c.in-Some.ensures.goes.moves refl moves items g
+returns-in-Some-clause-item c =
+    λ moves items g. gives_next IsByteItem (λ x. x) c.args.self.now c.next.new.self
+    (Some c.in-Some.byte) (Some (Byte c.in-Some.byte)) c.in-Some.ensures.goes.moves refl moves items
+    g
 
 pub returns-in-None-clause-item : goal.returns-in-None-clause-item
-returns-in-None-clause-item c = λ moves items g. gives_next IsByteItem (λ x. x) c.args.self.now c.next.new.self None None c.in-None.ensures.goes.moves tt moves items g
+returns-in-None-clause-item c =
+    λ moves items g. gives_next IsByteItem (λ x. x) c.args.self.now c.next.new.self None None
+    c.in-None.ensures.goes.moves tt moves items g

@@ -5,7 +5,11 @@ use Rattle.rope_script.proofs.Steps.{gives_prev}
 use Rattle.rope_script.proofs.walker.CharsWalker.prev_item.Goals as goal
 
 pub returns-in-Some-clause-item : goal.returns-in-Some-clause-item
-returns-in-Some-clause-item c = λ moves items g. gives_prev IsCharItem (λ x. x) c.args.self.now c.prev.new.self (Some c.in-Some.c) (Some (Char c.in-Some.c)) c.in-Some.ensures refl moves items g
+returns-in-Some-clause-item c =
+    λ moves items g. gives_prev IsCharItem (λ x. x) c.args.self.now c.prev.new.self
+    (Some c.in-Some.c) (Some (Char c.in-Some.c)) c.in-Some.ensures refl moves items g
 
 pub returns-in-None-clause-item : goal.returns-in-None-clause-item
-returns-in-None-clause-item c = λ moves items g. gives_prev IsCharItem (λ x. x) c.args.self.now c.prev.new.self None None c.in-None.ensures tt moves items g
+returns-in-None-clause-item c =
+    λ moves items g. gives_prev IsCharItem (λ x. x) c.args.self.now c.prev.new.self None None
+    c.in-None.ensures tt moves items g

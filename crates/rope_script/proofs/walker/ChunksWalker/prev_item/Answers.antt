@@ -6,7 +6,12 @@ use Rattle.rope_script.proofs.Steps.{gives_prev}
 use Rattle.rope_script.proofs.walker.ChunksWalker.prev_item.Goals as goal
 
 pub returns-in_ok-copy_of-in-Some-clause-item : goal.returns-in_ok-copy_of-in-Some-clause-item
-returns-in_ok-copy_of-in-Some-clause-item c = λ moves items g. gives_prev IsTextItem (λ x. chars x.now) c.args.self.now c.prev.new.self (Some c.in-Some.chunk) (Some (Text c.in_ok-copy_of-in-Some.field-0)) c.in-Some.ensures c.in_ok-copy_of-in-Some.ensures.text moves items g
+returns-in_ok-copy_of-in-Some-clause-item c =
+    λ moves items g. gives_prev IsTextItem (λ x. chars x.now) c.args.self.now c.prev.new.self
+    (Some c.in-Some.chunk) (Some (Text c.in_ok-copy_of-in-Some.field-0)) c.in-Some.ensures
+    c.in_ok-copy_of-in-Some.ensures.text moves items g
 
 pub returns-in-None-clause-item : goal.returns-in-None-clause-item
-returns-in-None-clause-item c = λ moves items g. gives_prev IsTextItem (λ (x : List ℕ). x) c.args.self.now c.prev.new.self None None c.in-None.ensures tt moves items g
+returns-in-None-clause-item c =
+    λ moves items g. gives_prev IsTextItem (λ (x : List ℕ). x) c.args.self.now c.prev.new.self None
+    None c.in-None.ensures tt moves items g

@@ -8,23 +8,39 @@ use Rattle.rope_slice.proofs.chars.Chars.left.Goals as goal
 pub char_before-c-requires-2-clause-some : goal.char_before-c-requires-2-clause-some
 char_before-c-requires-2-clause-some c =
     let s = c.self.inside in
-    step.prev_some c.step_chunk.new.span s.span c.in_ok-chunk.chunk.now s.chunk.now c.in_ok-chunk.ensures.moved c.in_ok-chunk.ensures.chunk c.self.invariant.chunk_is s.at s.passed s.total c.self.invariant c.if-self-eq0.false
+    step.prev_some c.step_chunk.new.span s.span c.in_ok-chunk.chunk.now s.chunk.now
+    c.in_ok-chunk.ensures.moved c.in_ok-chunk.ensures.chunk c.self.invariant.chunk_is s.at s.passed
+    s.total c.self.invariant c.if-self-eq0.false
 
 pub invariant_of-self-2 : goal.invariant_of-self-2
 invariant_of-self-2 c =
     let s = c.self.inside in
-    step.cursor_prev c.step_chunk.new.span s.span c.in_ok-chunk.chunk.now s.chunk.now c.in_ok-chunk.ensures.moved c.in_ok-chunk.ensures.chunk c.self.invariant.chunk_is s.at c.char_before-c-2.result.1 c.char_before-c-2.result.0 (omega (arith, c.if-at-gt0.false)) c.char_before-c-2.ensures s.passed s.total c.self.invariant
+    step.cursor_prev c.step_chunk.new.span s.span c.in_ok-chunk.chunk.now s.chunk.now
+    c.in_ok-chunk.ensures.moved c.in_ok-chunk.ensures.chunk c.self.invariant.chunk_is s.at
+    c.char_before-c-2.result.1 c.char_before-c-2.result.0 (omega (arith, c.if-at-gt0.false))
+    c.char_before-c-2.ensures s.passed s.total c.self.invariant
 
 pub returns : goal.returns
 returns c =
     let s = c.self.inside in
     let first : s.at ≡ 0 = omega (arith, c.if-at-gt0.false) in
-    let right = step.last_right c.step_chunk.new.span s.span c.in_ok-chunk.chunk.now s.chunk.now c.in_ok-chunk.ensures.moved c.in_ok-chunk.ensures.chunk c.self.invariant.chunk_is s.at c.char_before-c-2.result.1 c.char_before-c-2.result.0 first c.char_before-c-2.ensures in
-    let left = step.last_left c.step_chunk.new.span s.span c.in_ok-chunk.chunk.now s.chunk.now c.in_ok-chunk.ensures.moved c.in_ok-chunk.ensures.chunk c.self.invariant.chunk_is s.at c.char_before-c-2.result.1 c.char_before-c-2.result.0 first c.char_before-c-2.ensures in
+    let right =
+    step.last_right c.step_chunk.new.span s.span c.in_ok-chunk.chunk.now s.chunk.now
+    c.in_ok-chunk.ensures.moved c.in_ok-chunk.ensures.chunk c.self.invariant.chunk_is s.at
+    c.char_before-c-2.result.1 c.char_before-c-2.result.0 first c.char_before-c-2.ensures in
+    let left =
+    step.last_left c.step_chunk.new.span s.span c.in_ok-chunk.chunk.now s.chunk.now
+    c.in_ok-chunk.ensures.moved c.in_ok-chunk.ensures.chunk c.self.invariant.chunk_is s.at
+    c.char_before-c-2.result.1 c.char_before-c-2.result.0 first c.char_before-c-2.ensures in
     rw (← c.self.view_is) (left, right, refl)
 
 pub returns-in_err-chunk : goal.returns-in_err-chunk
 returns-in_err-chunk c =
     let s = c.self.inside in
     let first : s.at ≡ 0 = omega (arith, c.if-at-gt0.false) in
-    rw (c.from_residual.ensures, ← c.self.view_is) (ap (λ i. concat s.span.before ++ chars (take i s.chunk.now)) first ∙ ap (λ cs. concat s.span.before ++ cs) (step.no_front s.chunk.now) ∙ ap (λ x. concat x ++ []) c.in_err-chunk.ensures.ended, ap (λ p. at_char p s.chunk.now s.at s.is_backward) c.in_err-chunk.ensures.stays)
+    rw (c.from_residual.ensures, ← c.self.view_is) (
+      ap (λ i. concat s.span.before ++ chars (take i s.chunk.now)) first
+          ∙ ap (λ cs. concat s.span.before ++ cs) (step.no_front s.chunk.now)
+          ∙ ap (λ x. concat x ++ []) c.in_err-chunk.ensures.ended,
+      ap (λ p. at_char p s.chunk.now s.at s.is_backward) c.in_err-chunk.ensures.stays,
+    )

@@ -25,114 +25,182 @@ use Rattle.rope_slice.proofs.ExcerptLines.{line_later, line_place_within, line_c
 use Rattle.rope_slice.proofs.excerpt.Excerpt.around_line.Goals.{After-line_start_at, After-counts_to-start, Else-line-eq0}
 use Rattle.rope_slice.proofs.excerpt.Excerpt.around_line.Goals as goal
 
-start_is : (c : After-line_start_at) → c.line_start_at.result.0 ≡ info_of c.args.self.now.node.now.breaks (take (line_start c.args.self.now.node.now.breaks (text c.args.self.now.node.now) (c.args.self.now.start.break_count + c.args.line_idx)) (text c.args.self.now.node.now))
+start_is : (c : After-line_start_at) → c.line_start_at.result.0
+    ≡ info_of c.args.self.now.node.now.breaks
+    (take (line_start c.args.self.now.node.now.breaks (text c.args.self.now.node.now)
+    (c.args.self.now.start.break_count + c.args.line_idx)) (text c.args.self.now.node.now))
 start_is c =
     let breaks = breaks_of c.args.self.now in
     let t = text c.args.self.now.node.now in
-    c.line_start_at.ensures.before ∙ ap (λ l. info_of breaks (take (line_start breaks t l) t)) c.place.ensures.value
+    c.line_start_at.ensures.before
+    ∙ ap (λ l. info_of breaks (take (line_start breaks t l) t)) c.place.ensures.value
 
 sum_is : (c : Else-line-eq0) → info_sum c.line_start_at.result.0 c.of_first_line-line.result
-    ≡ info_of c.args.self.now.node.now.breaks (take (line_start c.args.self.now.node.now.breaks (text c.args.self.now.node.now) (c.place.result + 1)) (text c.args.self.now.node.now))
+    ≡ info_of c.args.self.now.node.now.breaks
+    (take (line_start c.args.self.now.node.now.breaks (text c.args.self.now.node.now)
+    (c.place.result + 1)) (text c.args.self.now.node.now))
 sum_is c =
     let rest = chars c.line_start_at.result.1.now in
     let breaks = c.line_breaks.result in
     let m = measured _ _ _ _ c.args.self.now.is_excerpt in
-    let some : 0 < break_count breaks rest = omega (arith, ap (λ x. x.break_count) c.of_first_line-line.ensures, c.if-line-eq0.false, break_count-front breaks rest 1 (omega arith)) in
-    line_in_leaf c.args.self.now.node.now c.place.result rest c.line_start_at.result.0 c.of_first_line-line.result breaks c.line_breaks.ensures (omega (arith, c.place.ensures.value))
+    let some : 0 < break_count breaks rest =
+    omega (
+      arith,
+      ap (λ x. x.break_count) c.of_first_line-line.ensures,
+      c.if-line-eq0.false,
+      break_count-front breaks rest 1 (omega arith),
+    ) in
+    line_in_leaf c.args.self.now.node.now c.place.result rest c.line_start_at.result.0
+    c.of_first_line-line.result breaks c.line_breaks.ensures (omega (arith, c.place.ensures.value))
     c.line_start_at.ensures.rest some c.line_start_at.ensures.before c.of_first_line-line.ensures
 
-small : (c : Else-line-eq0) → IsSmall (info_of c.args.self.now.node.now.breaks (take (line_start c.args.self.now.node.now.breaks (text c.args.self.now.node.now) (c.place.result + 1)) (text c.args.self.now.node.now)))
+small : (c : Else-line-eq0)
+    → IsSmall (info_of c.args.self.now.node.now.breaks
+    (take (line_start c.args.self.now.node.now.breaks (text c.args.self.now.node.now)
+    (c.place.result + 1)) (text c.args.self.now.node.now)))
 small c =
     let t = text c.args.self.now.node.now in
     let next = line_start c.args.self.now.node.now.breaks t (c.place.result + 1) in
-    small_info c.args.self.now.node.now.breaks (take next t) (omega (arith, size_le_all byte_len IsMeasure-byte_len t next, c.place.ensures.tree.fits))
+    small_info c.args.self.now.node.now.breaks (take next t)
+    (omega (arith, size_le_all byte_len IsMeasure-byte_len t next, c.place.ensures.tree.fits))
 
-next_is : (c : Else-line-eq0) (end : TextInfo) → end ≡ info_sum c.line_start_at.result.0 c.of_first_line-line.result → end ≡ info_of c.args.self.now.node.now.breaks (take (line_start c.args.self.now.node.now.breaks (text c.args.self.now.node.now) (c.args.self.now.start.break_count + (c.args.line_idx + 1))) (text c.args.self.now.node.now))
+next_is : (c : Else-line-eq0) (end : TextInfo)
+    → end ≡ info_sum c.line_start_at.result.0 c.of_first_line-line.result
+    → end ≡ info_of c.args.self.now.node.now.breaks
+    (take (line_start c.args.self.now.node.now.breaks (text c.args.self.now.node.now)
+    (c.args.self.now.start.break_count + (c.args.line_idx + 1))) (text c.args.self.now.node.now))
 next_is c end joined =
     let breaks = breaks_of c.args.self.now in
     let t = text c.args.self.now.node.now in
-    let same : c.place.result + 1 ≡ c.args.self.now.start.break_count + (c.args.line_idx + 1) = omega (arith, c.place.ensures.value) in
+    let same : c.place.result + 1 ≡ c.args.self.now.start.break_count + (c.args.line_idx + 1) =
+    omega (arith, c.place.ensures.value) in
     joined ∙ sum_is c ∙ ap (λ l. info_of breaks (take (line_start breaks t l) t)) same
 
 pub returns-then-line_idx-eq0-clause-start : goal.returns-then-line_idx-eq0-clause-start
 returns-then-line_idx-eq0-clause-start c =
     let breaks = breaks_of c.args.self.now in
     let t = text_of c.args.self.now in
-    c.new.ensures breaks ∙ sym (ap (λ n. info_of breaks (take n t)) (ap (line_start breaks t) c.if-line_idx-eq0.true ∙ line_start_first breaks t))
+    c.new.ensures breaks ∙ sym (ap (λ n. info_of breaks (take n t))
+    (ap (line_start breaks t) c.if-line_idx-eq0.true ∙ line_start_first breaks t))
 
 pub returns-then-line_idx-eq0-clause-end : goal.returns-then-line_idx-eq0-clause-end
 returns-then-line_idx-eq0-clause-end c =
     let breaks = breaks_of c.args.self.now in
     let t = text_of c.args.self.now in
-    c.before_line.ensures ∙ sym (ap (λ l. info_of breaks (take (line_start breaks t (l + 1)) t)) c.if-line_idx-eq0.true)
+    c.before_line.ensures ∙ sym (ap (λ l. info_of breaks (take (line_start breaks t (l + 1)) t))
+    c.if-line_idx-eq0.true)
 
 pub line_start_at-requires-clause-within : goal.line_start_at-requires-clause-within
-line_start_at-requires-clause-within c = let m = measured _ _ _ _ c.args.self.now.is_excerpt in omega (arith, c.place.ensures.value)
+line_start_at-requires-clause-within c = let m = measured _ _ _ _ c.args.self.now.is_excerpt in
+    omega (arith, c.place.ensures.value)
 
 pub plus-requires : goal.plus-requires
-plus-requires c = let here = (goal.at.plus-requires c).Else-line-eq0 in small_sum _ _ (rw (sum_is here) (small here))
+plus-requires c = let here = (goal.at.plus-requires c).Else-line-eq0 in
+    small_sum _ _ (rw (sum_is here) (small here))
 
 pub counts_to-start-requires-clause-later : goal.counts_to-start-requires-clause-later
-counts_to-start-requires-clause-later c = line_later _ _ _ _ _ c.args.self.now.is_excerpt c.args.line_idx (omega arith) (start_is (goal.at.counts_to-start-requires-clause-later c).After-line_start_at)
+counts_to-start-requires-clause-later c =
+    line_later _ _ _ _ _ c.args.self.now.is_excerpt c.args.line_idx (omega arith)
+    (start_is (goal.at.counts_to-start-requires-clause-later c).After-line_start_at)
 
 pub counts_to-start-requires-clause-within : goal.counts_to-start-requires-clause-within
-counts_to-start-requires-clause-within c = line_place_within _ _ _ _ _ c.args.self.now.is_excerpt c.args.line_idx (omega arith) (start_is (goal.at.counts_to-start-requires-clause-within c).After-line_start_at)
+counts_to-start-requires-clause-within c =
+    line_place_within _ _ _ _ _ c.args.self.now.is_excerpt c.args.line_idx (omega arith)
+    (start_is (goal.at.counts_to-start-requires-clause-within c).After-line_start_at)
 
 pub counts_to-start-requires-clause-counts : goal.counts_to-start-requires-clause-counts
-counts_to-start-requires-clause-counts c = line_counts _ _ _ _ _ c.args.self.now.is_excerpt c.args.line_idx (omega arith) (start_is (goal.at.counts_to-start-requires-clause-counts c).After-line_start_at)
+counts_to-start-requires-clause-counts c =
+    line_counts _ _ _ _ _ c.args.self.now.is_excerpt c.args.line_idx (omega arith)
+    (start_is (goal.at.counts_to-start-requires-clause-counts c).After-line_start_at)
 
 pub overflow_add-line_idx : goal.overflow_add-line_idx
 overflow_add-line_idx c =
     let t = text c.args.self.now.node.now in
     let m = measured _ _ _ _ c.args.self.now.is_excerpt in
-    omega (arith, c.place.ensures.value, break_count-le-length c.args.self.now.node.now.breaks t, length-le-encodes t, c.place.ensures.tree.fits)
+    omega (
+      arith,
+      c.place.ensures.value,
+      break_count-le-length c.args.self.now.node.now.breaks t,
+      length-le-encodes t,
+      c.place.ensures.tree.fits,
+    )
 
 pub counts_to-end-requires-clause-later : goal.counts_to-end-requires-clause-later
 counts_to-end-requires-clause-later c =
-    let end = next_is (goal.at.counts_to-end-requires-clause-later c).Else-line-eq0 c.plus.result c.plus.ensures.sum in
+    let end =
+    next_is (goal.at.counts_to-end-requires-clause-later c).Else-line-eq0 c.plus.result
+    c.plus.ensures.sum in
     line_later _ _ _ _ _ c.args.self.now.is_excerpt (c.args.line_idx + 1) (omega arith) end
 
 pub counts_to-end-requires-clause-within : goal.counts_to-end-requires-clause-within
 counts_to-end-requires-clause-within c =
-    let end = next_is (goal.at.counts_to-end-requires-clause-within c).Else-line-eq0 c.plus.result c.plus.ensures.sum in
+    let end =
+    next_is (goal.at.counts_to-end-requires-clause-within c).Else-line-eq0 c.plus.result
+    c.plus.ensures.sum in
     line_place_within _ _ _ _ _ c.args.self.now.is_excerpt (c.args.line_idx + 1) (omega arith) end
 
 pub counts_to-end-requires-clause-counts : goal.counts_to-end-requires-clause-counts
 counts_to-end-requires-clause-counts c =
-    let end = next_is (goal.at.counts_to-end-requires-clause-counts c).Else-line-eq0 c.plus.result c.plus.ensures.sum in
+    let end =
+    next_is (goal.at.counts_to-end-requires-clause-counts c).Else-line-eq0 c.plus.result
+    c.plus.ensures.sum in
     line_counts _ _ _ _ _ c.args.self.now.is_excerpt (c.args.line_idx + 1) (omega arith) end
 
 pub returns-then-line-eq0-clause-start : goal.returns-then-line-eq0-clause-start
 returns-then-line-eq0-clause-start c =
-    c.counts_to-start.ensures ∙ own_line _ _ _ _ _ c.args.self.now.is_excerpt c.args.line_idx (omega arith) (start_is (goal.at.returns-then-line-eq0-clause-start c).After-line_start_at)
+    c.counts_to-start.ensures
+    ∙ own_line _ _ _ _ _ c.args.self.now.is_excerpt c.args.line_idx (omega arith)
+    (start_is (goal.at.returns-then-line-eq0-clause-start c).After-line_start_at)
 
 pub returns-clause-start : goal.returns-clause-start
-returns-clause-start c = c.counts_to-start.ensures ∙ own_line _ _ _ _ _ c.args.self.now.is_excerpt c.args.line_idx (omega arith) (start_is (goal.at.returns-clause-start c).After-line_start_at)
+returns-clause-start c = c.counts_to-start.ensures
+    ∙ own_line _ _ _ _ _ c.args.self.now.is_excerpt c.args.line_idx (omega arith)
+    (start_is (goal.at.returns-clause-start c).After-line_start_at)
 
 pub returns-clause-end : goal.returns-clause-end
 returns-clause-end c =
-    let end = next_is (goal.at.returns-clause-end c).Else-line-eq0 c.plus.result c.plus.ensures.sum in
-    c.counts_to-end.ensures ∙ own_line _ _ _ _ _ c.args.self.now.is_excerpt (c.args.line_idx + 1) (omega arith) end
+    let end =
+    next_is (goal.at.returns-clause-end c).Else-line-eq0 c.plus.result c.plus.ensures.sum in
+    c.counts_to-end.ensures ∙ own_line _ _ _ _ _ c.args.self.now.is_excerpt (c.args.line_idx + 1)
+    (omega arith) end
 
 -- the rest of the leaf is inside the chunk there, or the line starts at the end
-held_in : (c : After-counts_to-start) → c.line_start_at.result.0 ≡ info_of c.args.self.now.node.now.breaks (take (line_start c.args.self.now.node.now.breaks (text c.args.self.now.node.now) (c.args.self.now.start.break_count + c.args.line_idx)) (text c.args.self.now.node.now)) → IsInChunk (text_of c.args.self.now) (chunks_of c.args.self.now) c.counts_to-start.result.chars (chars c.line_start_at.result.1.now)
+held_in : (c : After-counts_to-start) → c.line_start_at.result.0
+    ≡ info_of c.args.self.now.node.now.breaks
+    (take (line_start c.args.self.now.node.now.breaks (text c.args.self.now.node.now)
+    (c.args.self.now.start.break_count + c.args.line_idx)) (text c.args.self.now.node.now))
+    → IsInChunk (text_of c.args.self.now) (chunks_of c.args.self.now) c.counts_to-start.result.chars
+    (chars c.line_start_at.result.1.now)
 held_in c start =
     let s = c.args.self.now in
     let t = text s.node.now in
     let m = measured _ _ _ _ s.is_excerpt in
     let place : ℕ = c.line_start_at.result.0.chars in
-    let here : place ≡ line_start s.node.now.breaks t c.place.result = ap (λ x. x.chars) c.line_start_at.ensures.before ∙ length-take-le (line_start s.node.now.breaks t c.place.result) t (line_start-le-length s.node.now.breaks t c.place.result) in
+    let here : place ≡ line_start s.node.now.breaks t c.place.result =
+    ap (λ x. x.chars) c.line_start_at.ensures.before
+    ∙ length-take-le (line_start s.node.now.breaks t c.place.result) t
+    (line_start-le-length s.node.now.breaks t c.place.result) in
     let later = line_later _ _ _ _ _ s.is_excerpt c.args.line_idx (omega arith) start in
-    let size = ap (λ x. x.chars) c.counts_to-start.ensures ∙ length-take (place - s.start.chars) (text_of s) in
+    let size = ap (λ x. x.chars) c.counts_to-start.ensures
+    ∙ length-take (place - s.start.chars) (text_of s) in
     elim (cases_lt place s.end.chars) [
-      | inr past ↦ in_chunk_end (text_of s) (chunks_of s) c.counts_to-start.result.chars (chars c.line_start_at.result.1.now) (omega (arith, size, m.chars))
+      | inr past ↦ in_chunk_end (text_of s) (chunks_of s) c.counts_to-start.result.chars
+          (chars c.line_start_at.result.1.now) (omega (arith, size, m.chars))
       | inl inside ↦
-          let from : s.start.chars + c.counts_to-start.result.chars ≡ line_start s.node.now.breaks t c.place.result = omega (arith, size, m.chars, here, later) in
-          in_clip t s.node.now.leaves s.start.chars s.end.chars c.counts_to-start.result.chars (chars c.line_start_at.result.1.now) (rw from c.line_start_at.ensures.chunk) (omega (arith, m.some)) m.within
+          let from : s.start.chars + c.counts_to-start.result.chars
+          ≡ line_start s.node.now.breaks t c.place.result =
+          omega (arith, size, m.chars, here, later) in
+          in_clip t s.node.now.leaves s.start.chars s.end.chars c.counts_to-start.result.chars
+          (chars c.line_start_at.result.1.now) (rw from c.line_start_at.ensures.chunk)
+          (omega (arith, m.some)) m.within
     ]
 
 pub returns-then-line-eq0-clause-held : goal.returns-then-line-eq0-clause-held
-returns-then-line-eq0-clause-held c = held_in (goal.at.returns-then-line-eq0-clause-held c).After-counts_to-start (start_is (goal.at.returns-then-line-eq0-clause-held c).After-line_start_at)
+returns-then-line-eq0-clause-held c =
+    held_in (goal.at.returns-then-line-eq0-clause-held c).After-counts_to-start
+    (start_is (goal.at.returns-then-line-eq0-clause-held c).After-line_start_at)
 
 pub returns-clause-held : goal.returns-clause-held
-returns-clause-held c = held_in (goal.at.returns-clause-held c).After-counts_to-start (start_is (goal.at.returns-clause-held c).After-line_start_at)
+returns-clause-held c =
+    held_in (goal.at.returns-clause-held c).After-counts_to-start
+    (start_is (goal.at.returns-clause-held c).After-line_start_at)

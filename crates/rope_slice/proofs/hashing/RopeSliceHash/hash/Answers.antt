@@ -17,9 +17,14 @@ loop-piece-preserved g c =
       size = c.feed_piece-held.ensures.size;
       room = c.feed_piece-held.ensures.room;
       some = c.next_piece-piece.ensures.some;
-      feeding = feed_chunk g.H.Hasher.write c.args.state.now c.loop-piece.state c.feed_piece-held.new.state (encode_utf8_all (text_of c.args.self.now))
-          (take c.loop-piece.held c.loop-piece.block) (take c.feed_piece-held.result c.feed_piece-held.new.block) piece (piece ++ c.loop-piece.pieces) left
-          i.feeding (ap (λ x. piece ++ x) (sym c.next_piece-piece.ensures.bytes)) c.feed_piece-held.ensures.writes;
+      feeding =
+          feed_chunk g.H.Hasher.write c.args.state.now c.loop-piece.state
+          c.feed_piece-held.new.state (encode_utf8_all (text_of c.args.self.now))
+          (take c.loop-piece.held c.loop-piece.block)
+          (take c.feed_piece-held.result c.feed_piece-held.new.block) piece
+          (piece ++ c.loop-piece.pieces) left
+          i.feeding (ap (λ x. piece ++ x) (sym c.next_piece-piece.ensures.bytes))
+          c.feed_piece-held.ensures.writes;
     }
 
 pub returns : goal.returns
@@ -29,10 +34,15 @@ returns g c =
     let all = encode_utf8_all (text_of c.args.self.now) in
     let left = c.loop-piece.piece.now ++ c.loop-piece.pieces in
     let empty : length c.loop-piece.piece.now ≡ 0 = search (rules, tests) in
-    let none : left ≡ [] = nothing_ahead c.loop-piece.piece.now c.loop-piece.pieces empty (i.some empty) in
+    let none : left ≡ [] =
+    nothing_ahead c.loop-piece.piece.now c.loop-piece.pieces empty (i.some empty) in
     let d : c.if-held-gt0.state ≡ fold write c.args.state.now (blocks all) =
     elim c.if-held-gt0.branch [
-      | then-held-gt0 w ↦ w.state-is ∙ w.write.ensures ∙ fed_last write c.args.state.now c.loop-piece.state all c.loop-piece.block left c.loop-piece.held i.feeding none i.size w.if-held-gt0.true i.room
-      | else-held-gt0 w ↦ w.state-is ∙ fed_even write c.args.state.now c.loop-piece.state all c.loop-piece.block left c.loop-piece.held i.feeding none (omega (arith, w.if-held-gt0.false))
+      | then-held-gt0 w ↦ w.state-is ∙ w.write.ensures
+          ∙ fed_last write c.args.state.now c.loop-piece.state all c.loop-piece.block left
+          c.loop-piece.held i.feeding none i.size w.if-held-gt0.true i.room
+      | else-held-gt0 w ↦ w.state-is
+          ∙ fed_even write c.args.state.now c.loop-piece.state all c.loop-piece.block left
+          c.loop-piece.held i.feeding none (omega (arith, w.if-held-gt0.false))
     ] in
     fed.fed_then write _ _ _ (blocks all) (fed.u8 255) d c.write_u8.ensures

@@ -10,7 +10,8 @@ invariant-loop-piece g l = record {
   size : length l.block ≡ 256;
   room : l.held < 256;
   some : length l.piece ≡ 0 → l.pieces ≡ [];
-  feeding : IsFeeding g.H.Hasher.write l.fn.state l.state (encode_utf8_all (text_of l.self)) (take l.held l.block ++ (l.piece ++ l.pieces));
+  feeding : IsFeeding g.H.Hasher.write l.fn.state l.state (encode_utf8_all (text_of l.self))
+      (take l.held l.block ++ (l.piece ++ l.pieces));
 }
 
 abbrev pub decreases-loop-piece : goal.decreases-loop-piece

@@ -6,4 +6,5 @@ pub returns-then-len_bytes : goal.returns-then-len_bytes
 returns-then-len_bytes c =
     let s = text_of c.args.self.now in
     let t = text_of c.args.other.now in
-    same_by_bytes c.is_eq.result s t (ties_tell s t c.order.result c.is_eq.result c.order.ensures c.is_eq.ensures)
+    same_by_bytes c.is_eq.result s t
+    (ties_tell s t c.order.result c.is_eq.result c.order.ensures c.is_eq.ensures)

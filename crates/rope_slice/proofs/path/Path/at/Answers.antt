@@ -6,29 +6,43 @@ use Rattle.rope_tree.specs.Search.{IsSmall}
 use Rattle.rope_tree.specs.Tree.{breaks_of, leaf_tree}
 use Rattle.rope_tree.proofs.NodeLaws.{small_totals}
 use Rattle.rope_tree.proofs.Descents.{Descends, child_counts, child_total, descends}
-use Rattle.rope_tree.proofs.OnTheWay.{small_more}
-use Rattle.rope_slice.proofs.Ways.{path_start, path_down, path_end, path_holds, leaves_way}
+use Rattle.rope_tree.proofs.LookupDescent.{small_more}
+use Rattle.rope_slice.proofs.PathLaws.{path_start, path_down, path_end, path_holds, leaves_descent}
 use Rattle.rope_slice.proofs.path.Path.at.Goals.{After-total_before-front, After-as_str-leaf}
 use Rattle.rope_tree.proofs.Infos.{small_sum}
 use Rattle.rope_slice.proofs.path.Path.at.Goals as goal
 
 -- the index is in the child that the search returns
-down : (c : After-total_before-front) → Descends (breaks_of c.in-Inner.children.now) c.args.unit c.down.rest c.in-Inner.children.now c.place_of-at.result c.index-children-at.result c.total_before-front.result
+down : (c : After-total_before-front)
+    → Descends (breaks_of c.in-Inner.children.now) c.args.unit c.down.rest c.in-Inner.children.now
+    c.place_of-at.result c.index-children-at.result c.total_before-front.result
 down c =
-    descends c.args.unit c.down.rest c.in-Inner.children.now c.in-Inner.sums.now c.place_of-at.result c.index-children-at.result c.total_before-front.result
-    c.in-Inner.ensures.children c.in-Inner.ensures.totals_right c.place_of-at.ensures.within c.index-children-at.is
-    c.total_before-front.ensures.first c.total_before-front.ensures.later c.place_of-at.ensures.before c.place_of-at.ensures.past
+    descends c.args.unit c.down.rest c.in-Inner.children.now c.in-Inner.sums.now
+    c.place_of-at.result c.index-children-at.result c.total_before-front.result
+    c.in-Inner.ensures.children c.in-Inner.ensures.totals_right c.place_of-at.ensures.within
+    c.index-children-at.is
+    c.total_before-front.ensures.first c.total_before-front.ensures.later
+    c.place_of-at.ensures.before c.place_of-at.ensures.past
 
-small : (c : After-total_before-front) → IsSmall (info_sum c.down.before c.total_before-front.result)
+small : (c : After-total_before-front)
+    → IsSmall (info_sum c.down.before c.total_before-front.result)
 small c =
-    small_more c.args.unit c.args.idx c.args.root.now c.down.here.now c.down.rest c.down.before c.in-Inner.children.now c.place_of-at.result
-    c.index-children-at.result c.total_before-front.result c.requires.tree c.down.invariant.0.way c.in-Inner.ensures.is (down c)
+    small_more c.args.unit c.args.idx c.args.root.now c.down.here.now c.down.rest c.down.before
+    c.in-Inner.children.now c.place_of-at.result
+    c.index-children-at.result c.total_before-front.result c.requires.tree
+    c.down.invariant.0.descent c.in-Inner.ensures.is (down c)
 
 pub down-init : goal.down-init
-down-init c = (path_start c.args.unit c.args.idx c.args.root.now _ c.new-before.ensures c.requires.within, c.info-inside.ensures.value, λ some. absurd (omega (arith, some)))
+down-init c = (
+  path_start c.args.unit c.args.idx c.args.root.now _ c.new-before.ensures c.requires.within,
+  c.info-inside.ensures.value,
+  λ some. absurd (omega (arith, some)),
+)
 
 pub place_of-at-requires-clause-small : goal.place_of-at-requires-clause-small
-place_of-at-requires-clause-small c = small_totals _ c.in-Inner.sums.now c.in-Inner.children.now c.in-Inner.ensures.totals_right c.in-Inner.ensures.children.fits
+place_of-at-requires-clause-small c =
+    small_totals _ c.in-Inner.sums.now c.in-Inner.children.now c.in-Inner.ensures.totals_right
+    c.in-Inner.ensures.children.fits
 
 pub count-rest-requires : goal.count-rest-requires
 count-rest-requires c = (down (goal.at.count-rest-requires c).After-total_before-front).small
@@ -39,7 +53,8 @@ overflow_sub-rest c =
     omega (arith, d.not_past, c.count-rest.ensures)
 
 pub plus-before-requires : goal.plus-before-requires
-plus-before-requires c = small_sum _ _ (small (goal.at.plus-before-requires c).After-total_before-front)
+plus-before-requires c =
+    small_sum _ _ (small (goal.at.plus-before-requires c).After-total_before-front)
 
 pub down-smaller : goal.down-smaller
 down-smaller c =
@@ -50,37 +65,50 @@ pub minus-inside-requires : goal.minus-inside-requires
 minus-inside-requires c =
     let w = down (goal.at.minus-inside-requires c).After-total_before-front in
     let v = c.in-Inner.ensures in
-    part_of_sum _ _ _ (child_total c.in-Inner.children.now c.in-Inner.sums.now c.place_of-at.result c.index-children-at.result c.total_before-front.result c.get.result v.children v.totals_right w.within c.index-children-at.is w.front_is (c.get.ensures c.get.result))
+    part_of_sum _ _ _ (child_total c.in-Inner.children.now c.in-Inner.sums.now c.place_of-at.result
+    c.index-children-at.result c.total_before-front.result c.get.result v.children v.totals_right
+    w.within c.index-children-at.is w.front_is (c.get.ensures c.get.result))
 
 pub down-preserved : goal.down-preserved
 down-preserved c =
     let d = down (goal.at.down-preserved c).After-total_before-front in
     let v = c.in-Inner.ensures in (
       rw (c.plus-before.ensures.sum, c.count-rest.ensures)
-          (path_down c.args.unit c.args.idx c.args.root.now c.down.here.now c.down.rest c.down.before c.down.nodes.now c.in-Inner.children.now c.down.at c.place_of-at.result c.index-children-at.result c.total_before-front.result
+          (path_down c.args.unit c.args.idx c.args.root.now c.down.here.now c.down.rest
+          c.down.before c.down.nodes.now c.in-Inner.children.now c.down.at c.place_of-at.result
+          c.index-children-at.result c.total_before-front.result
           c.requires.tree c.down.invariant.0 v.is d),
-      child_counts c.in-Inner.children.now c.in-Inner.sums.now c.place_of-at.result c.index-children-at.result c.total_before-front.result c.get.result c.minus-inside.result
-          v.children v.totals_right d.within c.index-children-at.is d.front_is (c.get.ensures c.get.result) c.minus-inside.ensures.sum,
+      child_counts c.in-Inner.children.now c.in-Inner.sums.now c.place_of-at.result
+          c.index-children-at.result c.total_before-front.result c.get.result c.minus-inside.result
+          v.children v.totals_right d.within c.index-children-at.is d.front_is
+          (c.get.ensures c.get.result) c.minus-inside.ensures.sum,
       λ some. record { is = refl; children = v.children; totals_right = v.totals_right },
     )
 
-leaf_is : (c : After-as_str-leaf) → c.down.here.now ≡ leaf_tree c.down.here.now.breaks (chars c.as_str-leaf.result.now)
-leaf_is c = c.in-Leaf.ensures.is ∙ ap (leaf_tree c.down.here.now.breaks) (sym c.as_str-leaf.ensures.chars)
+leaf_is : (c : After-as_str-leaf) → c.down.here.now
+    ≡ leaf_tree c.down.here.now.breaks (chars c.as_str-leaf.result.now)
+leaf_is c = c.in-Leaf.ensures.is
+    ∙ ap (leaf_tree c.down.here.now.breaks) (sym c.as_str-leaf.ensures.chars)
 
 pub invariant_of-result : goal.invariant_of-result
 invariant_of-result c = record {
-  way = path_end c.args.unit c.args.idx c.args.root.now c.down.here.now c.down.rest c.down.before c.down.nodes.now c.down.at (chars c.as_str-leaf.result.now) c.requires.tree c.down.invariant.0
+  descent =
+      path_end c.args.unit c.args.idx c.args.root.now c.down.here.now c.down.rest c.down.before
+      c.down.nodes.now c.down.at (chars c.as_str-leaf.result.now) c.requires.tree c.down.invariant.0
       (leaf_is (goal.at.invariant_of-result c).After-as_str-leaf);
   listed = c.down.invariant.2;
 }
 
 pub returns-in-Leaf-clause-leaves : goal.returns-in-Leaf-clause-leaves
 returns-in-Leaf-clause-leaves c =
-    leaves_way c.args.root.now c.down.nodes.now c.down.at (chars c.as_str-leaf.result.now) c.down.before.bytes
-    (path_end c.args.unit c.args.idx c.args.root.now c.down.here.now c.down.rest c.down.before c.down.nodes.now c.down.at (chars c.as_str-leaf.result.now) c.requires.tree c.down.invariant.0
+    leaves_descent c.args.root.now c.down.nodes.now c.down.at (chars c.as_str-leaf.result.now)
+    c.down.before.bytes
+    (path_end c.args.unit c.args.idx c.args.root.now c.down.here.now c.down.rest c.down.before
+    c.down.nodes.now c.down.at (chars c.as_str-leaf.result.now) c.requires.tree c.down.invariant.0
     (leaf_is (goal.at.returns-in-Leaf-clause-leaves c).After-as_str-leaf))
 
 pub returns-in-Leaf-clause-holds : goal.returns-in-Leaf-clause-holds
 returns-in-Leaf-clause-holds c =
-    path_holds c.args.unit c.args.idx c.args.root.now c.down.here.now c.down.rest c.down.before c.down.nodes.now c.down.at (chars c.as_str-leaf.result.now) c.requires.tree c.down.invariant.0
+    path_holds c.args.unit c.args.idx c.args.root.now c.down.here.now c.down.rest c.down.before
+    c.down.nodes.now c.down.at (chars c.as_str-leaf.result.now) c.requires.tree c.down.invariant.0
     (leaf_is (goal.at.returns-in-Leaf-clause-holds c).After-as_str-leaf)

@@ -32,14 +32,21 @@ returns-then-from-to-clause-some c =
     let j = byte_to_char own c.args.to in
     let none : j ≤ i = omega (arith, ap (byte_to_char own) c.if-from-to.true) in
     let part = c.from_str_with.ensures.text ∙ chars-nil ∙ sym (slice_range_empty own i j none) in
-    let chunks = c.from_str_with.ensures.chunks ∙ ap single_chunk chars-nil ∙ sym (clip_empty (chunks_of c.args.self.now) i j none) in
+    let chunks = c.from_str_with.ensures.chunks ∙ ap single_chunk chars-nil
+    ∙ sym (clip_empty (chunks_of c.args.self.now) i j none) in
     same_content _ (part_between (content_of c.args.self.now) i j) part chunks (search rules)
 
 -- the counts at the two ends of a part of an excerpt's bytes
-module _ (s : Excerpt) (start end : TextInfo) (from to : ℕ) (some : from < to) (from_cut : is_char_boundary (of_excerpt.text_of s) from ≡ true) (to_cut : is_char_boundary (of_excerpt.text_of s) to ≡ true)
-    (start_is : start ≡ start_info s.node.now.breaks (text s.node.now) (s.start.chars + byte_to_char (of_excerpt.text_of s) from)) (end_is : end ≡ end_info s.node.now.breaks (text s.node.now) (s.start.chars + byte_to_char (of_excerpt.text_of s) to)) where
+module _ (s : Excerpt) (start end : TextInfo) (from to : ℕ) (some : from < to)
+    (from_cut : is_char_boundary (of_excerpt.text_of s) from ≡ true)
+    (to_cut : is_char_boundary (of_excerpt.text_of s) to ≡ true)
+    (start_is : start ≡ start_info s.node.now.breaks (text s.node.now)
+    (s.start.chars + byte_to_char (of_excerpt.text_of s) from))
+    (end_is : end ≡ end_info s.node.now.breaks (text s.node.now)
+    (s.start.chars + byte_to_char (of_excerpt.text_of s) to)) where
   inside : byte_to_char (of_excerpt.text_of s) to ≤ s.end.chars - s.start.chars
-  inside = let m = measured _ _ _ _ s.is_excerpt in omega (arith, byte_to_char-le-length (of_excerpt.text_of s) to, m.chars)
+  inside = let m = measured _ _ _ _ s.is_excerpt in
+      omega (arith, byte_to_char-le-length (of_excerpt.text_of s) to, m.chars)
 
   start_chars : start.chars ≡ s.start.chars + byte_to_char (of_excerpt.text_of s) from
   start_chars = ap (λ x. x.chars) start_is
@@ -47,14 +54,21 @@ module _ (s : Excerpt) (start end : TextInfo) (from to : ℕ) (some : from < to)
   end_chars : end.chars ≡ s.start.chars + byte_to_char (of_excerpt.text_of s) to
   end_chars =
       let m = measured _ _ _ _ s.is_excerpt in
-      ap (λ x. x.chars) end_is ∙ length-take-le (s.start.chars + byte_to_char (of_excerpt.text_of s) to) (text s.node.now) (omega (arith, inside, m.some, m.within))
+      ap (λ x. x.chars) end_is
+      ∙ length-take-le (s.start.chars + byte_to_char (of_excerpt.text_of s) to) (text s.node.now)
+      (omega (arith, inside, m.some, m.within))
 
   ordered : byte_to_char (of_excerpt.text_of s) from < byte_to_char (of_excerpt.text_of s) to
   ordered =
       let own = of_excerpt.text_of s in
       elim (cases_lt (byte_to_char own from) (byte_to_char own to)) [
         | inl less ↦ less
-        | inr not ↦ absurd (omega (arith, boundary_is own from from_cut, boundary_is own to to_cut, size_le byte_len IsMeasure-byte_len own (byte_to_char own to) (byte_to_char own from) not))
+        | inr not ↦ absurd (omega (
+          arith,
+          boundary_is own from from_cut,
+          boundary_is own to to_cut,
+          size_le byte_len IsMeasure-byte_len own (byte_to_char own to) (byte_to_char own from) not,
+        ))
       ]
 
   excerpt_is : IsExcerpt s.node.now.breaks (text s.node.now) start end
@@ -73,7 +87,10 @@ invariant_of-result c =
     let b = c.in_ok-end-in-InTree in
     record {
       is_low = c.in-InTree.excerpt.is_low;
-      is_excerpt = excerpt_is c.in-InTree.excerpt a.start b.end c.args.from c.args.to (omega (arith, c.if-from-to.false, c.requires.ordered)) (a.ensures.whole.0 refl) (b.ensures.whole.0 refl) a.ensures.some b.ensures.some;
+      is_excerpt =
+          excerpt_is c.in-InTree.excerpt a.start b.end c.args.from c.args.to
+          (omega (arith, c.if-from-to.false, c.requires.ordered)) (a.ensures.whole.0 refl)
+          (b.ensures.whole.0 refl) a.ensures.some b.ensures.some;
     }
 
 pub returns-in_ok-end-in-InTree-clause-some : goal.returns-in_ok-end-in-InTree-clause-some
@@ -86,38 +103,74 @@ returns-in_ok-end-in-InTree-clause-some c =
     let to_cut = b.ensures.whole.0 refl in
     let i = byte_to_char (of_excerpt.text_of s) c.args.from in
     let j = byte_to_char (of_excerpt.text_of s) c.args.to in
-    let within = inside s a.start b.end c.args.from c.args.to less from_cut to_cut a.ensures.some b.ensures.some in
-    let start = start_chars s a.start b.end c.args.from c.args.to less from_cut to_cut a.ensures.some b.ensures.some in
-    let end = end_chars s a.start b.end c.args.from c.args.to less from_cut to_cut a.ensures.some b.ensures.some in
-    let part = part_of_part (text s.node.now) s.start.chars s.end.chars i j a.start.chars b.end.chars within start end in
-    let chunks = clip_of_clip s.node.now.leaves s.start.chars s.end.chars i j a.start.chars b.end.chars within start end in
+    let within =
+    inside s a.start b.end c.args.from c.args.to less from_cut to_cut a.ensures.some
+    b.ensures.some in
+    let start =
+    start_chars s a.start b.end c.args.from c.args.to less from_cut to_cut a.ensures.some
+    b.ensures.some in
+    let end =
+    end_chars s a.start b.end c.args.from c.args.to less from_cut to_cut a.ensures.some
+    b.ensures.some in
+    let part =
+    part_of_part (text s.node.now) s.start.chars s.end.chars i j a.start.chars b.end.chars within
+    start end in
+    let chunks =
+    clip_of_clip s.node.now.leaves s.start.chars s.end.chars i j a.start.chars b.end.chars within
+    start end in
     rw c.in-InTree.is (same_content _ (part_between (of_excerpt.content_of s) i j) part chunks refl)
 
 -- of a plain text
-pub returns-then-not-is_char_boundary-clause-whole : goal.returns-then-not-is_char_boundary-clause-whole
-returns-then-not-is_char_boundary-clause-whole c =
-    ((λ h. absurd (cc)), (λ h. c.if-not-is_char_boundary.ensures.test.1 (cut_of_boundary c.as_str-text.result.now (of_plain.text_of c.in-Alone.plain) c.args.from c.as_str-text.utf8 c.as_str-text.ensures (rw c.in-Alone.is at h).0)))
+pub returns-then-not-is_char_boundary-clause-whole :
+    goal.returns-then-not-is_char_boundary-clause-whole
+returns-then-not-is_char_boundary-clause-whole c = (
+  (λ h. absurd (cc)),
+  (λ h. c.if-not-is_char_boundary.ensures.test.1
+      (cut_of_boundary c.as_str-text.result.now (of_plain.text_of c.in-Alone.plain) c.args.from
+      c.as_str-text.utf8 c.as_str-text.ensures (rw c.in-Alone.is at h).0)),
+)
 
-pub returns-then-not-is_char_boundary-2-clause-whole : goal.returns-then-not-is_char_boundary-2-clause-whole
-returns-then-not-is_char_boundary-2-clause-whole c =
-    ((λ h. absurd (cc)), (λ h. c.if-not-is_char_boundary-2.ensures.test.1 (cut_of_boundary c.as_str-text.result.now (of_plain.text_of c.in-Alone.plain) c.args.to c.as_str-text.utf8 c.as_str-text.ensures (rw c.in-Alone.is at h).1)))
+pub returns-then-not-is_char_boundary-2-clause-whole :
+    goal.returns-then-not-is_char_boundary-2-clause-whole
+returns-then-not-is_char_boundary-2-clause-whole c = (
+  (λ h. absurd (cc)),
+  (λ h. c.if-not-is_char_boundary-2.ensures.test.1
+      (cut_of_boundary c.as_str-text.result.now (of_plain.text_of c.in-Alone.plain) c.args.to
+      c.as_str-text.utf8 c.as_str-text.ensures (rw c.in-Alone.is at h).1)),
+)
 
-pub returns-else-not-is_char_boundary-2-clause-whole : goal.returns-else-not-is_char_boundary-2-clause-whole
+pub returns-else-not-is_char_boundary-2-clause-whole :
+    goal.returns-else-not-is_char_boundary-2-clause-whole
 returns-else-not-is_char_boundary-2-clause-whole c =
-    let first = boundary_of_cut c.as_str-text.result.now (of_plain.text_of c.in-Alone.plain) c.args.from c.as_str-text.utf8 c.as_str-text.ensures (c.if-not-is_char_boundary.ensures.test.0 refl) in
-    let last = boundary_of_cut c.as_str-text.result.now (of_plain.text_of c.in-Alone.plain) c.args.to c.as_str-text.utf8 c.as_str-text.ensures (c.if-not-is_char_boundary-2.ensures.test.0 refl) in
+    let first =
+    boundary_of_cut c.as_str-text.result.now (of_plain.text_of c.in-Alone.plain) c.args.from
+    c.as_str-text.utf8 c.as_str-text.ensures (c.if-not-is_char_boundary.ensures.test.0 refl) in
+    let last =
+    boundary_of_cut c.as_str-text.result.now (of_plain.text_of c.in-Alone.plain) c.args.to
+    c.as_str-text.utf8 c.as_str-text.ensures (c.if-not-is_char_boundary-2.ensures.test.0 refl) in
     ((λ h. rw c.in-Alone.is (first, last)), (λ h. refl))
 
-pub returns-else-not-is_char_boundary-2-clause-some : goal.returns-else-not-is_char_boundary-2-clause-some
+pub returns-else-not-is_char_boundary-2-clause-some :
+    goal.returns-else-not-is_char_boundary-2-clause-some
 returns-else-not-is_char_boundary-2-clause-some c =
     let plain = c.in-Alone.plain in
     let own = of_plain.text_of plain in
-    let first = boundary_of_cut c.as_str-text.result.now own c.args.from c.as_str-text.utf8 c.as_str-text.ensures (c.if-not-is_char_boundary.ensures.test.0 refl) in
-    let last = boundary_of_cut c.as_str-text.result.now own c.args.to c.as_str-text.utf8 c.as_str-text.ensures (c.if-not-is_char_boundary-2.ensures.test.0 refl) in
+    let first =
+    boundary_of_cut c.as_str-text.result.now own c.args.from c.as_str-text.utf8
+    c.as_str-text.ensures (c.if-not-is_char_boundary.ensures.test.0 refl) in
+    let last =
+    boundary_of_cut c.as_str-text.result.now own c.args.to c.as_str-text.utf8 c.as_str-text.ensures
+    (c.if-not-is_char_boundary-2.ensures.test.0 refl) in
     let i = byte_to_char own c.args.from in
     let j = byte_to_char own c.args.to in
-    let part = chars_of_part c.as_str-text.result.now own c.range.result.now i j c.args.from c.args.to c.as_str-text.utf8 c.as_str-text.ensures (byte_to_char-mono own c.args.from c.args.to c.requires.ordered)
-    (sym (boundary_is own c.args.from first)) (sym (boundary_is own c.args.to last)) c.range.ensures.value in
+    let part =
+    chars_of_part c.as_str-text.result.now own c.range.result.now i j c.args.from c.args.to
+    c.as_str-text.utf8 c.as_str-text.ensures
+    (byte_to_char-mono own c.args.from c.args.to c.requires.ordered)
+    (sym (boundary_is own c.args.from first)) (sym (boundary_is own c.args.to last))
+    c.range.ensures.value in
     let text = c.from_str_with-in-Alone.ensures.text ∙ part in
-    let chunks = c.from_str_with-in-Alone.ensures.chunks ∙ ap single_chunk part ∙ single_chunk-clip own i j in
-    rw c.in-Alone.is (same_content _ (part_between (of_plain.content_of plain) i j) text chunks c.from_str_with-in-Alone.ensures.breaks)
+    let chunks = c.from_str_with-in-Alone.ensures.chunks ∙ ap single_chunk part
+    ∙ single_chunk-clip own i j in
+    rw c.in-Alone.is (same_content _ (part_between (of_plain.content_of plain) i j) text chunks
+    c.from_str_with-in-Alone.ensures.breaks)

@@ -12,9 +12,13 @@ invariant_of-result c =
     let t = text_of c.args.self.now in
     let p = c.holding-span.result.0 in
     let before = c.holding-span.result.1.bytes in
-    let chunk : IsChunkAt p c.chunk-chunk.result.now = record { utf8 = c.chunk-chunk.utf8; here = c.chunk-chunk.ensures } in
-    step.cursor_at t p e.text c.chunk-chunk.result.now chunk (c.args.byte_idx - before) before c.info-total.result.bytes e.before.bytes_are (omega (arith, e.within)) (ap (λ i. i.bytes) c.info-total.ensures.value)
-    (λ (some : 0 < length t). subst (λ (xs : List (List ℕ)). All (λ leaf. 0 < length leaf) xs) (sym (e.chunks some)) c.info-total.ensures.kept.cut.nonempty)
+    let chunk : IsChunkAt p c.chunk-chunk.result.now =
+    record { utf8 = c.chunk-chunk.utf8; here = c.chunk-chunk.ensures } in
+    step.cursor_at t p e.text c.chunk-chunk.result.now chunk (c.args.byte_idx - before) before
+    c.info-total.result.bytes e.before.bytes_are (omega (arith, e.within))
+    (ap (λ i. i.bytes) c.info-total.ensures.value)
+    (λ (some : 0 < length t). subst (λ (xs : List (List ℕ)). All (λ leaf. 0 < length leaf) xs)
+    (sym (e.chunks some)) c.info-total.ensures.kept.cut.nonempty)
 
 pub returns : goal.returns
 returns c =
@@ -22,7 +26,10 @@ returns c =
     let t = text_of c.args.self.now in
     let p = c.holding-span.result.0 in
     let at : ℕ = c.args.byte_idx - c.holding-span.result.1.bytes in
-    let chunk : IsChunkAt p c.chunk-chunk.result.now = record { utf8 = c.chunk-chunk.utf8; here = c.chunk-chunk.ensures } in
+    let chunk : IsChunkAt p c.chunk-chunk.result.now =
+    record { utf8 = c.chunk-chunk.utf8; here = c.chunk-chunk.ensures } in
     let items = step.items_at t p e.text c.chunk-chunk.result.now chunk at in
-    let place = step.place_at t p e.text c.chunk-chunk.result.now chunk at c.args.byte_idx (omega (arith, e.before.bytes_are, e.starts)) (omega (arith, e.within)) in
+    let place =
+    step.place_at t p e.text c.chunk-chunk.result.now chunk at c.args.byte_idx
+    (omega (arith, e.before.bytes_are, e.starts)) (omega (arith, e.within)) in
     sides_at _ (encode_utf8_all t) c.args.byte_idx items place refl

@@ -8,14 +8,23 @@ use Rattle.rope_slice.proofs.slice.RopeSlice.char.Goals.{After-range_from}
 use Rattle.rope_slice.proofs.slice.RopeSlice.char.Goals as goal
 
 -- of a plain text
-rest : (c : After-range_from) → chars c.range_from.result.now ≡ drop c.args.char_idx (text_of c.in-Alone.plain)
-rest c = chars_back c.as_str-text.result.now c.range_from.result.now (text_of c.in-Alone.plain) c.args.char_idx c.char_to_byte_idx.result c.as_str-text.utf8 c.as_str-text.ensures c.char_to_byte_idx.ensures.value c.range_from.ensures.value
+rest : (c : After-range_from) → chars c.range_from.result.now
+    ≡ drop c.args.char_idx (text_of c.in-Alone.plain)
+rest c = chars_back c.as_str-text.result.now c.range_from.result.now (text_of c.in-Alone.plain)
+    c.args.char_idx c.char_to_byte_idx.result c.as_str-text.utf8 c.as_str-text.ensures
+    c.char_to_byte_idx.ensures.value c.range_from.ensures.value
 
 fits : (c : After-range_from) → c.args.char_idx < length (text_of c.in-Alone.plain)
 fits c = rw c.in-Alone.is at c.requires
 
 pub first_char-requires : goal.first_char-requires
-first_char-requires c = omega (arith, fits c, ap length (rest c), length-drop c.args.char_idx (text_of c.in-Alone.plain))
+first_char-requires c =
+    omega (
+      arith,
+      fits c,
+      ap length (rest c),
+      length-drop c.args.char_idx (text_of c.in-Alone.plain),
+    )
 
 pub returns-in-Alone : goal.returns-in-Alone
 returns-in-Alone c =
@@ -25,6 +34,7 @@ returns-in-Alone c =
     let long = length-drop i t in
     rw c.in-Alone.is
     (slice_get-get_or t i 0 (fits e)
-    ∙ ap (λ x. Some x) ((let n : i ≡ i + 0 = omega arith in ap (λ n. get_or t n 0) n) ∙ sym (get_or-drop i t 0 0))
+    ∙ ap (λ x. Some x) ((let n : i ≡ i + 0 = omega arith in ap (λ n. get_or t n 0) n)
+    ∙ sym (get_or-drop i t 0 0))
     ∙ sym (slice_get-get_or (drop i t) 0 0 (omega (arith, fits e)))
     ∙ ap (λ cs. slice_get cs 0) (sym (rest e)) ∙ c.first_char.ensures)

@@ -16,10 +16,12 @@ use Rattle.rope_slice.proofs.slice.RopeSlice.char_range.Goals.{After-end_of, Aft
 use Rattle.rope_slice.proofs.slice.RopeSlice.char_range.Goals as goal
 
 pub returns-then-start-end-clause-text : goal.returns-then-start-end-clause-text
-returns-then-start-end-clause-text c = c.from_str_with.ensures.text ∙ chars-nil ∙ sym (slice_range_empty (text_of c.args.self.now) c.args.start c.args.end (omega arith))
+returns-then-start-end-clause-text c = c.from_str_with.ensures.text ∙ chars-nil
+    ∙ sym (slice_range_empty (text_of c.args.self.now) c.args.start c.args.end (omega arith))
 
 pub returns-then-start-end-clause-chunks : goal.returns-then-start-end-clause-chunks
-returns-then-start-end-clause-chunks c = c.from_str_with.ensures.chunks ∙ ap single_chunk chars-nil ∙ sym (clip_empty (chunks_of c.args.self.now) c.args.start c.args.end (omega arith))
+returns-then-start-end-clause-chunks c = c.from_str_with.ensures.chunks ∙ ap single_chunk chars-nil
+    ∙ sym (clip_empty (chunks_of c.args.self.now) c.args.start c.args.end (omega arith))
 
 -- of a tree's text
 within : (c : After-end_of) → c.args.end ≤ length (excerpt.text_of c.in-InTree.excerpt)
@@ -32,34 +34,47 @@ to : (c : After-end_of) → c.end_of.result.chars ≡ c.in-InTree.excerpt.start.
 to c =
     let s = c.in-InTree.excerpt in
     let m = measured _ _ _ _ s.is_excerpt in
-    ap (λ x. x.chars) c.end_of.ensures ∙ length-take-le (s.start.chars + c.args.end) (text s.node.now) (omega (arith, within c))
+    ap (λ x. x.chars) c.end_of.ensures
+    ∙ length-take-le (s.start.chars + c.args.end) (text s.node.now) (omega (arith, within c))
 
-pub returns-after-end-start-le-MAX_BYTES-clause-text : goal.returns-after-end-start-le-MAX_BYTES-clause-text
+pub returns-after-end-start-le-MAX_BYTES-clause-text :
+    goal.returns-after-end-start-le-MAX_BYTES-clause-text
 returns-after-end-start-le-MAX_BYTES-clause-text c =
     let e = (goal.at.returns-after-end-start-le-MAX_BYTES-clause-text c).After-end_of in
     let s = c.in-InTree.excerpt in
     let m = measured _ _ _ _ s.is_excerpt in
     rw c.in-InTree.is
-    (part_of_part (text s.node.now) s.start.chars s.end.chars c.args.start c.args.end c.start_of.result.chars c.end_of.result.chars (omega (arith, within e)) (from e) (to e))
+    (part_of_part (text s.node.now) s.start.chars s.end.chars c.args.start c.args.end
+    c.start_of.result.chars c.end_of.result.chars (omega (arith, within e)) (from e) (to e))
 
-pub returns-after-end-start-le-MAX_BYTES-clause-chunks : goal.returns-after-end-start-le-MAX_BYTES-clause-chunks
+pub returns-after-end-start-le-MAX_BYTES-clause-chunks :
+    goal.returns-after-end-start-le-MAX_BYTES-clause-chunks
 returns-after-end-start-le-MAX_BYTES-clause-chunks c =
     let e = (goal.at.returns-after-end-start-le-MAX_BYTES-clause-chunks c).After-end_of in
     let s = c.in-InTree.excerpt in
     let m = measured _ _ _ _ s.is_excerpt in
     rw c.in-InTree.is
-    (clip_of_clip s.node.now.leaves s.start.chars s.end.chars c.args.start c.args.end c.start_of.result.chars c.end_of.result.chars (omega (arith, within e)) (from e) (to e))
+    (clip_of_clip s.node.now.leaves s.start.chars s.end.chars c.args.start c.args.end
+    c.start_of.result.chars c.end_of.result.chars (omega (arith, within e)) (from e) (to e))
 
 -- of a plain text
-part : (c : After-range) → chars c.range.result.now ≡ slice_range (plain.text_of c.in-Alone.plain) c.args.start c.args.end
+part : (c : After-range) → chars c.range.result.now
+    ≡ slice_range (plain.text_of c.in-Alone.plain) c.args.start c.args.end
 part c =
     let text = plain.text_of c.in-Alone.plain in
-    chars_front c.range_from-rest.result.now c.range.result.now (drop c.args.start text) (c.args.end - c.args.start) c.char_to_byte_idx-len.result c.range_from-rest.utf8
-    (chars_back c.as_str-text.result.now c.range_from-rest.result.now text c.args.start c.char_to_byte_idx.result c.as_str-text.utf8 c.as_str-text.ensures c.char_to_byte_idx.ensures.value c.range_from-rest.ensures.value)
+    chars_front c.range_from-rest.result.now c.range.result.now (drop c.args.start text)
+    (c.args.end - c.args.start) c.char_to_byte_idx-len.result c.range_from-rest.utf8
+    (chars_back c.as_str-text.result.now c.range_from-rest.result.now text c.args.start
+    c.char_to_byte_idx.result c.as_str-text.utf8 c.as_str-text.ensures
+    c.char_to_byte_idx.ensures.value c.range_from-rest.ensures.value)
     c.char_to_byte_idx-len.ensures.value c.range.ensures.value
 
 pub returns-in-Alone-clause-text : goal.returns-in-Alone-clause-text
-returns-in-Alone-clause-text c = rw c.in-Alone.is (c.from_str_with-in-Alone.ensures.text ∙ part (goal.at.returns-in-Alone-clause-text c).After-range)
+returns-in-Alone-clause-text c =
+    rw c.in-Alone.is (c.from_str_with-in-Alone.ensures.text
+    ∙ part (goal.at.returns-in-Alone-clause-text c).After-range)
 
 pub returns-in-Alone-clause-chunks : goal.returns-in-Alone-clause-chunks
-returns-in-Alone-clause-chunks c = rw c.in-Alone.is (c.from_str_with-in-Alone.ensures.chunks ∙ ap single_chunk (part (goal.at.returns-in-Alone-clause-chunks c).After-range) ∙ search rules)
+returns-in-Alone-clause-chunks c =
+    rw c.in-Alone.is (c.from_str_with-in-Alone.ensures.chunks
+    ∙ ap single_chunk (part (goal.at.returns-in-Alone-clause-chunks c).After-range) ∙ search rules)

@@ -7,4 +7,6 @@ use Rattle.rope_slice.proofs.slice.RopeSlice.chunks.Goals as goal
 pub returns : goal.returns
 returns c =
     let part = c.args.self.now in
-    c.chunks_from.ensures.stands.cursor_is ∙ ap (at_place (chunks_of part)) (first_place (text_of part) (chunks_of part) c.chunks_from.ensures.cut)
+    c.chunks_from.ensures.stands.cursor_is
+    ∙ ap (at_place (chunks_of part))
+    (first_place (text_of part) (chunks_of part) c.chunks_from.ensures.cut)

@@ -10,23 +10,39 @@ use Rattle.rope_slice.proofs.Measured.{whole_excerpt}
 use Rattle.rope_slice.proofs.slice.RopeSlice.of_node.Goals as goal
 
 pub returns-then-end-eq0-clause-text : goal.returns-then-end-eq0-clause-text
-returns-then-end-eq0-clause-text c = c.from_str_with.ensures.text ∙ chars-nil ∙ sym (no_chars (text c.args.node.now) (sym (ap (λ x. x.chars) c.info-end.ensures.value) ∙ c.if-end-eq0.true))
+returns-then-end-eq0-clause-text c = c.from_str_with.ensures.text ∙ chars-nil
+    ∙ sym (no_chars (text c.args.node.now) (sym (ap (λ x. x.chars) c.info-end.ensures.value)
+    ∙ c.if-end-eq0.true))
 
 pub returns-then-end-eq0-clause-chunks : goal.returns-then-end-eq0-clause-chunks
 returns-then-end-eq0-clause-chunks c =
-    let none = no_chars (text c.args.node.now) (sym (ap (λ x. x.chars) c.info-end.ensures.value) ∙ c.if-end-eq0.true) in
-    c.from_str_with.ensures.chunks ∙ ap single_chunk chars-nil ∙ sym (no_leaves_of c.args.node.now c.info-end.ensures.tree (ap byte_len none))
+    let none =
+    no_chars (text c.args.node.now) (sym (ap (λ x. x.chars) c.info-end.ensures.value)
+    ∙ c.if-end-eq0.true) in
+    c.from_str_with.ensures.chunks ∙ ap single_chunk chars-nil
+    ∙ sym (no_leaves_of c.args.node.now c.info-end.ensures.tree (ap byte_len none))
 
 pub invariant_of-result : goal.invariant_of-result
 invariant_of-result c = record {
   is_low = record { low = c.info-end.ensures.low; tree = c.info-end.ensures.tree };
-  is_excerpt = whole_excerpt c.args.node.now.breaks (text c.args.node.now) c.new-start.result c.info-end.result (omega (arith, ap (λ x. x.chars) c.info-end.ensures.value, c.if-end-eq0.false)) (c.new-start.ensures c.args.node.now.breaks) c.info-end.ensures.value;
+  is_excerpt =
+      whole_excerpt c.args.node.now.breaks (text c.args.node.now) c.new-start.result
+      c.info-end.result (omega (
+        arith,
+        ap (λ x. x.chars) c.info-end.ensures.value,
+        c.if-end-eq0.false,
+      )) (c.new-start.ensures c.args.node.now.breaks) c.info-end.ensures.value;
 }
 
 pub returns-clause-text : goal.returns-clause-text
-returns-clause-text c = whole_part (text c.args.node.now) c.new-start.result.chars c.info-end.result.chars (ap (λ x. x.chars) (c.new-start.ensures c.args.node.now.breaks)) (ap (λ x. x.chars) c.info-end.ensures.value)
+returns-clause-text c =
+    whole_part (text c.args.node.now) c.new-start.result.chars c.info-end.result.chars
+    (ap (λ x. x.chars) (c.new-start.ensures c.args.node.now.breaks))
+    (ap (λ x. x.chars) c.info-end.ensures.value)
 
 pub returns-clause-chunks : goal.returns-clause-chunks
 returns-clause-chunks c =
-    whole_clip c.args.node.now.leaves c.new-start.result.chars c.info-end.result.chars (nonempty_leaves c.args.node.now.leaves c.info-end.ensures.tree.leaves.each)
-    (ap (λ x. x.chars) (c.new-start.ensures c.args.node.now.breaks)) (ap (λ x. x.chars) c.info-end.ensures.value)
+    whole_clip c.args.node.now.leaves c.new-start.result.chars c.info-end.result.chars
+    (nonempty_leaves c.args.node.now.leaves c.info-end.ensures.tree.leaves.each)
+    (ap (λ x. x.chars) (c.new-start.ensures c.args.node.now.breaks))
+    (ap (λ x. x.chars) c.info-end.ensures.value)

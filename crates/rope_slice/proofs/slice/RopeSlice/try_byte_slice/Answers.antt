@@ -12,5 +12,7 @@ one_is_not false y h = refl
 pub returns-clause-refused : goal.returns-clause-refused
 returns-clause-refused g c =
     let text = text_of c.args.self.now in
-    let inside = one_is_not (is_char_boundary text c.unwrap_or-from.result) (is_char_boundary text c.unwrap_or-to.result) c.in-None.ensures.whole.1 in
+    let inside =
+    one_is_not (is_char_boundary text c.unwrap_or-from.result)
+    (is_char_boundary text c.unwrap_or-to.result) c.in-None.ensures.whole.1 in
     search (split_char, rules)

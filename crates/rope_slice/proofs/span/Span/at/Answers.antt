@@ -13,9 +13,24 @@ returns-clause-byte c =
     let e = c.holding-span.ensures in
     elim c.if-info.branch [
       | then-info w ↦
-          let ascii = ascii_here p (text_of c.args.slice.now) e.text (omega (arith, w.if-info.true, ap (λ i. i.chars) c.requires.info, ap (λ i. i.bytes) c.requires.info)) in
-          rw w.byte-is (omega (arith, e.before.chars_are, e.starts, e.within, ascii_front p.here ascii (c.args.char_idx - length (concat p.before))))
+          let ascii =
+          ascii_here p (text_of c.args.slice.now) e.text
+          (omega (
+            arith,
+            w.if-info.true,
+            ap (λ i. i.chars) c.requires.info,
+            ap (λ i. i.bytes) c.requires.info,
+          )) in
+          rw w.byte-is (omega (
+            arith,
+            e.before.chars_are,
+            e.starts,
+            e.within,
+            ascii_front p.here ascii (c.args.char_idx - length (concat p.before)),
+          ))
       | else-info w ↦
-          w.byte-is ∙ w.char_to_byte_idx-byte.ensures.value ∙ ap (λ t. char_to_byte t (c.args.char_idx - c.holding-span.result.1.chars)) w.chunk.ensures
+          w.byte-is ∙ w.char_to_byte_idx-byte.ensures.value
+          ∙ ap (λ t. char_to_byte t (c.args.char_idx - c.holding-span.result.1.chars))
+          w.chunk.ensures
           ∙ ap (λ k. char_to_byte p.here (c.args.char_idx - k)) e.before.chars_are
     ]

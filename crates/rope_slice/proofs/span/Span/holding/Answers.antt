@@ -3,4 +3,6 @@ use Rattle.rope_slice.proofs.LeafStarts.{holds_alone}
 use Rattle.rope_slice.proofs.span.Span.holding.Goals as goal
 
 pub returns-in-Alone : goal.returns-in-Alone
-returns-in-Alone c = rw c.in-Alone.is (holds_alone c.in-Alone.plain.breaks (chars c.in-Alone.plain.text.now) c.args.idx c.args.unit c.requires.unit (rw c.in-Alone.is at c.requires.within))
+returns-in-Alone c =
+    rw c.in-Alone.is (holds_alone c.in-Alone.plain.breaks (chars c.in-Alone.plain.text.now)
+    c.args.idx c.args.unit c.requires.unit (rw c.in-Alone.is at c.requires.within))

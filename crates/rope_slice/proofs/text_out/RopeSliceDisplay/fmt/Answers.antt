@@ -12,22 +12,29 @@ loop-chunk-preserved g c =
     let now = c.loop-chunk.chunk-iterator in
     let next = c.next.new.self in
     let bytes = encode_utf8_all (chars c.in-Some.chunk.now) in
-    show_more g.W.Write.write_str_gives c.args.f.now c.loop-chunk.f c.show_chunk.new.f (encode_utf8_all (text_of c.args.self.now)) (bytes_ahead now) bytes (bytes_ahead next)
+    show_more g.W.Write.write_str_gives c.args.f.now c.loop-chunk.f c.show_chunk.new.f
+    (encode_utf8_all (text_of c.args.self.now)) (bytes_ahead now) bytes (bytes_ahead next)
     c.loop-chunk.invariant (chunk_taken now next _ bytes c.in-Some.ensures.steps refl)
     (λ h. c.in_ok-show_chunk.ensures.writes h refl) (λ h. c.in_ok-show_chunk.ensures.styled h refl)
 
 pub returns-clause-writes : goal.returns-clause-writes
 returns-clause-writes g c = λ p q.
-    shown g.W.Write.write_str_gives c.args.f.now c.loop-chunk.f (encode_utf8_all (text_of c.args.self.now)) (bytes_ahead c.loop-chunk.chunk-iterator) c.loop-chunk.invariant
+    shown g.W.Write.write_str_gives c.args.f.now c.loop-chunk.f
+    (encode_utf8_all (text_of c.args.self.now)) (bytes_ahead c.loop-chunk.chunk-iterator)
+    c.loop-chunk.invariant
     (none_taken c.loop-chunk.chunk-iterator c.in-None.ensures.steps.0) p
 
 pub returns-clause-styled : goal.returns-clause-styled
 returns-clause-styled g c = λ p q.
-    shown_styled g.W.Write.write_str_gives c.args.f.now c.loop-chunk.f (encode_utf8_all (text_of c.args.self.now)) (bytes_ahead c.loop-chunk.chunk-iterator) c.loop-chunk.invariant
+    shown_styled g.W.Write.write_str_gives c.args.f.now c.loop-chunk.f
+    (encode_utf8_all (text_of c.args.self.now)) (bytes_ahead c.loop-chunk.chunk-iterator)
+    c.loop-chunk.invariant
     (none_taken c.loop-chunk.chunk-iterator c.in-None.ensures.steps.0) p
 
 pub loop-chunk-init : goal.loop-chunk-init
 loop-chunk-init g c =
-    let whole : bytes_ahead c.into_iter-chunk-iterator.result ≡ encode_utf8_all (text_of c.args.self.now) =
-    ap bytes_ahead (c.into_iter-chunk-iterator.ensures.into_iter_gives ∙ c.chunks-chunk-items.ensures) ∙ ap encode_utf8_all (chunks_join c.args.self.now) in
+    let whole : bytes_ahead c.into_iter-chunk-iterator.result
+    ≡ encode_utf8_all (text_of c.args.self.now) =
+    ap bytes_ahead (c.into_iter-chunk-iterator.ensures.into_iter_gives
+    ∙ c.chunks-chunk-items.ensures) ∙ ap encode_utf8_all (chunks_join c.args.self.now) in
     record { front = []; whole = whole; plain = search rules; styled = search rules }

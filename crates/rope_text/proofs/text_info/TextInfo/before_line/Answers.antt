@@ -19,11 +19,17 @@ returns-then-info c =
     let start : ℕ = line_start c.args.breaks text c.args.line_idx in
     let within = line_start-le-length c.args.breaks text c.args.line_idx in
     let place = c.line_to_byte_of-bytes.ensures.value in
-    let here : byte_to_char text c.line_to_byte_of-bytes.result ≡ start = ap (byte_to_char text) place ∙ byte_to_char-char_to_byte text start within in
+    let here : byte_to_char text c.line_to_byte_of-bytes.result ≡ start =
+    ap (byte_to_char text) place ∙ byte_to_char-char_to_byte text start within in
     same_info _ (info_of c.args.breaks (take start text)) place
     (c.byte_to_char_idx_of.ensures ∙ here ∙ sym (length-take-le start text within))
     (c.byte_to_surrogates_of.ensures ∙ ap (λ n. surrogate_count (take n text)) here)
-    (omega (arith, break_count-front c.args.breaks text c.args.line_idx (omega (arith, c.requires.within)), c.requires.within))
+    (omega (
+      arith,
+      break_count-front c.args.breaks text c.args.line_idx
+          (omega (arith, c.requires.within)),
+      c.requires.within,
+    ))
 
 pub returns-else-info : goal.returns-else-info
 returns-else-info c =
@@ -31,9 +37,22 @@ returns-else-info c =
     let start : ℕ = line_start c.args.breaks text c.args.line_idx in
     let within = line_start-le-length c.args.breaks text c.args.line_idx in
     let place = c.line_to_byte_of-bytes.ensures.value in
-    let ascii : byte_len text ≡ length text = omega (arith, ap (λ x. x.bytes) c.requires.info, ap (λ x. x.chars) c.requires.info, c.if-info.false, length-le-encodes text) in
+    let ascii : byte_len text ≡ length text =
+    omega (
+      arith,
+      ap (λ x. x.bytes) c.requires.info,
+      ap (λ x. x.chars) c.requires.info,
+      c.if-info.false,
+      length-le-encodes text,
+    ) in
     let front = ascii_front text ascii start in
     let long = length-take-le start text within in
-    same_info _ (info_of c.args.breaks (take start text)) place (omega (arith, place, front, long, within))
+    same_info _ (info_of c.args.breaks (take start text)) place
+    (omega (arith, place, front, long, within))
     (omega (arith, ascii_units text ascii start, long, within))
-    (omega (arith, break_count-front c.args.breaks text c.args.line_idx (omega (arith, c.requires.within)), c.requires.within))
+    (omega (
+      arith,
+      break_count-front c.args.breaks text c.args.line_idx
+          (omega (arith, c.requires.within)),
+      c.requires.within,
+    ))

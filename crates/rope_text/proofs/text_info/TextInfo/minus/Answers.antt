@@ -9,8 +9,12 @@ returns-clause-rest c breaks s t p q apart =
     let whole = p ∙ info_of-append_apart breaks s t apart in
     let self = c.args.self in
     let front = c.args.front in
-    let bytes : self.bytes - front.bytes ≡ byte_len t = omega (arith, ap (λ i. i.bytes) whole, ap (λ i. i.bytes) q) in
-    let chars : self.chars - front.chars ≡ length t = omega (arith, ap (λ i. i.chars) whole, ap (λ i. i.chars) q) in
-    let pairs : self.utf16_surrogates - front.utf16_surrogates ≡ surrogate_count t = omega (arith, ap (λ i. i.utf16_surrogates) whole, ap (λ i. i.utf16_surrogates) q) in
-    let count : self.break_count - front.break_count ≡ break_count breaks t = omega (arith, ap (λ i. i.break_count) whole, ap (λ i. i.break_count) q) in
+    let bytes : self.bytes - front.bytes ≡ byte_len t =
+    omega (arith, ap (λ i. i.bytes) whole, ap (λ i. i.bytes) q) in
+    let chars : self.chars - front.chars ≡ length t =
+    omega (arith, ap (λ i. i.chars) whole, ap (λ i. i.chars) q) in
+    let pairs : self.utf16_surrogates - front.utf16_surrogates ≡ surrogate_count t =
+    omega (arith, ap (λ i. i.utf16_surrogates) whole, ap (λ i. i.utf16_surrogates) q) in
+    let count : self.break_count - front.break_count ≡ break_count breaks t =
+    omega (arith, ap (λ i. i.break_count) whole, ap (λ i. i.break_count) q) in
     cc

@@ -26,29 +26,46 @@ left c =
     c.self.invariant.followed (omega (arith))
 
 -- all leaves
-last : (c : In_ok-push) → AreFrontNodes c.self.inside.breaks (joined c.self.inside.leaves.items ++ c.self.inside.rest) c.push.new.self.items []
+last : (c : In_ok-push) → AreFrontNodes c.self.inside.breaks
+    (joined c.self.inside.leaves.items ++ c.self.inside.rest) c.push.new.self.items []
     × (length (leaves_of c.push.new.self.items) ≡ length (leaves_of c.self.inside.leaves.items) + 1)
 last c =
     let a = c.self.inside in
     let node = c.in_ok-rest.rest in
     let pushed = c.in_ok-push.ensures.items in
-    rw pushed (nodes_front a.breaks (joined a.leaves.items ++ a.rest) a.leaves.items a.rest a.rest [] node
-    c.self.invariant.nodes (append-nil a.rest) (left c) (seam-nil a.rest) (λ more. absurd (omega arith)) (c.in_ok-rest.ensures.ok ∙ ap (leaf_tree a.breaks) c.as_str.ensures.chars) c.in_ok-rest.ensures.tree)
+    rw pushed (nodes_front a.breaks (joined a.leaves.items ++ a.rest) a.leaves.items a.rest a.rest
+    [] node
+    c.self.invariant.nodes (append-nil a.rest) (left c) (seam-nil a.rest)
+    (λ more. absurd (omega arith)) (c.in_ok-rest.ensures.ok
+    ∙ ap (leaf_tree a.breaks) c.as_str.ensures.chars) c.in_ok-rest.ensures.tree)
 
 all : (c : In_ok-push) → AreSiblings c.self.inside.breaks 0 c.push.new.self.items
 all c =
     let a = c.self.inside in
-    siblings_whole a.breaks (joined a.leaves.items ++ a.rest) c.push.new.self.items (last c).0 (omega (arith, c.self.invariant.counted, c.self.invariant.fits))
+    siblings_whole a.breaks (joined a.leaves.items ++ a.rest) c.push.new.self.items (last c).0
+    (omega (arith, c.self.invariant.counted, c.self.invariant.fits))
 
 some : (c : In_ok-push) → 1 ≤ length c.push.new.self.items
 some c =
     let a = c.self.inside in
-    omega (arith, ap length c.in_ok-push.ensures.items, length-append a.leaves.items (c.in_ok-rest.rest ∷ []))
+    omega (
+      arith,
+      ap length c.in_ok-push.ensures.items,
+      length-append a.leaves.items (c.in_ok-rest.rest ∷ []),
+    )
 
 pub returns-then-is_empty-clause-few : goal.returns-then-is_empty-clause-few
 returns-then-is_empty-clause-few c =
     let a = c.self.inside in
-    omega (arith, leaf_few a.rest, ap (λ (t : Tree). length t.leaves) (c.in_ok-rest.ensures.ok ∙ ap (leaf_tree a.breaks) c.as_str.ensures.chars), c.self.invariant.long, c.self.invariant.counted, ap (λ (b : Building). byte_len b.text) c.self.view_is)
+    omega (
+      arith,
+      leaf_few a.rest,
+      ap (λ (t : Tree). length t.leaves) (c.in_ok-rest.ensures.ok
+          ∙ ap (leaf_tree a.breaks) c.as_str.ensures.chars),
+      c.self.invariant.long,
+      c.self.invariant.counted,
+      ap (λ (b : Building). byte_len b.text) c.self.view_is,
+    )
 
 pub root_over-requires-clause-siblings : goal.root_over-requires-clause-siblings
 root_over-requires-clause-siblings c =
@@ -60,14 +77,16 @@ returns-clause-text c =
     let b = (goal.at.returns-clause-text c).In_ok-push in
     let a = c.self.inside in
     IfOk-weaker c.root_over.result _ _ (λ (node : Tree) leaves.
-    ap concat leaves ∙ nodes_whole a.breaks (joined a.leaves.items ++ a.rest) c.push.new.self.items (last b).0 ∙ ap (λ (x : Building). x.text) c.self.view_is)
+    ap concat leaves ∙ nodes_whole a.breaks (joined a.leaves.items ++ a.rest) c.push.new.self.items
+    (last b).0 ∙ ap (λ (x : Building). x.text) c.self.view_is)
     c.root_over.ensures.leaves
 
 pub returns-clause-breaks : goal.returns-clause-breaks
 returns-clause-breaks c =
     let b = (goal.at.returns-clause-breaks c).In_ok-push in
     IfOk-weaker c.root_over.result _ _ (λ (node : Tree) breaks.
-    breaks ∙ breaks_of_is c.self.inside.breaks 0 c.push.new.self.items (some b) (all b).each ∙ ap (λ (x : Building). x.breaks) c.self.view_is)
+    breaks ∙ breaks_of_is c.self.inside.breaks 0 c.push.new.self.items (some b) (all b).each
+    ∙ ap (λ (x : Building). x.breaks) c.self.view_is)
     c.root_over.ensures.breaks
 
 -- each leaf but the last has at least 981 bytes
@@ -76,18 +95,53 @@ most a i = omega (arith, i.long, nodes_le a.breaks 0 a.leaves.items i.nodes.each
 
 pub returns-in_err-rest-clause-made : goal.returns-in_err-rest-clause-made
 returns-in_err-rest-clause-made c =
-    omega (arith, c.leaf_of.ensures.made, c.add_all_made.ensures.most, c.len.ensures, c.self.inside.leaves.ok, most c.self.inside c.self.invariant, c.self.invariant.counted, ap (λ (b : Building). byte_len b.text) c.self.view_is)
+    omega (
+      arith,
+      c.leaf_of.ensures.made,
+      c.add_all_made.ensures.most,
+      c.len.ensures,
+      c.self.inside.leaves.ok,
+      most c.self.inside c.self.invariant,
+      c.self.invariant.counted,
+      ap (λ (b : Building). byte_len b.text) c.self.view_is,
+    )
 
 pub returns-in_err-push-clause-made : goal.returns-in_err-push-clause-made
 returns-in_err-push-clause-made c =
-    omega (arith, c.in_ok-rest.ensures.made, c.add_all_made.ensures.most, c.len.ensures, c.self.inside.leaves.ok, most c.self.inside c.self.invariant, c.self.invariant.counted, ap (λ (b : Building). byte_len b.text) c.self.view_is)
+    omega (
+      arith,
+      c.in_ok-rest.ensures.made,
+      c.add_all_made.ensures.most,
+      c.len.ensures,
+      c.self.inside.leaves.ok,
+      most c.self.inside c.self.invariant,
+      c.self.invariant.counted,
+      ap (λ (b : Building). byte_len b.text) c.self.view_is,
+    )
 
 pub returns-clause-made : goal.returns-clause-made
 returns-clause-made c =
     let b = (goal.at.returns-clause-made c).In_ok-push in
     let a = c.self.inside in
-    let all_leaves : length c.push.new.self.items ≡ length a.leaves.items + 1 = omega (arith, ap length c.in_ok-push.ensures.items, length-append a.leaves.items (c.in_ok-rest.rest ∷ [])) in
-    omega (arith, c.root_over.ensures.made, c.in_ok-rest.ensures.made, c.add_all_made.ensures.most, c.len.ensures, c.self.inside.leaves.ok, all_leaves, left b, most a c.self.invariant, c.self.invariant.counted, ap (λ (x : Building). byte_len x.text) c.self.view_is)
+    let all_leaves : length c.push.new.self.items ≡ length a.leaves.items + 1 =
+    omega (
+      arith,
+      ap length c.in_ok-push.ensures.items,
+      length-append a.leaves.items (c.in_ok-rest.rest ∷ []),
+    ) in
+    omega (
+      arith,
+      c.root_over.ensures.made,
+      c.in_ok-rest.ensures.made,
+      c.add_all_made.ensures.most,
+      c.len.ensures,
+      c.self.inside.leaves.ok,
+      all_leaves,
+      left b,
+      most a c.self.invariant,
+      c.self.invariant.counted,
+      ap (λ (x : Building). byte_len x.text) c.self.view_is,
+    )
 
 pub returns-clause-few : goal.returns-clause-few
 returns-clause-few c =
@@ -95,5 +149,13 @@ returns-clause-few c =
     let a = c.self.inside in
     let same = ap (λ (x : Building). byte_len x.text) c.self.view_is in
     IfOk-weaker c.root_over.result _ _ (λ (node : Tree) leaves.
-    omega (arith, same, (last b).1, ap length leaves, c.self.invariant.long, c.self.invariant.counted, left b))
+    omega (
+      arith,
+      same,
+      (last b).1,
+      ap length leaves,
+      c.self.invariant.long,
+      c.self.invariant.counted,
+      left b,
+    ))
     c.root_over.ensures.leaves

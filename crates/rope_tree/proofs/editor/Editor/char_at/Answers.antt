@@ -5,4 +5,7 @@ use Rattle.rope_tree.proofs.editor.Editor.char_at.Goals as goal
 pub char_at-found-requires-clause-room : goal.char_at-found-requires-clause-room
 char_at-found-requires-clause-room c =
     let low = low_tree c.args.node.now c.requires.tree in
-    record { nodes = omega (arith, low, ap (λ s. s.nodes) c.new-steps.ensures); compares = omega (arith, low, ap (λ s. s.compares) c.new-steps.ensures) }
+    record {
+      nodes = omega (arith, low, ap (λ s. s.nodes) c.new-steps.ensures);
+      compares = omega (arith, low, ap (λ s. s.compares) c.new-steps.ensures);
+    }

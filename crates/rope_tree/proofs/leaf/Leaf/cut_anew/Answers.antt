@@ -6,19 +6,21 @@ use Rattle.rope_text.specs.TextInfo.{info_of}
 use Rattle.rope_text.proofs.InfoLaws.{part_of_sum}
 use Rattle.rope_tree.specs.Tree.{text, leaf_tree}
 use Rattle.rope_tree.specs.Insert.{IsInserted}
-use Rattle.rope_tree.proofs.GrownLaws.{leaf_parted}
+use Rattle.rope_tree.proofs.GrownLaws.{leaf_split}
 use Rattle.rope_tree.proofs.HalfLaws.{front_bytes, half_some, half_least, half_counts}
 use Rattle.rope_tree.proofs.leaf.Leaf.cut_anew.Goals.{After-from_str-front_info}
 use Rattle.rope_tree.proofs.leaf.Leaf.cut_anew.Goals as goal
 
 -- the text to be split is that of the leaf with the inserted text
-grown : (c : After-from_str-front_info) → chars c.as_str.result.now ≡ inserted c.known_text-old.result c.args.at c.args.added.now
+grown : (c : After-from_str-front_info) → chars c.as_str.result.now
+    ≡ inserted c.known_text-old.result c.args.at c.args.added.now
 grown c = ap chars c.as_str.ensures.value ∙ c.leaf_with-grown.ensures.text
 
 pub minus-back_info-requires : goal.minus-back_info-requires
 minus-back_info-requires c =
     let f = (goal.at.minus-back_info-requires c).After-from_str-front_info in
-    part_of_sum _ _ _ (half_counts c.halves_of.ensures _ _ _ (c.leaf_with-grown.ensures.info ∙ ap (info_of c.line_breaks-breaks.result) (sym (grown f))) c.from_str-front_info.ensures)
+    part_of_sum _ _ _ (half_counts c.halves_of.ensures _ _ _ (c.leaf_with-grown.ensures.info
+    ∙ ap (info_of c.line_breaks-breaks.result) (sym (grown f))) c.from_str-front_info.ensures)
 
 pub returns-clause-cut : goal.returns-clause-cut
 returns-clause-cut c =
@@ -27,8 +29,12 @@ returns-clause-cut c =
     let front = chars c.halves_of.result.0.now in
     let back = chars c.halves_of.result.1.now in
     let breaks = c.args.self.now.breaks in
-    let behind = c.in_ok-behind.behind in
+    let following = c.in_ok-following.following in
     let s = c.args.added.now in
-    rw (c.fill.ensures, c.line_breaks-breaks.ensures) (subst (λ t. IsInserted t (leaf_tree breaks front ∷ behind ∷ []) (inserted (text t) c.args.at s)) (sym c.known_text-old.ensures.is)
-    (leaf_parted breaks c.known_text-old.result front (omega (arith, front_bytes h, h.front_room)) (scalars-chars c.halves_of.result.0.now h.front_utf8) c.args.at s back behind
-    (c.in_ok-behind.ensures.ok ∙ ap (λ b. leaf_tree b back) c.line_breaks-breaks.ensures) c.in_ok-behind.ensures.tree (h.joined ∙ grown f) (half_some h) (half_least h)))
+    rw (c.fill.ensures, c.line_breaks-breaks.ensures)
+    (subst (λ t. IsInserted t (leaf_tree breaks front ∷ following ∷ [])
+    (inserted (text t) c.args.at s)) (sym c.known_text-old.ensures.is)
+    (leaf_split breaks c.known_text-old.result front (omega (arith, front_bytes h, h.front_room))
+    (scalars-chars c.halves_of.result.0.now h.front_utf8) c.args.at s back following
+    (c.in_ok-following.ensures.ok ∙ ap (λ b. leaf_tree b back) c.line_breaks-breaks.ensures)
+    c.in_ok-following.ensures.tree (h.joined ∙ grown f) (half_some h) (half_least h)))

@@ -21,5 +21,7 @@ pub invariant_of-self : goal.invariant_of-self
 invariant_of-self c = record {
   fits = rw c.set.ensures (fits (goal.at.invariant_of-self c).Start);
   scalars = rw c.set.ensures (scalars-chars c.args.text.now c.utf8.text);
-  counted = rw (c.set.ensures, c.new-self-inside.ensures.breaks) (c.new-self-inside.ensures.info ∙ c.requires.info);
+  counted =
+      rw (c.set.ensures, c.new-self-inside.ensures.breaks) (c.new-self-inside.ensures.info
+      ∙ c.requires.info);
 }

@@ -4,7 +4,7 @@ use Rattle.rope_text.specs.Text.{byte_len}
 use Rattle.rope_text.specs.TextInfo.{info_of}
 use Rattle.rope_text.specs.declared.text_info.TextInfo.{TextInfo}
 use Rattle.rope_text.specs.declared.line_breaks.LineBreaks.{LineBreaks}
-use Rattle.rope_tree.specs.Leaves.{IsEnoughBehind, IsEnoughAhead}
+use Rattle.rope_tree.specs.Leaves.{IsEnoughAfter, IsEnoughAhead}
 use Rattle.rope_tree.specs.Tree.{Tree, text, joined, leaves_of, height_of, breaks_of, AreChildren, AreFamily}
 use Rattle.rope_tree.specs.Listed.{listed, IsListed}
 use Rattle.rope_tree.specs.Totals.{HasTotals, AreBelow}
@@ -163,7 +163,7 @@ first_held c = record {
 }
 
 first_before : (c : In-Some)
-    → IsEnoughBehind c.args.least.first c.least_at.result.first
+    → IsEnoughAfter c.args.least.first c.least_at.result.first
     (leaves_of (take c.args.place c.args.self.now))
 first_before c = c.least_at.ensures.first c.args.self.now (below c)
 
@@ -263,7 +263,7 @@ second_held c = record {
 }
 
 second_before : (c : In-Some)
-    → IsEnoughBehind c.args.least.first (492 - byte_len (text (now_left c)))
+    → IsEnoughAfter c.args.least.first (492 - byte_len (text (now_left c)))
     (leaves_of (take (c.args.place + 1) (mid c)))
 second_before c = λ n some.
     enough_after (breaks_of (mid c)) (mid c) c.args.place (now_left c)

@@ -11,7 +11,11 @@ returns-clause-tree c =
     let own = node_tree c.self.inside c.args.self.now c.self.invariant c.self.view_is in
     let same : form_tree c.match-self.form ≡ c.args.self.now = elim c.match-self.branch [
       | in-Empty w ↦ ap form_tree (w.form-is ∙ sym w.in-Empty.is) ∙ c.self.view_is
-      | in-Leaf+in_ok-clone-in-Leaf w ↦ ap form_tree w.form-is ∙ (w.in_ok-clone-in-Leaf.ensures.cases ∙ (ap form_tree (sym w.in-Leaf.is) ∙ c.self.view_is))
-      | in-Inner+in_ok-clone-in-Inner w ↦ ap form_tree w.form-is ∙ (ap tree_over w.in_ok-clone-in-Inner.ensures.cases ∙ (ap form_tree (sym w.in-Inner.is) ∙ c.self.view_is))
+      | in-Leaf+in_ok-clone-in-Leaf w ↦ ap form_tree w.form-is
+          ∙ (w.in_ok-clone-in-Leaf.ensures.cases
+          ∙ (ap form_tree (sym w.in-Leaf.is) ∙ c.self.view_is))
+      | in-Inner+in_ok-clone-in-Inner w ↦ ap form_tree w.form-is
+          ∙ (ap tree_over w.in_ok-clone-in-Inner.ensures.cases
+          ∙ (ap form_tree (sym w.in-Inner.is) ∙ c.self.view_is))
     ] in
     subst IsTree (sym same) own

@@ -7,5 +7,7 @@ pub returns : goal.returns
 returns c =
     let xs = c.args.nodes.now in
     let ys = take (length xs - 1) xs in
-    turned ys (set xs (length xs - 1) c.args.node) (c.args.place + 1) c.args.node c.rotate_right.new.self (last_set xs c.args.node (omega (arith, c.requires)))
-    (omega (arith, c.requires, length-take-le (length xs - 1) xs (omega arith))) c.rotate_right.ensures.after
+    turned ys (set xs (length xs - 1) c.args.node) (c.args.place + 1) c.args.node
+    c.rotate_right.new.self (last_set xs c.args.node (omega (arith, c.requires)))
+    (omega (arith, c.requires, length-take-le (length xs - 1) xs (omega arith)))
+    c.rotate_right.ensures.after

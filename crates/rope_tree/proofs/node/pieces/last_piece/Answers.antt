@@ -7,5 +7,7 @@ use Rattle.rope_tree.proofs.node.pieces.last_piece.Goals as goal
 
 pub returns-clause-ok : goal.returns-clause-ok
 returns-clause-ok c =
-    both_ok c.leaf_of.result _ _ (λ node. ArePieces c.args.breaks (chars c.args.text.now) (node ∷ []))
-    (λ node is tree. piece_alone c.args.breaks c.args.text.now node c.utf8.text c.requires.least is tree) c.leaf_of.ensures.ok c.leaf_of.ensures.tree
+    both_ok c.leaf_of.result _ _
+    (λ node. ArePieces c.args.breaks (chars c.args.text.now) (node ∷ []))
+    (λ node is tree. piece_alone c.args.breaks c.args.text.now node c.utf8.text c.requires.least is
+    tree) c.leaf_of.ensures.ok c.leaf_of.ensures.tree

@@ -10,11 +10,22 @@ use Rattle.rope_tree.proofs.LeafTexts.{bytes_of, len_of}
 use Rattle.rope_tree.proofs.node_text.NodeText.insert_bytes.Goals.{After-put_bytes}
 use Rattle.rope_tree.proofs.node_text.NodeText.insert_bytes.Goals as goal
 
-inserted_utf8 : (bs new : List ℕ) (i : ℕ) → IsUtf8 bs → IsUtf8 new → IsCharBoundary bs i → IsUtf8 (insert_slice bs i new)
-inserted_utf8 bs new i u v at = IsUtf8-append (take i bs ++ new) (drop i bs) (IsUtf8-append (take i bs) new (IsUtf8-take bs i u at) v) (IsUtf8-drop bs i u at)
+inserted_utf8 : (bs new : List ℕ) (i : ℕ) → IsUtf8 bs → IsUtf8 new → IsCharBoundary bs i
+    → IsUtf8 (insert_slice bs i new)
+inserted_utf8 bs new i u v at =
+    IsUtf8-append (take i bs ++ new) (drop i bs)
+    (IsUtf8-append (take i bs) new (IsUtf8-take bs i u at) v) (IsUtf8-drop bs i u at)
 
-inserted_len : (bs new : List ℕ) (i : ℕ) → i ≤ length bs → length (insert_slice bs i new) ≡ length bs + length new
-inserted_len bs new i within = omega (arith, length-append (take i bs ++ new) (drop i bs), length-append (take i bs) new, length-take-le i bs within, length-drop i bs)
+inserted_len : (bs new : List ℕ) (i : ℕ) → i ≤ length bs
+    → length (insert_slice bs i new) ≡ length bs + length new
+inserted_len bs new i within =
+    omega (
+      arith,
+      length-append (take i bs ++ new) (drop i bs),
+      length-append (take i bs) new,
+      length-take-le i bs within,
+      length-drop i bs,
+    )
 
 -- the bytes before the insert
 same : (c : After-put_bytes) → encode_utf8_all c.args.self.now ≡ c.self.inside.bytes.items
@@ -27,28 +38,43 @@ old_len : (c : After-put_bytes) → byte_len c.args.self.now ≡ length c.self.i
 old_len c = len_of c.self.inside.bytes.items c.args.self.now c.self.invariant.0 c.self.view_is
 
 -- the bytes after the insert
-now : (c : After-put_bytes) → c.put_bytes.new.bytes.items ≡ insert_slice c.self.inside.bytes.items c.args.place c.args.added.now
-now c = c.put_bytes.ensures ∙ ap (insert_slice c.self.inside.bytes.items c.args.place) c.as_bytes.ensures.value
+now : (c : After-put_bytes) → c.put_bytes.new.bytes.items
+    ≡ insert_slice c.self.inside.bytes.items c.args.place c.args.added.now
+now c = c.put_bytes.ensures
+    ∙ ap (insert_slice c.self.inside.bytes.items c.args.place) c.as_bytes.ensures.value
 
-len : (c : After-put_bytes) → length c.put_bytes.new.bytes.items ≡ length c.self.inside.bytes.items + length c.args.added.now
-len c = ap length (now c) ∙ inserted_len c.self.inside.bytes.items c.args.added.now c.args.place (at c).0
+len : (c : After-put_bytes) → length c.put_bytes.new.bytes.items
+    ≡ length c.self.inside.bytes.items + length c.args.added.now
+len c = ap length (now c)
+    ∙ inserted_len c.self.inside.bytes.items c.args.added.now c.args.place (at c).0
 
 utf8 : (c : After-put_bytes) → IsUtf8 c.put_bytes.new.bytes.items
-utf8 c = rw (now c) (inserted_utf8 c.self.inside.bytes.items c.args.added.now c.args.place (IsUtf8-from_is_utf8 c.self.inside.bytes.items c.self.invariant.0) c.utf8.added (at c))
+utf8 c = rw (now c) (inserted_utf8 c.self.inside.bytes.items c.args.added.now c.args.place
+    (IsUtf8-from_is_utf8 c.self.inside.bytes.items c.self.invariant.0) c.utf8.added (at c))
 
 pub put_bytes-requires-clause-place : goal.put_bytes-requires-clause-place
 put_bytes-requires-clause-place c =
-    (subst (λ x. IsCharBoundary x c.args.place) (bytes_of c.self.inside.bytes.items c.args.self.now c.self.invariant.0 c.self.view_is) c.requires.boundary).0
+    (subst (λ x. IsCharBoundary x c.args.place)
+    (bytes_of c.self.inside.bytes.items c.args.self.now c.self.invariant.0 c.self.view_is)
+    c.requires.boundary).0
 
 pub put_bytes-requires-clause-fits : goal.put_bytes-requires-clause-fits
 put_bytes-requires-clause-fits c =
-    omega (arith, c.requires.fits, len_of c.self.inside.bytes.items c.args.self.now c.self.invariant.0 c.self.view_is, ap length c.as_bytes.ensures.value)
+    omega (
+      arith,
+      c.requires.fits,
+      len_of c.self.inside.bytes.items c.args.self.now
+          c.self.invariant.0 c.self.view_is,
+      ap length c.as_bytes.ensures.value,
+    )
 
 pub invariant_of-self : goal.invariant_of-self
-invariant_of-self c = (is_utf8-from_IsUtf8 _ (utf8 c), omega (arith, len c, old_len c, c.requires.fits))
+invariant_of-self c =
+    (is_utf8-from_IsUtf8 _ (utf8 c), omega (arith, len c, old_len c, c.requires.fits))
 
 pub returns-clause-value : goal.returns-clause-value
-returns-clause-value c = ap chars (now c ∙ ap (λ bs. insert_slice bs c.args.place c.args.added.now) (sym (same c)))
+returns-clause-value c =
+    ap chars (now c ∙ ap (λ bs. insert_slice bs c.args.place c.args.added.now) (sym (same c)))
 
 pub returns-clause-len : goal.returns-clause-len
 returns-clause-len c = byte_len-chars _ (utf8 c) ∙ omega (arith, len c, old_len c)

@@ -16,6 +16,10 @@ loop-k-preserved c =
     let j = c.args.start + c.loop-k.k in
     let mask = get_or c.masks_from-masks.result.now j 0 in
     elim (cases_lt j c.args.from) [
-      | inl early ↦ let e = none more mask (c.masks_from-masks.ensures.before j early) in grind (arith, common_steps)
-      | inr late ↦ let e = all more mask (c.masks_from-masks.ensures.behind j late (omega (arith, c.loop-k-test.true, c.requires.start))) (omega arith) in grind (arith, common_steps)
+      | inl early ↦ let e = none more mask (c.masks_from-masks.ensures.before j early) in
+          grind (arith, common_steps)
+      | inr late ↦ let e =
+          all more mask (c.masks_from-masks.ensures.following j late
+          (omega (arith, c.loop-k-test.true, c.requires.start))) (omega arith) in
+          grind (arith, common_steps)
     ]

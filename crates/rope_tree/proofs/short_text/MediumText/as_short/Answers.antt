@@ -6,5 +6,7 @@ use Rattle.rope_tree.proofs.short_text.MediumText.as_short.Goals as goal
 
 pub new-requires : goal.new-requires
 new-requires c =
-    let bytes = byte_len-chars c.self.inside.text.now (IsUtf8-from_is_utf8 c.self.inside.text.now c.self.invariant.utf8) in
+    let bytes =
+    byte_len-chars c.self.inside.text.now
+    (IsUtf8-from_is_utf8 c.self.inside.text.now c.self.invariant.utf8) in
     omega (arith, ap byte_len c.self.view_is, bytes, c.requires)

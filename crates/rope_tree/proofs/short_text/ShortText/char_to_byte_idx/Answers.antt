@@ -10,7 +10,13 @@ use Rattle.rope_tree.proofs.short_text.ShortText.char_to_byte_idx.Goals as goal
 pub returns-then-self-clause-value : goal.returns-then-self-clause-value
 returns-then-self-clause-value c =
     let e = ascii c.self.inside c.args.self.now c.self.invariant c.self.view_is c.if-self.true in
-    omega (arith, c.min.ensures, as_many c.self.inside c.args.self.now c.self.invariant c.self.view_is c.if-self.true, ascii_front c.args.self.now e c.args.char_idx)
+    omega (
+      arith,
+      c.min.ensures,
+      as_many c.self.inside c.args.self.now c.self.invariant
+          c.self.view_is c.if-self.true,
+      ascii_front c.args.self.now e c.args.char_idx,
+    )
 
 pub returns-then-self-clause-boundary : goal.returns-then-self-clause-boundary
 returns-then-self-clause-boundary c =
@@ -19,19 +25,30 @@ returns-then-self-clause-boundary c =
     let e = ascii c.self.inside c.args.self.now c.self.invariant c.self.view_is c.if-self.true in
     let place : byte_len (take c.args.char_idx (chars bs)) ≡ c.min.result =
     ap (λ s. byte_len (take c.args.char_idx s)) c.self.view_is
-    ∙ omega (arith, c.min.ensures, as_many c.self.inside c.args.self.now c.self.invariant c.self.view_is c.if-self.true, ascii_front c.args.self.now e c.args.char_idx) in
+    ∙ omega (
+      arith,
+      c.min.ensures,
+      as_many c.self.inside c.args.self.now c.self.invariant
+          c.self.view_is c.if-self.true,
+      ascii_front c.args.self.now e c.args.char_idx,
+    ) in
     let bytes = encodes-chars bs u in
     subst (λ s. IsCharBoundary (encode_utf8_all s) c.min.result) c.self.view_is
-    (subst (λ x. IsCharBoundary x c.min.result) (sym bytes) (subst (IsCharBoundary bs) place (byte_len_boundary bs c.args.char_idx u)))
+    (subst (λ x. IsCharBoundary x c.min.result) (sym bytes)
+    (subst (IsCharBoundary bs) place (byte_len_boundary bs c.args.char_idx u)))
 
 pub returns-then-self-2-clause-boundary : goal.returns-then-self-2-clause-boundary
 returns-then-self-2-clause-boundary c =
     let bs = c.self.inside.text.now in
     let bytes = encodes-chars bs (IsUtf8-from_is_utf8 bs c.self.invariant.utf8) in
-    subst (λ s. IsCharBoundary (encode_utf8_all s) c.char_to_byte_idx_of.result) c.self.view_is (subst (λ x. IsCharBoundary x c.char_to_byte_idx_of.result) (sym bytes) c.char_to_byte_idx_of.ensures.boundary)
+    subst (λ s. IsCharBoundary (encode_utf8_all s) c.char_to_byte_idx_of.result) c.self.view_is
+    (subst (λ x. IsCharBoundary x c.char_to_byte_idx_of.result) (sym bytes)
+    c.char_to_byte_idx_of.ensures.boundary)
 
 pub returns-else-self-2-clause-boundary : goal.returns-else-self-2-clause-boundary
 returns-else-self-2-clause-boundary c =
     let bs = c.self.inside.text.now in
     let bytes = encodes-chars bs (IsUtf8-from_is_utf8 bs c.self.invariant.utf8) in
-    subst (λ s. IsCharBoundary (encode_utf8_all s) c.char_to_byte_idx.result) c.self.view_is (subst (λ x. IsCharBoundary x c.char_to_byte_idx.result) (sym bytes) c.char_to_byte_idx.ensures.boundary)
+    subst (λ s. IsCharBoundary (encode_utf8_all s) c.char_to_byte_idx.result) c.self.view_is
+    (subst (λ x. IsCharBoundary x c.char_to_byte_idx.result) (sym bytes)
+    c.char_to_byte_idx.ensures.boundary)

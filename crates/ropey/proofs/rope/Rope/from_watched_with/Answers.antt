@@ -4,4 +4,5 @@ use Rattle.ropey.proofs.Ropes.{rope_of}
 use Rattle.ropey.proofs.rope.Rope.from_watched_with.Goals as goal
 
 pub returns-clause-kept : goal.returns-clause-kept
-returns-clause-kept g c = (search rules, rope_of c.in_ok-root.root c.in_ok-root.ensures.tree, search rules)
+returns-clause-kept g c =
+    (search rules, rope_of c.in_ok-root.root c.in_ok-root.ensures.tree, search rules)

@@ -10,9 +10,11 @@ pub returns-clause-ok : goal.returns-clause-ok
 returns-clause-ok c =
     let text = c.args.self.now.text in
     let one = ap chars c.encode_utf8.ensures.value ∙ one_char c.args.c c.ranges.c.0 in
-    subst (λ new. OnOk c.insert.result (IsInsert text c.args.char_idx new c.insert.new.self.text)) one c.insert.ensures.ok
+    subst (λ new. OnOk c.insert.result (IsInsert text c.args.char_idx new c.insert.new.self.text))
+    one c.insert.ensures.ok
 
 pub returns-clause-refused : goal.returns-clause-refused
 returns-clause-refused c =
     let one = ap chars c.encode_utf8.ensures.value ∙ one_char c.args.c c.ranges.c.0 in
-    subst (λ new. IfErr c.insert.result (IsInsertRefusal c.args.self.now.text c.args.char_idx new)) one c.insert.ensures.refused
+    subst (λ new. IfErr c.insert.result (IsInsertRefusal c.args.self.now.text c.args.char_idx new))
+    one c.insert.ensures.refused

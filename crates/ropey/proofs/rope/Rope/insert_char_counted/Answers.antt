@@ -10,9 +10,12 @@ pub returns-clause-ok : goal.returns-clause-ok
 returns-clause-ok c =
     let text = c.args.self.now.text in
     let one = ap chars c.encode_utf8.ensures.value ∙ one_char c.args.c c.ranges.c.0 in
-    subst (λ new. OnOk c.insert_counted.result (IsInsert text c.args.char_idx new c.insert_counted.new.self.text)) one c.insert_counted.ensures.ok
+    subst (λ new. OnOk c.insert_counted.result
+    (IsInsert text c.args.char_idx new c.insert_counted.new.self.text)) one
+    c.insert_counted.ensures.ok
 
 pub returns-clause-refused : goal.returns-clause-refused
 returns-clause-refused c =
     let one = ap chars c.encode_utf8.ensures.value ∙ one_char c.args.c c.ranges.c.0 in
-    subst (λ new. IfErr c.insert_counted.result (IsInsertRefusal c.args.self.now.text c.args.char_idx new)) one c.insert_counted.ensures.refused
+    subst (λ new. IfErr c.insert_counted.result
+    (IsInsertRefusal c.args.self.now.text c.args.char_idx new)) one c.insert_counted.ensures.refused

@@ -8,4 +8,10 @@ pub overflow_add-result : goal.overflow_add-result
 overflow_add-result c =
     let t = c.self.inside.root in
     let small = small_info t.breaks (text t) c.self.invariant.fits in
-    omega (arith, small.bytes, small.chars, small.breaks, ap (λ x. x.break_count) c.info.ensures.value)
+    omega (
+      arith,
+      small.bytes,
+      small.chars,
+      small.breaks,
+      ap (λ x. x.break_count) c.info.ensures.value,
+    )

@@ -9,4 +9,11 @@ overflow_add-result c =
     let t = c.self.inside.root in
     let small = small_info t.breaks (text t) c.self.invariant.fits in
     let e = c.info-info.ensures.value in
-    omega (arith, small.bytes, small.chars, small.pairs, ap (λ x. x.chars) e, ap (λ x. x.utf16_surrogates) e)
+    omega (
+      arith,
+      small.bytes,
+      small.chars,
+      small.pairs,
+      ap (λ x. x.chars) e,
+      ap (λ x. x.utf16_surrogates) e,
+    )

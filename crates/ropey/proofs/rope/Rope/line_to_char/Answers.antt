@@ -5,4 +5,5 @@ pub returns-clause-within : goal.returns-clause-within
 returns-clause-within c = rw c.line_to_char_counted.ensures.value (line_start-le-length _ _ _)
 
 pub returns-clause-ordered : goal.returns-clause-ordered
-returns-clause-ordered c later before = rw c.line_to_char_counted.ensures.value (line_start_mono _ _ _ _ before)
+returns-clause-ordered c later before =
+    rw c.line_to_char_counted.ensures.value (line_start_mono _ _ _ _ before)

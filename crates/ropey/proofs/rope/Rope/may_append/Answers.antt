@@ -9,6 +9,7 @@ not_false false e = cc
 
 pub returns-clause-same : goal.returns-clause-same
 returns-clause-same c =
-    let equal : c.line_breaks.result ≡ c.line_breaks-2.result = same_true the_type (search rules) _ _ (not_false _ c.if-ne.ensures) in
+    let equal : c.line_breaks.result ≡ c.line_breaks-2.result =
+    same_true the_type (search rules) _ _ (not_false _ c.if-ne.ensures) in
     sym (ap (λ r. r.breaks) c.other.view_is) ∙ sym c.line_breaks-2.ensures ∙ sym equal
     ∙ c.line_breaks.ensures ∙ ap (λ r. r.breaks) c.self.view_is

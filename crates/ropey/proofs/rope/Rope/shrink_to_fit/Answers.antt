@@ -15,15 +15,29 @@ append-requires c =
     let had = c.loop-chunk.builder.text in
     let chunk = chars c.in-Some.chunk.now in
     let more = concat (ahead c.next.new.self) in
-    let all = ap byte_len (ap (λ x. had ++ concat x) (sym c.in-Some.ensures.steps) ∙ c.loop-chunk.invariant.text) in
-    let bytes = ap (λ b. byte_len (chars b)) (sym c.as_bytes.ensures.value) ∙ byte_len-chars c.as_bytes.result.now c.as_bytes.ensures.utf8 ∙ ap length c.as_bytes.ensures.value in
-    omega (arith, all, bytes, IsMeasure-byte_len.joined had (chunk ++ more), IsMeasure-byte_len.joined chunk more, c.self.invariant.fits, ap (λ (r : RopeView). byte_len r.text) c.self.view_is)
+    let all =
+    ap byte_len (ap (λ x. had ++ concat x) (sym c.in-Some.ensures.steps)
+    ∙ c.loop-chunk.invariant.text) in
+    let bytes = ap (λ b. byte_len (chars b)) (sym c.as_bytes.ensures.value)
+    ∙ byte_len-chars c.as_bytes.result.now c.as_bytes.ensures.utf8
+    ∙ ap length c.as_bytes.ensures.value in
+    omega (
+      arith,
+      all,
+      bytes,
+      IsMeasure-byte_len.joined had (chunk ++ more),
+      IsMeasure-byte_len.joined chunk more,
+      c.self.invariant.fits,
+      ap (λ (r : RopeView). byte_len r.text) c.self.view_is,
+    )
 
 pub returns-in_err-append-clause-kept : goal.returns-in_err-append-clause-kept
-returns-in_err-append-clause-kept c = subst IsRope c.self.view_is (rope_of c.self.inside.root c.self.invariant)
+returns-in_err-append-clause-kept c =
+    subst IsRope c.self.view_is (rope_of c.self.inside.root c.self.invariant)
 
 pub returns-in_err-self-inside-clause-kept : goal.returns-in_err-self-inside-clause-kept
-returns-in_err-self-inside-clause-kept c = subst IsRope c.self.view_is (rope_of c.self.inside.root c.self.invariant)
+returns-in_err-self-inside-clause-kept c =
+    subst IsRope c.self.view_is (rope_of c.self.inside.root c.self.invariant)
 
 pub returns-clause-kept : goal.returns-clause-kept
 returns-clause-kept c = rope_of _ c.in_ok-self-inside.ensures.tree

@@ -8,7 +8,8 @@ pub returns-then-is_empty : goal.returns-then-is_empty
 returns-then-is_empty c =
     let none : c.args.bytes.now ≡ [] = nil_from_length c.args.bytes.now (search rules) in
     let open_ = sym (ap (λ (t : Taking). t.refused) c.self.view_is) ∙ c.if-self-ne-OK.false in
-    takes_none c.args.self.now c.args.bytes.now c.args.valid.now (taking_of _ _ _ _ _ _ c.self.invariant c.self.view_is) open_ none
+    takes_none c.args.self.now c.args.bytes.now c.args.valid.now
+    (taking_of _ _ _ _ _ _ c.self.invariant c.self.view_is) open_ none
 
 pub returns : goal.returns
 returns c =
@@ -16,8 +17,14 @@ returns c =
     let open_ = sym (ap (λ (t : Taking). t.refused) c.self.view_is) ∙ c.if-self-ne-OK.false in
     let some : 0 < length c.args.bytes.now = search rules in
     let none : length old.rest ≡ 0 =
-    omega (arith, ap (λ (t : Taking). length t.rest) c.self.view_is, length-take c.self.inside.rest_len c.self.inside.rest, c.if-self-gt0.false) in
-    let settled : Settles old [] c.args.bytes.now c.settle.result c.args.valid.now c.settle.new.valid c.settle.new.self = record {
+    omega (
+      arith,
+      ap (λ (t : Taking). length t.rest) c.self.view_is,
+      length-take c.self.inside.rest_len c.self.inside.rest,
+      c.if-self-gt0.false,
+    ) in
+    let settled : Settles old [] c.args.bytes.now c.settle.result c.args.valid.now
+    c.settle.new.valid c.settle.new.self = record {
       faulty = c.settle.ensures.faulty;
       fine = c.settle.ensures.fine;
       place = c.settle.ensures.place;
@@ -26,4 +33,5 @@ returns c =
       refused = c.settle.ensures.refused;
       breaks = c.settle.ensures.breaks;
     } in
-    takes_all old c.settle.new.self c.args.bytes.now c.settle.result c.args.valid.now c.settle.new.valid open_ some none settled
+    takes_all old c.settle.new.self c.args.bytes.now c.settle.result c.args.valid.now
+    c.settle.new.valid open_ some none settled

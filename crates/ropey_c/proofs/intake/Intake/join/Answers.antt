@@ -13,8 +13,11 @@ returns-then-is_empty c =
     let k : ℕ = 4 - length old.rest in
     let first_is = c.front-first.ensures ∙ ap text_front c.four-len.ensures.bytes in
     let empty : length c.front-first.result.now ≡ 0 = search rules in
-    let nothing : utf8_valid_len (old.rest ++ take k c.args.bytes.now) ≡ 0 = sym (length-text_front _) ∙ sym (ap length first_is) ∙ empty in
-    let Settled : List ℕ → Type 0 = λ bytes. Settles old [] bytes c.settle.result c.args.valid.now c.settle.new.valid c.settle.new.self in
+    let nothing : utf8_valid_len (old.rest ++ take k c.args.bytes.now) ≡ 0 =
+    sym (length-text_front _) ∙ sym (ap length first_is) ∙ empty in
+    let Settled : List ℕ → Type 0 =
+    λ bytes. Settles old [] bytes c.settle.result c.args.valid.now c.settle.new.valid
+    c.settle.new.self in
     let settled : Settled (take c.four-len.result.1 c.four-len.result.0) = record {
       faulty = c.settle.ensures.faulty;
       fine = c.settle.ensures.fine;
@@ -24,8 +27,10 @@ returns-then-is_empty c =
       refused = c.settle.ensures.refused;
       breaks = c.settle.ensures.breaks;
     } in
-    takes_head old c.settle.new.self c.args.bytes.now c.settle.result c.args.valid.now c.settle.new.valid c.requires.open c.requires.some k
-    c.four-len.ensures.no_text c.four-len.ensures.waiting refl nothing (subst Settled c.four-len.ensures.bytes settled)
+    takes_head old c.settle.new.self c.args.bytes.now c.settle.result c.args.valid.now
+    c.settle.new.valid c.requires.open c.requires.some k
+    c.four-len.ensures.no_text c.four-len.ensures.waiting refl nothing
+    (subst Settled c.four-len.ensures.bytes settled)
 
 pub overflow_sub-first : goal.overflow_sub-first
 overflow_sub-first c =
@@ -64,9 +69,12 @@ returns c =
     ) in
     let gone : ℕ = length first - c.settle-2.inside.rest_len in
     let same : gone ≡ utf8_valid_len head - length old.rest = omega (arith, len, waiting) in
-    let behind : take (length bytes - gone) (drop gone bytes) ≡ drop (utf8_valid_len head - length old.rest) bytes =
+    let following : take (length bytes - gone) (drop gone bytes)
+    ≡ drop (utf8_valid_len head - length old.rest) bytes =
     take_all _ _ (omega (arith, length-drop gone bytes)) ∙ ap (λ n. drop n bytes) same in
-    let Settled : List ℕ → List ℕ → Type 0 = λ text rest. Settles old text rest c.settle-3.result c.args.valid.now c.settle-3.new.valid c.settle-3.new.self in
+    let Settled : List ℕ → List ℕ → Type 0 =
+    λ text rest. Settles old text rest c.settle-3.result c.args.valid.now c.settle-3.new.valid
+    c.settle-3.new.self in
     let settled : Settled first (take (length bytes - gone) (drop gone bytes)) = record {
       faulty = c.settle-3.ensures.faulty;
       fine = c.settle-3.ensures.fine;
@@ -76,6 +84,8 @@ returns c =
       refused = c.settle-3.ensures.refused;
       breaks = c.settle-3.ensures.breaks;
     } in
-    takes_split old c.settle-3.new.self bytes c.settle-3.result c.args.valid.now c.settle-3.new.valid c.requires.open c.requires.some k
+    takes_split old c.settle-3.new.self bytes c.settle-3.result c.args.valid.now
+    c.settle-3.new.valid c.requires.open c.requires.some k
     c.four-len.ensures.no_text c.four-len.ensures.waiting (omega (arith, len, more))
-    (subst (λ (text : List ℕ). Settled text (drop (utf8_valid_len head - length old.rest) bytes)) first_is (subst (Settled first) behind settled))
+    (subst (λ (text : List ℕ). Settled text (drop (utf8_valid_len head - length old.rest) bytes))
+    first_is (subst (Settled first) following settled))

@@ -3,7 +3,7 @@ use Rattle.std.specs.Str.{chars}
 use Rattle.rope_text.specs.Text.{byte_len}
 use Rattle.rope_text.proofs.Walks.{byte_len-chars}
 use Rattle.ropey_c.specs.Intake.{Taking}
-use Rattle.ropey_c.proofs.Bytes.{fits_from, byte_len-behind}
+use Rattle.ropey_c.proofs.Bytes.{fits_from, byte_len-following}
 use Rattle.ropey_c.proofs.Pending.{none_waits}
 use Rattle.ropey_c.proofs.intake.Intake.settle.Goals as goal
 
@@ -17,8 +17,11 @@ invariant_of-self-2 c =
     let none : c.self-2.inside.refused ≡ 0 = cc in
     let is = c.self-2.invariant.taken_is none in
     let shown_text = ap (λ (t : Taking). byte_len t.text) c.self-2.view_is in
-    let first = byte_len-behind old (chars text) (length text) (byte_len-chars text c.utf8.text) in
-    let second = byte_len-behind (old ++ chars text) (chars front) (length front) (byte_len-chars front c.front-front.utf8) in
+    let first =
+    byte_len-following old (chars text) (length text) (byte_len-chars text c.utf8.text) in
+    let second =
+    byte_len-following (old ++ chars text) (chars front) (length front)
+    (byte_len-chars front c.front-front.utf8) in
     record {
       taken_is = λ _. omega (arith, is, first, second, ap byte_len c.in-Ok.ensures.ok.0);
       fits = omega (arith, is, shown_text, fits_from _ c.if-not-has_room.ensures);

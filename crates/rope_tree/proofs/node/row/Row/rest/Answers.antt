@@ -9,7 +9,13 @@ pub returns-clause-row : goal.returns-clause-row
 returns-clause-row c = IfSome_then c.args.self.totals c.requires (λ totals p.
     let ts = c.args.self.nodes.now in
     let few = part_within ts totals.now c.args.self.from p in
-    let from : c.args.self.from + c.min-past.result ≡ c.saturating_add.result = omega (arith, few, p.children.at_most_24, c.min-past.ensures, c.saturating_add.ensures) in
-    let is : take (length ts - c.min-past.result) (drop c.min-past.result ts) ≡ drop c.args.past ts =
-    take_all (length ts - c.min-past.result) (drop c.min-past.result ts) (omega (arith, length-drop c.min-past.result ts)) ∙ ap (λ k. drop k ts) c.min-past.ensures ∙ drop_min c.args.past ts in
-    subst (λ us. IsPart us totals.now c.saturating_add.result) (sym is) (subst (IsPart (drop c.args.past ts) totals.now) from (part_rest ts totals.now c.args.self.from p c.args.past c.min-past.result c.min-past.ensures)))
+    let from : c.args.self.from + c.min-past.result ≡ c.saturating_add.result =
+    omega (arith, few, p.children.at_most_24, c.min-past.ensures, c.saturating_add.ensures) in
+    let is : take (length ts - c.min-past.result) (drop c.min-past.result ts)
+    ≡ drop c.args.past ts =
+    take_all (length ts - c.min-past.result) (drop c.min-past.result ts)
+    (omega (arith, length-drop c.min-past.result ts)) ∙ ap (λ k. drop k ts) c.min-past.ensures
+    ∙ drop_min c.args.past ts in
+    subst (λ us. IsPart us totals.now c.saturating_add.result) (sym is)
+    (subst (IsPart (drop c.args.past ts) totals.now) from
+    (part_rest ts totals.now c.args.self.from p c.args.past c.min-past.result c.min-past.ensures)))

@@ -5,7 +5,8 @@ use Rattle.rope_tree.proofs.search.count_rows.CountRows.insert.Goals.{After-self
 use Rattle.rope_tree.proofs.search.count_rows.CountRows.insert.Goals as goal
 
 narrow : (c : After-self) → IsNarrow c.args.total
-narrow c = c.requires.narrow (all_below c.self.inside c.args.self.now c.self.invariant c.self.view_is)
+narrow c =
+    c.requires.narrow (all_below c.self.inside c.args.self.now c.self.invariant c.self.view_is)
 
 pub overflow_cast-total : goal.overflow_cast-total
 overflow_cast-total c = omega (arith, (narrow (goal.at.overflow_cast-total c).After-self).bytes)
@@ -17,41 +18,79 @@ pub overflow_cast-total-3 : goal.overflow_cast-total-3
 overflow_cast-total-3 c = omega (arith, (narrow (goal.at.overflow_cast-total-3 c).After-self).pairs)
 
 pub overflow_cast-total-4 : goal.overflow_cast-total-4
-overflow_cast-total-4 c = omega (arith, (narrow (goal.at.overflow_cast-total-4 c).After-self).breaks)
+overflow_cast-total-4 c =
+    omega (arith, (narrow (goal.at.overflow_cast-total-4 c).After-self).breaks)
 
 pub put_in-requires : goal.put_in-requires
-put_in-requires c = omega (arith, c.requires.within, c.requires.room, c.self.invariant.bytes, many c.self.inside c.args.self.now c.self.view_is)
+put_in-requires c =
+    omega (
+      arith,
+      c.requires.within,
+      c.requires.room,
+      c.self.invariant.bytes,
+      many c.self.inside c.args.self.now c.self.view_is,
+    )
 
 pub put_in-requires-2 : goal.put_in-requires-2
-put_in-requires-2 c = omega (arith, c.requires.within, c.requires.room, c.self.invariant.chars, many c.self.inside c.args.self.now c.self.view_is)
+put_in-requires-2 c =
+    omega (
+      arith,
+      c.requires.within,
+      c.requires.room,
+      c.self.invariant.chars,
+      many c.self.inside c.args.self.now c.self.view_is,
+    )
 
 pub put_in-requires-3 : goal.put_in-requires-3
-put_in-requires-3 c = omega (arith, c.requires.within, c.requires.room, c.self.invariant.pairs, many c.self.inside c.args.self.now c.self.view_is)
+put_in-requires-3 c =
+    omega (
+      arith,
+      c.requires.within,
+      c.requires.room,
+      c.self.invariant.pairs,
+      many c.self.inside c.args.self.now c.self.view_is,
+    )
 
 pub put_in-requires-4 : goal.put_in-requires-4
-put_in-requires-4 c = omega (arith, c.requires.within, c.requires.room, c.self.invariant.breaks, many c.self.inside c.args.self.now c.self.view_is)
+put_in-requires-4 c =
+    omega (
+      arith,
+      c.requires.within,
+      c.requires.room,
+      c.self.invariant.breaks,
+      many c.self.inside c.args.self.now c.self.view_is,
+    )
 
 pub invariant_of-self : goal.invariant_of-self
 invariant_of-self c =
-    put_totals c.self.inside _ c.args.self.now c.self.invariant c.self.view_is c.args.place c.args.total c.requires.within c.requires.room (narrow (goal.at.invariant_of-self c).After-self)
+    put_totals c.self.inside _ c.args.self.now c.self.invariant c.self.view_is c.args.place
+    c.args.total c.requires.within c.requires.room (narrow (goal.at.invariant_of-self c).After-self)
     refl c.put_in.ensures c.put_in-2.ensures c.put_in-3.ensures c.put_in-4.ensures
 
 pub returns-clause-len : goal.returns-clause-len
 returns-clause-len c =
-    one_more c.self.inside _ c.args.self.now c.self.invariant c.self.view_is c.args.place c.args.total c.requires.within c.requires.room (narrow (goal.at.returns-clause-len c).After-self)
+    one_more c.self.inside _ c.args.self.now c.self.invariant c.self.view_is c.args.place
+    c.args.total c.requires.within c.requires.room
+    (narrow (goal.at.returns-clause-len c).After-self)
     refl c.put_in.ensures c.put_in-2.ensures c.put_in-3.ensures c.put_in-4.ensures
 
 pub returns-clause-before : goal.returns-clause-before
 returns-clause-before c =
-    put_before_same c.self.inside _ c.args.self.now c.self.invariant c.self.view_is c.args.place c.args.total c.requires.within c.requires.room (narrow (goal.at.returns-clause-before c).After-self)
+    put_before_same c.self.inside _ c.args.self.now c.self.invariant c.self.view_is c.args.place
+    c.args.total c.requires.within c.requires.room
+    (narrow (goal.at.returns-clause-before c).After-self)
     refl c.put_in.ensures c.put_in-2.ensures c.put_in-3.ensures c.put_in-4.ensures
 
 pub returns-clause-here : goal.returns-clause-here
 returns-clause-here c =
-    put_here c.self.inside _ c.args.self.now c.self.invariant c.self.view_is c.args.place c.args.total c.requires.within c.requires.room (narrow (goal.at.returns-clause-here c).After-self)
+    put_here c.self.inside _ c.args.self.now c.self.invariant c.self.view_is c.args.place
+    c.args.total c.requires.within c.requires.room
+    (narrow (goal.at.returns-clause-here c).After-self)
     refl c.put_in.ensures c.put_in-2.ensures c.put_in-3.ensures c.put_in-4.ensures
 
-pub returns-clause-behind : goal.returns-clause-behind
-returns-clause-behind c =
-    put_after_same c.self.inside _ c.args.self.now c.self.invariant c.self.view_is c.args.place c.args.total c.requires.within c.requires.room (narrow (goal.at.returns-clause-behind c).After-self)
+pub returns-clause-following : goal.returns-clause-following
+returns-clause-following c =
+    put_after_same c.self.inside _ c.args.self.now c.self.invariant c.self.view_is c.args.place
+    c.args.total c.requires.within c.requires.room
+    (narrow (goal.at.returns-clause-following c).After-self)
     refl c.put_in.ensures c.put_in-2.ensures c.put_in-3.ensures c.put_in-4.ensures

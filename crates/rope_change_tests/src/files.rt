@@ -1,0 +1,284 @@
+//! Files of literal bytes, read by readers that give them in pieces, and written back.
+use rope_files::{Encoding, ReadAnyError, ReadAnyResult, WriteAsError, read_any, write_as};
+use ropey::{LineBreaks, Rope};
+use std::alloc::Global;
+use std::io::{self, ErrorKind, Read};
+use std::process::Abort;
+use std::test::Fail;
+
+const ENCODINGS: [Encoding; 7] = [
+    Encoding::Utf8,
+    Encoding::Utf8Bom,
+    Encoding::Utf16Le,
+    Encoding::Utf16LeBom,
+    Encoding::Utf16Be,
+    Encoding::Utf16BeBom,
+    Encoding::Latin1,
+];
+
+/// Gives at most `most` bytes a read, and fails once `fails_at` were given.
+#[derive(Clone, Copy)]
+struct Parts<'a> {
+    rest: &'a [u8],
+    most: usize,
+    fails_at: Option<usize>,
+}
+
+impl Read for Parts<'_> {
+    fn read(&mut self, buf: &mut [u8]) -> io::Result<usize> {
+        let mut count = self.most.min(self.rest.len()).min(buf.len());
+        if let Some(left) = self.fails_at {
+            if left == 0 {
+                return Err(io::Error::from(ErrorKind::BrokenPipe));
+            }
+            count = count.min(left);
+            self.fails_at = Some(left - count);
+        }
+        let (given, rest) = self.rest.split_at(count);
+        buf[..count].copy_from_slice(given);
+        self.rest = rest;
+        Ok(count)
+    }
+}
+
+fn in_parts(bytes: &[u8], most: usize) -> Parts<'_> {
+    Parts {
+        rest: bytes,
+        most,
+        fails_at: None,
+    }
+}
+
+fn read(
+    alloc: Global,
+    bytes: &[u8],
+    most: usize,
+    declared: Option<Encoding>,
+) -> ReadAnyResult<(Rope, Encoding)> {
+    read_any(alloc, in_parts(bytes, most), LineBreaks::Unicode, declared)
+}
+
+/// Checks that the bytes are read as this text, in pieces of several sizes, and written back.
+fn expect_kept(
+    rt: &impl Abort,
+    alloc: Global,
+    bytes: &[u8],
+    declared: Option<Encoding>,
+    text: &str,
+    encoding: Encoding,
+) -> Result<(), Fail> {
+    for most in [1, 2, 3, 5, 4096] {
+        let (rope, found) = read(alloc, bytes, most, declared).expect(rt, "the bytes are a text");
+        assert!(rt; found == encoding);
+        assert!(rt; rope.eq_str(text));
+        let mut written = Vec::new(alloc);
+        write_as(&rope, found, &mut written).expect(rt, "the text is written");
+        assert!(rt; written.as_slice() == bytes);
+    }
+    Ok(())
+}
+
+/// A number for each error and its offset.
+fn code(outcome: ReadAnyResult<(Rope, Encoding)>) -> (u8, u64) {
+    match outcome {
+        Ok(_) => (0, 0),
+        Err(ReadAnyError::Read(_)) => (1, 0),
+        Err(ReadAnyError::NoMark) => (2, 0),
+        Err(ReadAnyError::InvalidUtf8) => (3, 0),
+        Err(ReadAnyError::UnpairedSurrogate(at)) => (4, at),
+        Err(ReadAnyError::HalfCodeUnit(at)) => (5, at),
+        Err(ReadAnyError::Rope(_)) => (6, 0),
+    }
+}
+
+/// Checks that the bytes are refused with this error, in pieces of several sizes.
+fn expect_refused(
+    rt: &impl Abort,
+    alloc: Global,
+    bytes: &[u8],
+    declared: Option<Encoding>,
+    error: (u8, u64),
+) -> Result<(), Fail> {
+    for most in [1, 2, 3, 5, 4096] {
+        let (kind, at) = code(read(alloc, bytes, most, declared));
+        assert!(rt; kind == error.0);
+        assert!(rt; at == error.1);
+    }
+    Ok(())
+}
+
+#[test]
+fn a_mark_says_the_encoding(rt: HostRuntime) -> Result<(), Fail> {
+    let alloc = rt.alloc();
+    expect_kept(&rt, alloc, b"", None, "", Encoding::Utf8)?;
+    expect_kept(&rt, alloc, b"a", None, "a", Encoding::Utf8)?;
+    expect_kept(
+        &rt,
+        alloc,
+        b"h\xC3\xA9llo\r\n",
+        None,
+        "h\u{E9}llo\r\n",
+        Encoding::Utf8,
+    )?;
+    expect_kept(&rt, alloc, b"\xEF\xBB\xBF", None, "", Encoding::Utf8Bom)?;
+    expect_kept(&rt, alloc, b"\xEF\xBB\xBFab", None, "ab", Encoding::Utf8Bom)?;
+    expect_kept(&rt, alloc, b"\xFF\xFE", None, "", Encoding::Utf16LeBom)?;
+    expect_kept(
+        &rt,
+        alloc,
+        b"\xFF\xFEa\0\n\0",
+        None,
+        "a\n",
+        Encoding::Utf16LeBom,
+    )?;
+    expect_kept(
+        &rt,
+        alloc,
+        b"\xFE\xFF\0a\0\n",
+        None,
+        "a\n",
+        Encoding::Utf16BeBom,
+    )?;
+    expect_kept(&rt, alloc, b"\xFE\xFF", None, "", Encoding::Utf16BeBom)
+}
+
+#[test]
+fn a_declaration_decides(rt: HostRuntime) -> Result<(), Fail> {
+    let alloc = rt.alloc();
+    let utf8 = Some(Encoding::Utf8);
+    expect_kept(
+        &rt,
+        alloc,
+        b"\xEF\xBB\xBFab",
+        utf8,
+        "\u{FEFF}ab",
+        Encoding::Utf8,
+    )?;
+    let latin1 = Some(Encoding::Latin1);
+    expect_kept(
+        &rt,
+        alloc,
+        b"\xFF\xFEa\0",
+        latin1,
+        "\u{FF}\u{FE}a\0",
+        Encoding::Latin1,
+    )?;
+    let little = Some(Encoding::Utf16Le);
+    expect_kept(
+        &rt,
+        alloc,
+        b"a\0\xE9\0",
+        little,
+        "a\u{E9}",
+        Encoding::Utf16Le,
+    )?;
+    expect_kept(
+        &rt,
+        alloc,
+        b"\xFF\xFEa\0",
+        little,
+        "\u{FEFF}a",
+        Encoding::Utf16Le,
+    )?;
+    let big = Some(Encoding::Utf16Be);
+    expect_kept(&rt, alloc, b"\0a\0\xE9", big, "a\u{E9}", Encoding::Utf16Be)?;
+    expect_refused(&rt, alloc, b"a\0", Some(Encoding::Utf16LeBom), (2, 0))?;
+    expect_refused(
+        &rt,
+        alloc,
+        b"\xFE\xFF\0a",
+        Some(Encoding::Utf16LeBom),
+        (2, 0),
+    )?;
+    expect_refused(&rt, alloc, b"", Some(Encoding::Utf8Bom), (2, 0))?;
+    expect_refused(&rt, alloc, b"\xEF\xBB", Some(Encoding::Utf8Bom), (2, 0))
+}
+
+#[test]
+fn pairs_are_read_over_the_ends_of_reads(rt: HostRuntime) -> Result<(), Fail> {
+    let alloc = rt.alloc();
+    let little = b"\xFF\xFEx\0\x3D\xD8\x00\xDE\xAC\x20";
+    expect_kept(
+        &rt,
+        alloc,
+        little,
+        None,
+        "x\u{1F600}\u{20AC}",
+        Encoding::Utf16LeBom,
+    )?;
+    let big = b"\xFE\xFF\0x\xD8\x3D\xDE\x00\x20\xAC";
+    expect_kept(
+        &rt,
+        alloc,
+        big,
+        None,
+        "x\u{1F600}\u{20AC}",
+        Encoding::Utf16BeBom,
+    )
+}
+
+#[test]
+fn invalid_text_is_refused_at_its_offset(rt: HostRuntime) -> Result<(), Fail> {
+    let alloc = rt.alloc();
+    let big = Some(Encoding::Utf16Be);
+    expect_refused(&rt, alloc, b"\xFF\xFEa", None, (5, 2))?;
+    expect_refused(&rt, alloc, b"\xFF\xFEa\0b", None, (5, 4))?;
+    expect_refused(&rt, alloc, b"\xFE\xFF\0a\xD8\x3D", None, (4, 4))?;
+    expect_refused(&rt, alloc, b"\0a\xD8\x3D\xDE", big, (4, 2))?;
+    expect_refused(&rt, alloc, b"\0a\xD8\x3D\0b", big, (4, 2))?;
+    expect_refused(&rt, alloc, b"\xDE\x00\0b", big, (4, 0))?;
+    expect_refused(&rt, alloc, b"\xD8\x3D\xD8\x3D\xDE\x00", big, (4, 0))?;
+    expect_refused(&rt, alloc, b"ab\xC3", None, (3, 0))?;
+    expect_refused(&rt, alloc, b"\xEF\xBB\xBFab\xFFc", None, (3, 0))
+}
+
+#[test]
+fn latin1_has_all_bytes(rt: HostRuntime) -> Result<(), Fail> {
+    let alloc = rt.alloc();
+    let mut bytes = Vec::new(alloc);
+    let mut text = String::new(alloc);
+    for byte in 0..=255u8 {
+        bytes.push(byte)?;
+        text.push(char::from(byte))?;
+    }
+    let latin1 = Some(Encoding::Latin1);
+    expect_kept(&rt, alloc, &bytes, latin1, &text, Encoding::Latin1)?;
+    let rope = Rope::from_str(alloc, "\u{FF}\u{100}").expect(&rt, "there is memory");
+    let mut written = Vec::new(alloc);
+    match write_as(&rope, Encoding::Latin1, &mut written) {
+        Err(WriteAsError::Unencodable(1)) => assert!(rt; written.is_empty()),
+        _ => assert!(rt; false),
+    }
+    Ok(())
+}
+
+#[test]
+fn long_texts_are_kept_in_each_encoding(rt: HostRuntime) -> Result<(), Fail> {
+    let alloc = rt.alloc();
+    let mut text = String::new(alloc);
+    for _ in 0..3000 {
+        text.push_str("a\u{E9}\r\n")?;
+    }
+    let rope = Rope::from_str(alloc, &text).expect(&rt, "there is memory");
+    for encoding in ENCODINGS {
+        let mut written = Vec::new(alloc);
+        write_as(&rope, encoding, &mut written).expect(&rt, "the text is written");
+        expect_kept(&rt, alloc, &written, Some(encoding), &text, encoding)?;
+    }
+    Ok(())
+}
+
+#[test]
+fn a_failed_read_is_returned(rt: HostRuntime) -> Result<(), Fail> {
+    let alloc = rt.alloc();
+    for left in 0..6 {
+        let reader = Parts {
+            rest: b"\xFF\xFEa\0\x3D\xD8\x00\xDE",
+            most: 2,
+            fails_at: Some(left),
+        };
+        let result = read_any(alloc, reader, LineBreaks::Unicode, None);
+        assert!(rt; code(result).0 == 1);
+    }
+    Ok(())
+}
