@@ -40,6 +40,8 @@ esac
 archive=$(realpath -m "${1:-$folder/libropey.a}")
 work=$(mktemp -d)
 trap 'rm -rf "$work"' EXIT
+# It is the gate's line on another archive.
+rm -f "${archive%.a}.gate"
 
 # Writes the output of the proof to a file, and its progress to standard output.
 shown() {

@@ -6,7 +6,7 @@
 # It needs a C compiler ($CC, or `cc`) to link the shared object. It writes
 #
 #     FOLDER/include/ropey.h, ropey.hpp
-#     FOLDER/lib/libropey.a, libropey.sources, libropey.proved
+#     FOLDER/lib/libropey.a, libropey.sources, libropey.proved, and libropey.gate if the gate built the archive
 #     FOLDER/lib/libropey.so -> libropey.so.1 -> libropey.so.VERSION
 #     FOLDER/lib/pkgconfig/ropey.pc, ropey-shared.pc  for the archive, and for the shared object
 #     FOLDER/lib/cmake/ropey/ropey-config.cmake       targets ropey::ropey and ropey::shared, likewise
@@ -27,7 +27,9 @@ trap 'rm -rf "$work"' EXIT
 
 mkdir -p "$folder/include" "$folder/lib/pkgconfig" "$folder/lib/cmake/ropey" "$folder/share/man/man3"
 cp "$header" "$top/bindings/c/ropey.hpp" "$folder/include"
-for file in "$archive" "${archive%.a}.sources" "${archive%.a}.proved"; do
+files=("$archive" "${archive%.a}.sources" "${archive%.a}.proved")
+[ ! -f "${archive%.a}.gate" ] || files+=("${archive%.a}.gate")
+for file in "${files[@]}"; do
     [ "$file" -ef "$folder/lib/$(basename "$file")" ] || cp "$file" "$folder/lib"
 done
 sed "s/@VERSION@/$version/" "$top/bindings/release/ropey.3" > "$folder/share/man/man3/ropey.3"

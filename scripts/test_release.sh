@@ -91,8 +91,9 @@ sys.exit(library.ropey_status_text(status) != b"the bytes are not UTF-8")
 PYTHON
 fi
 
-# The release has the result of the library's proof.
+# The release has the result of the library's proof, and that of the gate if the gate built the archive.
 grep -q '^logic=proved functions=' "$lib/libropey.proved"
+[ ! -f "$lib/libropey.gate" ] || grep -qE '^[0-9]+ passed, 0 failed$' "$lib/libropey.gate"
 
 # The shared object needs no newer C library than the release's README says.
 newest=$(nm -D "$lib/libropey.so" | sed -n 's/.*@GLIBC_//p' | sort -V | tail -n 1)
