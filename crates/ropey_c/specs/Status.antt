@@ -36,8 +36,8 @@ number_of Lf = LF
 number_of CrLf = LF_CR
 number_of Unicode = UNICODE
 
--- a call that takes memory answers the error that its arguments give; where they give none it is
--- done, or memory was refused
+-- the status of a call that takes memory: that of the error of its arguments; without an error, OK
+-- or OUT_OF_MEMORY
 abbrev pub IsStatus : Option Error → ℕ → Type 0
 IsStatus None status = (status ≡ OK) ⊎ (status ≡ OUT_OF_MEMORY)
 IsStatus (Some e) status = status ≡ status_of e
