@@ -35,6 +35,8 @@ mod rows;
 #[cfg(test)]
 mod runs;
 #[cfg(test)]
+mod seams;
+#[cfg(test)]
 mod served;
 #[cfg(test)]
 mod serving;
