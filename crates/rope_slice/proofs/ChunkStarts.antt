@@ -21,6 +21,7 @@ use Rattle.rope_text.proofs.CuttingLaws.{concat-append}
 use Rattle.rope_text.proofs.ChunkLaws.{before_more}
 use Rattle.rope_text.proofs.LookupLaws.{chunk_index_at_byte_is, chunk_index_at_char_is, chunk_index_at_line_break-le}
 use Rattle.rope_text.specs.Lines.{line_count}
+use Rattle.rope_text.proofs.LineLaws.{line_start_first}
 use Rattle.rope_text.proofs.Measures.{IsMeasure-byte_len}
 use Rattle.rope_text.specs.Conversions.{char_to_line}
 use Rattle.rope_tree.specs.declared.search.Unit.{Unit}
@@ -28,6 +29,7 @@ use Rattle.rope_tree.specs.declared.search.Unit.TheVariants.{Byte, Char, CodeUni
 use Rattle.rope_tree.specs.Search.{count_of}
 use Rattle.rope_slice.specs.Starts.{AreBefore, IsItem, size_in, chunk_place}
 use Rattle.rope_slice.proofs.ClippedChunks.{front_less}
+use Rattle.rope_slice.proofs.FoundChunks.{first_index, line_break_index}
 use Rattle.rope_slice.specs.Path.{Place, leaves}
 
 no_chunks : (chunks : List (List ℕ)) → All (λ chunk. 0 < length chunk) chunks
@@ -172,7 +174,7 @@ module _ (breaks : LineBreaks) (p : Place) (text : List ℕ) (chunks : List (Lis
   all_chars : info.chars ≡ length text
   all_chars = ap (λ i. i.chars) info_is
 
-  stands_before : (k bytes chars count : ℕ) → 0 < length text → k ≡ length p.before
+  pub stands_before : (k bytes chars count : ℕ) → 0 < length text → k ≡ length p.before
       → AreBefore breaks text p.before bytes chars count
       → StandsAt breaks chunks k (at_chunk p (info.chars == 0) false false) bytes chars count
   unfolding found_chunk
@@ -345,3 +347,30 @@ module _ (breaks : LineBreaks) (text : List ℕ) (chunks : List (List ℕ))
       let place : chunk_place_at_char chunks (length (front_chunks chunks index)) ≡ index =
       chunk_start_place chunks cut.nonempty index (chunk_index_at_line_break-le breaks chunks k) in
       ap (chunk_place_at_char chunks) at ∙ place ∙ sym own
+
+first_char : (chunks : List (List ℕ)) → All (λ chunk. 0 < length chunk) chunks
+    → chunk_index_at_char chunks 0 ≡ 0
+unfolding chunk_index_at_char
+first_char [] full = refl
+first_char (chunk ∷ chunks) full = first_index chunk chunks (full 0 [] (omega arith))
+
+-- before the first line break is the first chunk
+pub no_break_place : (breaks : LineBreaks) (text : List ℕ) (chunks : List (List ℕ))
+    → IsCutting text chunks
+    → chunk_place_at_char chunks 0 ≡ chunk_place_at_line_break breaks chunks 0
+no_break_place breaks text chunks cut =
+    let index : chunk_index_at_line_break breaks chunks 0 ≡ 0 =
+    line_break_index breaks chunks 0 cut.nonempty
+    ∙ ap (λ n. chunk_index_at_char chunks (n - 1)) (line_start_first breaks (concat chunks))
+    ∙ first_char chunks cut.nonempty in
+    line_break_start breaks text chunks cut 0 0 (omega arith)
+    (sym (ap (λ k. length (front_chunks chunks k)) index))
+
+-- a break of the text is in the chunk that a lookup of it returns
+pub break_place : (breaks : LineBreaks) (text : List ℕ) (chunks : List (List ℕ))
+    → IsCutting text chunks → (k : ℕ) → k < line_count breaks text
+    → chunk_place_at_line_break breaks chunks k ≡ chunk_index_at_line_break breaks chunks k
+break_place breaks text chunks cut k less =
+    place_inside chunks k (line_count breaks (concat chunks))
+    (chunk_index_at_line_break breaks chunks k)
+    (λ e. omega (arith, e, lines_are breaks text chunks cut k 0, less))

@@ -133,7 +133,7 @@ line_break_index breaks chunks k full =
     (omega (arith, h.starts)))))
 
 -- the first chunk is the text exactly where there is no other
-first_index : (x : List ℕ) (chunks : List (List ℕ)) → 0 < length x
+pub first_index : (x : List ℕ) (chunks : List (List ℕ)) → 0 < length x
     → chunk_index_at_char (x ∷ chunks) 0 ≡ 0
 first_index x chunks some =
     chunk_index_at_char_is (x ∷ chunks) 0 0 (omega arith) (omega arith)

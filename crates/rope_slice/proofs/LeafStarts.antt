@@ -82,7 +82,7 @@ module _ (t : Tree) (start end : TextInfo) (p : Place) (info : TextInfo) (tree :
   bytes_are : info.bytes ≡ byte_len (concat p.before)
   bytes_are = ap (λ x. x.bytes) i
 
-  solid : All (λ leaf. 0 < length leaf) (leaves p)
+  pub solid : All (λ leaf. 0 < length leaf) (leaves p)
   solid = subst (λ ls. All (λ leaf. 0 < length leaf) ls) (sym e)
       (nonempty_leaves t.leaves tree.leaves.each)
 

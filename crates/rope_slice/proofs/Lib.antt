@@ -20,6 +20,7 @@ pub mod ChunkStarts
 pub mod ByteCursors
 pub mod CharCursors
 pub mod LeafStarts
+mod BreakStarts
 pub mod PathLaws
 pub mod Points
 pub mod Spans

@@ -1,11 +1,16 @@
 -- The start of a cursor over chunks.
-use Rattle.std.specs.Prelude.{◌≡◌, ⊤, ℕ, ◌+◌, ◌<◌, ◌≤◌, List, length}
-use Rattle.std.specs.List.{concat}
+use Rattle.std.specs.Prelude.{◌≡◌, ⊤, ℕ, ◌+◌, ◌-◌, ◌<◌, ◌≤◌, List, length, min}
+use Rattle.std.specs.List.{concat, slice_range}
 use Rattle.rope_text.specs.declared.line_breaks.LineBreaks.{LineBreaks}
 use Rattle.rope_text.specs.Text.{byte_len}
 use Rattle.rope_text.specs.Content.{Content}
 use Rattle.rope_text.specs.Conversions.{char_to_line}
-use Rattle.rope_text.specs.Lookup.{chunk_place_at_byte, chunk_place_at_char}
+use Rattle.rope_text.specs.Cutting.{clip}
+use Rattle.rope_text.specs.Lookup.{chunk_index_at_line_break, chunk_place_at_byte, chunk_place_at_char}
+use Rattle.rope_text.specs.declared.text_info.TextInfo.{TextInfo}
+use Rattle.rope_text.specs.TextInfo.{info_of}
+use Rattle.rope_tree.specs.Tree.{Tree, text as tree_text}
+use Rattle.rope_tree.specs.Found.{IsFound}
 use Rattle.rope_tree.specs.declared.search.Unit.{Unit}
 use Rattle.rope_tree.specs.declared.search.Unit.TheVariants.{Byte, Char, CodeUnit, LineBreak}
 use Rattle.rope_slice.specs.Path.{Place, leaves}
@@ -51,3 +56,20 @@ pub record IsHolding (unit : Unit) (idx : ℕ) (c : Content) (p : Place)
   pub within : idx ≤ size_in unit (concat p.before) + size_in unit p.here
   pub inside : idx < size_in unit c.text
       → idx < size_in unit (concat p.before) + size_in unit p.here
+
+-- the chunk here is the part of a leaf in which the break before a line of an excerpt ends; with the
+-- counts of the leaf, and those of the tree's text before it
+pub record IsAtBreak (line : ℕ) (t : Tree) (start end : TextInfo) (p : Place) (leaf : List ℕ)
+    (inside front : TextInfo) : Type 0 where
+  pub found : IsFound LineBreak (start.break_count + line - 1) t leaf front
+  pub inside_is : inside ≡ info_of t.breaks leaf
+  pub text : concat (leaves p) ≡ slice_range (tree_text t) start.chars end.chars
+  pub chunks : leaves p ≡ clip t.leaves start.chars end.chars
+  pub before : AreBefore t.breaks (slice_range (tree_text t) start.chars end.chars) p.before
+      (front.bytes - start.bytes) (front.chars - start.chars)
+      (front.break_count - start.break_count)
+  pub in_order : front.bytes ≤ end.bytes
+  pub upto : byte_len (concat p.before) + byte_len p.here
+      ≡ min (front.bytes + byte_len leaf) end.bytes - start.bytes
+  pub index : chunk_index_at_line_break t.breaks (clip t.leaves start.chars end.chars) line
+      ≡ length p.before

@@ -1,4 +1,4 @@
-//! A cursor over the chunks of a slice. A start costs one or two lookups. No call takes memory.
+//! A cursor over the chunks of a slice. A start costs one lookup. No call takes memory.
 ghost use Rattle.std.specs.Prelude.{◌≡◌, ◌≤◌, length, List, ⊤};
 ghost use Rattle.std.specs.Bool.{MatchBool};
 ghost use Rattle.std.specs.Str.{chars};
@@ -130,12 +130,20 @@ impl<'a> RopeSlice<'a> {
             result }
     {
         let info = self.info();
-        let char_idx = if line_break_idx > info.break_count {
-            info.chars
-        } else {
-            self.chunk_at_line_break(line_break_idx).2
+        if line_break_idx == 0 {
+            return self.chunks_from(Unit::Char, 0);
+        }
+        if line_break_idx > info.break_count {
+            return self.chunks_from(Unit::Char, info.chars);
+        }
+        let (span, front) = Span::at_break(self, line_break_idx);
+        let chunks = Chunks {
+            span,
+            is_empty: info.chars == 0,
+            is_past: false,
+            is_backward: false,
         };
-        self.chunks_from(Unit::Char, char_idx)
+        (chunks, front.bytes, front.chars, front.break_count)
     }
 
     /// Returns a cursor as `chunks_at_byte` does, or `None` exactly if the index is past

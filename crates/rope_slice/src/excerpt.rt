@@ -1,9 +1,13 @@
 //! Slices of a tree's text with at least one character.
-ghost use Rattle.std.specs.Prelude.{◌≡◌, ◌+◌, ◌-◌, ◌≤◌, ◌<◌, length, take};
+ghost use Rattle.std.specs.Prelude.{◌≡◌, ◌+◌, ◌-◌, ◌≤◌, ◌<◌, length, min, take};
 ghost use Rattle.std.specs.Str.{chars};
 ghost use Rattle.rope_text.specs.declared.TheConstants.{MAX_HEIGHT};
+ghost use Rattle.rope_text.specs.Breaks.{break_count};
+ghost use Rattle.rope_text.specs.Text.{byte_len};
 ghost use Rattle.rope_text.specs.TextInfo.{info_of};
 ghost use Rattle.rope_text.specs.Lines.{line_start, line_count};
+ghost use Rattle.rope_tree.specs.declared.search.Unit.TheVariants.{LineBreak};
+ghost use Rattle.rope_tree.specs.Found.{IsFound};
 ghost use Rattle.rope_tree.specs.Search.{count_of};
 ghost use Rattle.rope_tree.specs.Tree.{IsTree, text};
 ghost use Rattle.rope_slice.specs.Edge.{start_info, end_info, line_info, IsLeafFrom, IsExcerpt, IsExcerpt-prop, IsLowTree, IsLowTree-prop};
@@ -29,6 +33,25 @@ fn line_start_at(node: &Node, line_idx: usize) -> (TextInfo, &str)
         (line_start node.now.breaks (text node.now) line_idx) (chars result.1.now) }
 {
     let found = leaf_at(node, Unit::LineBreak, line_idx - 1, &mut Steps::new());
+    line_start_in(node, line_idx, found)
+}
+
+// Returns what `line_start_at` does, given the leaf in which the break before the line ends.
+#[inline(always)]
+fn line_start_in<'a>(node: &Node, line_idx: usize, found: Found<'a>) -> (TextInfo, &'a str)
+    requires later { 0 < line_idx }
+    requires within { line_idx < line_count node.now.breaks (text node.now) }
+    requires tree { IsTree node.now }
+    requires found { IsFound LineBreak (line_idx - 1) node.now found.leaf found.before }
+    requires inside { found.inside ≡ info_of node.now.breaks found.leaf }
+    ensures before { result.0 ≡ line_info node.now.breaks (text node.now) line_idx }
+    ensures from { found.entry.before.bytes ≤ result.0.bytes }
+    ensures upto { result.0.bytes ≤ found.entry.before.bytes + byte_len found.entry.leaf }
+    ensures rest { IsLeafFrom node.now (line_start node.now.breaks (text node.now) line_idx)
+        (chars result.1.now) }
+    ensures chunk { IsInChunk (text node.now) node.now.leaves
+        (line_start node.now.breaks (text node.now) line_idx) (chars result.1.now) }
+{
     let leaf = found.leaf.as_str();
     let line = line_idx - found.before.break_count;
     let front = TextInfo::before_line(leaf, found.inside, line, node.line_breaks());
@@ -92,7 +115,6 @@ impl<'a> Excerpt<'a> {
     ghost use Rattle.rope_text.specs.Cutting.{clip, single_chunk};
     ghost use Rattle.rope_text.specs.Conversions.{byte_to_char};
     ghost use Rattle.rope_text.specs.Edit.{is_char_boundary};
-    ghost use Rattle.rope_text.specs.Text.{byte_len};
     ghost use Rattle.rope_slice.specs.LeafPlace.{IsLeafPlace};
     ghost use Rattle.rope_slice.specs.Excerpt.{content_of, text_of, chunks_of, breaks_of};
 
@@ -303,8 +325,10 @@ impl<'a> Excerpt<'a> {
         requires within { place.chars ≤ length (text self.now.node.now) }
         requires counts { place
             ≡ end_info (breaks_of self.now) (text self.now.node.now) place.chars }
-        ensures { result ≡ info_of (breaks_of self.now)
+        ensures value { result ≡ info_of (breaks_of self.now)
             (take (place.chars - self.now.start.chars) (text_of self.now)) }
+        ensures bytes { result.bytes
+            ≡ min place.bytes self.now.end.bytes - self.now.start.bytes }
     {
         if place.chars >= self.end.chars {
             return self.info();
@@ -327,6 +351,25 @@ impl<'a> Excerpt<'a> {
         }
         let place = self.place(Unit::LineBreak, line_idx);
         self.counts_to(line_start_at(self.node, place).0)
+    }
+
+    /// Returns the counts of the slice's text before a line that is not the first, given the leaf
+    /// in which the break before it ends. Takes no lookup.
+    #[inline(always)]
+    pub(crate) fn before_line_in(&self, line_idx: usize, found: Found<'_>) -> TextInfo
+        requires later { 0 < line_idx }
+        requires within { line_idx ≤ break_count (breaks_of self.now) (text_of self.now) }
+        requires found { IsFound LineBreak (self.now.start.break_count + line_idx - 1)
+            self.now.node.now found.leaf found.before }
+        requires inside { found.inside ≡ info_of self.now.node.now.breaks found.leaf }
+        ensures value { result ≡ line_info (breaks_of self.now) (text_of self.now) line_idx }
+        ensures from { min found.entry.before.bytes self.now.end.bytes - self.now.start.bytes
+            ≤ result.bytes }
+        ensures upto { result.bytes ≤ min (found.entry.before.bytes + byte_len found.entry.leaf)
+            self.now.end.bytes - self.now.start.bytes }
+    {
+        let place = self.place(Unit::LineBreak, line_idx);
+        self.counts_to(line_start_in(self.node, place, found).0)
     }
 
     /// Returns the counts of the slice's text before a line and before the next one, and the rest

@@ -1,5 +1,5 @@
-//! Lines of a slice by their number, and a cursor over them. A start costs one or two lookups. No
-//! call takes memory.
+//! Lines of a slice by their number, and a cursor over them. A start costs one lookup. No call takes
+//! memory.
 //!
 //! The slice of all of `"a\nb\n"` has the lines `"a\n"`, `"b\n"` and `""`.
 ghost use Rattle.std.specs.Prelude.{◌≡◌, ◌≤◌, ◌<◌, ◌+◌, ◌++◌, ⊤, false, take, drop, length, MatchOption, IfSome};
@@ -74,7 +74,7 @@ impl<'a> Model for Lines<'a> {
 impl<'a> RopeSlice<'a> {
     // Returns the counts of the text before a line; past the last line those of all of it.
     #[inline(always)]
-    fn before_line(&self, line_idx: usize) -> TextInfo
+    pub(crate) fn before_line(&self, line_idx: usize) -> TextInfo
         requires { line_idx ≤ line_count (breaks_of self.now) (text_of self.now) }
         ensures { result ≡ line_info (breaks_of self.now) (text_of self.now) line_idx }
     {
@@ -156,8 +156,7 @@ impl<'a> RopeSlice<'a> {
     {
         // For the proof: `info` ensures that a slice has at most `isize::MAX` bytes.
         let _ = self.info();
-        let before = self.before_line(line_idx);
-        let (span, inside) = Span::at_counts(self, before);
+        let (span, before, inside) = Span::at_line(self, line_idx);
         let caret = Caret { span, inside };
         (caret, before)
     }

@@ -4,19 +4,20 @@ ghost use Rattle.std.specs.Prelude.{◌≡◌, ◌+◌, ◌-◌, ◌<◌, ◌≤
 ghost use Rattle.std.specs.Bool.{OnTrue, OnFalse};
 ghost use Rattle.std.specs.List.{concat};
 ghost use Rattle.std.specs.Str.{chars};
+ghost use Rattle.rope_text.specs.Breaks.{break_count};
 ghost use Rattle.rope_text.specs.Text.{byte_len};
 ghost use Rattle.rope_text.specs.TextInfo.{info_of};
 ghost use Rattle.rope_tree.specs.Search.{count_of};
 ghost use Rattle.rope_tree.specs.Tree.{Tree, IsTree, text};
-ghost use Rattle.rope_slice.specs.Excerpt.{content_of as excerpt_content, text_of as excerpt_text};
+ghost use Rattle.rope_slice.specs.Excerpt.{content_of as excerpt_content, text_of as excerpt_text, breaks_of as excerpt_breaks};
 ghost use Rattle.rope_slice.specs.Path.{leaves, IsBeside, IsLast, IsNext, HoldsPlace};
 ghost use Rattle.rope_slice.specs.Descent.{IsLow, AreListed};
-ghost use Rattle.rope_slice.specs.Starts.{IsItem, IsHolding, size_in};
+ghost use Rattle.rope_slice.specs.Starts.{IsItem, IsHolding, IsAtBreak, size_in};
 
 use crate::excerpt::{Before, Excerpt};
 use rope_text::str_utils::byte_len_of;
 use rope_text::{Steps, TextInfo};
-use rope_tree::{Node, Totals, Unit, View, count, place_of, total_before};
+use rope_tree::{Found, Node, Totals, Unit, View, count, place_of, total_before};
 use std::marker::Model;
 
 /// A leaf of a tree, seen as the leaves before it, the leaf, and the leaves after it.
@@ -87,15 +88,18 @@ fn touch_heads(nodes: &[Node]) -> bool {
 }
 
 impl<'a> Path<'a> {
-    /// Returns the path to the leaf that contains an index of a tree's text, and the counts of the
-    /// text before the leaf. Enters each node on the path once.
+    /// Returns the path to the leaf that contains an index of a tree's text, and the leaf with its
+    /// counts and those of the text before it. Enters each node on the path once.
     // Inlined, since a call would return the path through memory.
     #[inline(always)]
-    pub(crate) fn at(root: &'a Node, unit: Unit, idx: usize) -> (Path<'a>, TextInfo)
+    pub(crate) fn at(root: &'a Node, unit: Unit, idx: usize) -> (Path<'a>, Found<'a>)
         requires within { idx < count_of unit (info_of root.now.breaks (text root.now)) }
         requires tree { IsTree root.now }
         ensures leaves { leaves result.0 ≡ root.now.leaves }
-        ensures holds { HoldsPlace unit root.now.breaks idx result.0.before result.0.here result.1 }
+        ensures leaf { result.1.leaf ≡ result.0.here }
+        ensures inside { result.1.inside ≡ info_of root.now.breaks result.0.here }
+        ensures holds { HoldsPlace unit root.now.breaks idx result.0.before result.0.here
+            result.1.before }
     {
         let mut here = root;
         // A leaf's counts come from its list's totals, so that no walk misses on the leaf's head.
@@ -105,19 +109,22 @@ impl<'a> Path<'a> {
         'down: loop {
             match here.known_view(inside) {
                 View::Leaf(leaf) => {
-                    let leaf = leaf.as_str();
-                    let start = before.bytes;
-                    return (
-                        Path {
-                            root,
-                            nodes,
-                            totals,
-                            at,
-                            leaf,
-                            start,
-                        },
+                    let found = Found {
+                        leaf,
+                        inside,
                         before,
-                    );
+                    };
+                    let leaf = found.leaf.as_str();
+                    let start = before.bytes;
+                    let path = Path {
+                        root,
+                        nodes,
+                        totals,
+                        at,
+                        leaf,
+                        start,
+                    };
+                    return (path, found);
                 }
                 View::Inner(children, sums) => {
                     at = place_of(sums, unit, rest, &mut Steps::new());
@@ -278,10 +285,27 @@ impl<'a> TreeSpan<'a> {
     {
         let start = excerpt.start;
         let place = excerpt.place(unit, idx).min(count(excerpt.end, unit) - 1);
-        let (path, before) = Path::at(excerpt.node, unit, place);
+        let (path, found) = Path::at(excerpt.node, unit, place);
         let (from, to) = (start.bytes, excerpt.end.bytes);
         let span = TreeSpan { path, from, to };
-        (span, Before::since(before, start))
+        (span, Before::since(found.before, start))
+    }
+
+    /// Returns the chunk of an excerpt in which the line break before a line ends, and the leaf of
+    /// that chunk. The line is not the first.
+    // Inlined, since a call would return the path through memory.
+    #[inline(always)]
+    pub(crate) fn at_break(excerpt: &Excerpt<'a>, line_idx: usize) -> (TreeSpan<'a>, Found<'a>)
+        requires later { 0 < line_idx }
+        requires within { line_idx
+            ≤ break_count (excerpt_breaks excerpt.now) (excerpt_text excerpt.now) }
+        ensures { IsAtBreak line_idx excerpt.now.node.now excerpt.now.start excerpt.now.end
+            result.0 result.1.leaf result.1.inside result.1.before }
+    {
+        let place = excerpt.place(Unit::LineBreak, line_idx);
+        let (path, found) = Path::at(excerpt.node, Unit::LineBreak, place - 1);
+        let (from, to) = (excerpt.start.bytes, excerpt.end.bytes);
+        (TreeSpan { path, from, to }, found)
     }
 
     /// Returns whether the adjacent leaf is known at once to have a line break.

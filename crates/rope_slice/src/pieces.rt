@@ -42,8 +42,8 @@ impl<'a> Pieces<'a> {
             RopeSlice::InTree(excerpt) => {
                 let start = excerpt.start.bytes;
                 let size = excerpt.end.bytes - start;
-                let (path, before) = Path::at(excerpt.node, Unit::Byte, start);
-                let (_, front) = path.leaf().as_bytes().split_at(start - before.bytes);
+                let (path, found) = Path::at(excerpt.node, Unit::Byte, start);
+                let (_, front) = path.leaf().as_bytes().split_at(start - found.before.bytes);
                 let count = front.len().min(size);
                 let (piece, _) = front.split_at(count);
                 let (descent, left) = (Some(path), size - count);

@@ -3,12 +3,17 @@ ghost use Rattle.std.specs.Prelude.{◌≡◌, ◌+◌, ◌-◌, ◌<◌, ◌≤
 ghost use Rattle.std.specs.Bool.{OnTrue, OnFalse};
 ghost use Rattle.std.specs.List.{concat};
 ghost use Rattle.std.specs.Str.{chars};
+ghost use Rattle.rope_text.specs.Breaks.{break_count};
 ghost use Rattle.rope_text.specs.Conversions.{char_to_byte};
+ghost use Rattle.rope_text.specs.Lookup.{chunk_index_at_line_break};
 ghost use Rattle.rope_text.specs.Text.{byte_len};
+ghost use Rattle.rope_text.specs.Lines.{line_count};
 ghost use Rattle.rope_text.specs.TextInfo.{info_of};
+ghost use Rattle.rope_slice.specs.Edge.{line_info};
 ghost use Rattle.rope_slice.specs.Slice.{content_of, text_of, chunks_of, breaks_of};
 ghost use Rattle.rope_slice.specs.Path.{IsBeside, IsLast, leaves};
-ghost use Rattle.rope_slice.specs.Starts.{IsItem, IsHolding, size_in};
+ghost use Rattle.rope_slice.specs.Span.{alone};
+ghost use Rattle.rope_slice.specs.Starts.{AreBefore, IsItem, IsHolding, size_in};
 
 use crate::excerpt::Before;
 use crate::path::{Heads, TreeSpan};
@@ -58,15 +63,50 @@ impl<'a> Span<'a> {
                 let descent = Some(descent);
                 (Span { chunk, descent }, before)
             }
-            RopeSlice::Alone(plain) => {
-                let (chunk, descent) = (plain.text, None);
-                let before = Before {
-                    bytes: 0,
-                    chars: 0,
-                    break_count: 0,
-                };
+            RopeSlice::Alone(plain) => Span::alone(plain.text),
+        }
+    }
+
+    // Returns a plain text as the only chunk, with nothing before it.
+    #[inline(always)]
+    fn alone(chunk: &'a str) -> (Span<'a>, Before)
+        ensures span { result.0 ≡ alone (chars chunk.now) }
+        ensures bytes { result.1.bytes ≡ 0 }
+        ensures chars { result.1.chars ≡ 0 }
+        ensures break_count { result.1.break_count ≡ 0 }
+    {
+        let before = Before {
+            bytes: 0,
+            chars: 0,
+            break_count: 0,
+        };
+        let descent = None;
+        (Span { chunk, descent }, before)
+    }
+
+    /// Returns the chunk of a slice in which the line break before a line ends, and the numbers of
+    /// bytes, characters and line breaks of the text before the chunk. The line is not the first.
+    // Inlined, since a call would return the path through memory.
+    #[inline(always)]
+    pub(crate) fn at_break(slice: &RopeSlice<'a>, line_idx: usize) -> (Span<'a>, Before)
+        requires later { 0 < line_idx }
+        requires within { line_idx ≤ break_count (breaks_of slice.now) (text_of slice.now) }
+        ensures text { concat (leaves result.0) ≡ text_of slice.now }
+        ensures chunks { leaves result.0 ≡ chunks_of slice.now }
+        ensures before { AreBefore (breaks_of slice.now) (text_of slice.now) result.0.before
+            result.1.bytes result.1.chars result.1.break_count }
+        ensures index { chunk_index_at_line_break (breaks_of slice.now) (chunks_of slice.now)
+            line_idx ≡ length result.0.before }
+    {
+        match slice {
+            RopeSlice::InTree(excerpt) => {
+                let (descent, found) = TreeSpan::at_break(excerpt, line_idx);
+                let before = Before::since(found.before, excerpt.start);
+                let chunk = descent.chunk();
+                let descent = Some(descent);
                 (Span { chunk, descent }, before)
             }
+            RopeSlice::Alone(plain) => Span::alone(plain.text),
         }
     }
 
@@ -115,6 +155,38 @@ impl<'a> Span<'a> {
     {
         let (span, front) = Span::holding(slice, Unit::Byte, before.bytes);
         (span, before.bytes - front.bytes)
+    }
+
+    /// Returns the chunk of a slice that contains the start of a line, or that ends at it, the
+    /// counts of the text before the line, and the byte of the chunk at its start. For the line
+    /// past the last it is the end of the text.
+    // Inlined, since a call would return the path through memory.
+    #[inline(always)]
+    pub(crate) fn at_line(slice: &RopeSlice<'a>, line_idx: usize) -> (Span<'a>, TextInfo, usize)
+        requires within { line_idx ≤ line_count (breaks_of slice.now) (text_of slice.now) }
+        ensures line { result.1 ≡ line_info (breaks_of slice.now) (text_of slice.now) line_idx }
+        ensures text { concat (leaves result.0) ≡ text_of slice.now }
+        ensures chunks { 0 < length (text_of slice.now) → leaves result.0 ≡ chunks_of slice.now }
+        ensures starts { length (concat result.0.before) ≤ result.1.chars }
+        ensures within { result.1.chars
+            ≤ length (concat result.0.before) + length result.0.here }
+        ensures byte { result.2
+            ≡ char_to_byte result.0.here (result.1.chars - length (concat result.0.before)) }
+    {
+        if let RopeSlice::InTree(excerpt) = slice
+            && 0 < line_idx
+            && line_idx <= excerpt.info().break_count
+        {
+            let (descent, found) = TreeSpan::at_break(excerpt, line_idx);
+            let front = found.before.bytes.saturating_sub(excerpt.start.bytes);
+            let before = excerpt.before_line_in(line_idx, found);
+            let chunk = descent.chunk();
+            let descent = Some(descent);
+            return (Span { chunk, descent }, before, before.bytes - front);
+        }
+        let before = slice.before_line(line_idx);
+        let (span, inside) = Span::at_counts(slice, before);
+        (span, before, inside)
     }
 
     /// Returns a copy with a path of its own.

@@ -148,12 +148,12 @@ counts_to-end-requires-clause-counts c =
 
 pub returns-then-line-eq0-clause-start : goal.returns-then-line-eq0-clause-start
 returns-then-line-eq0-clause-start c =
-    c.counts_to-start.ensures
+    c.counts_to-start.ensures.value
     ∙ own_line _ _ _ _ _ c.args.self.now.is_excerpt c.args.line_idx (omega arith)
     (start_is (goal.at.returns-then-line-eq0-clause-start c).After-line_start_at)
 
 pub returns-clause-start : goal.returns-clause-start
-returns-clause-start c = c.counts_to-start.ensures
+returns-clause-start c = c.counts_to-start.ensures.value
     ∙ own_line _ _ _ _ _ c.args.self.now.is_excerpt c.args.line_idx (omega arith)
     (start_is (goal.at.returns-clause-start c).After-line_start_at)
 
@@ -161,7 +161,7 @@ pub returns-clause-end : goal.returns-clause-end
 returns-clause-end c =
     let end =
     next_is (goal.at.returns-clause-end c).Else-line-eq0 c.plus.result c.plus.ensures.sum in
-    c.counts_to-end.ensures ∙ own_line _ _ _ _ _ c.args.self.now.is_excerpt (c.args.line_idx + 1)
+    c.counts_to-end.ensures.value ∙ own_line _ _ _ _ _ c.args.self.now.is_excerpt (c.args.line_idx + 1)
     (omega arith) end
 
 -- the rest of the leaf is inside the chunk there, or the line starts at the end
@@ -181,7 +181,7 @@ held_in c start =
     ∙ length-take-le (line_start s.node.now.breaks t c.place.result) t
     (line_start-le-length s.node.now.breaks t c.place.result) in
     let later = line_later _ _ _ _ _ s.is_excerpt c.args.line_idx (omega arith) start in
-    let size = ap (λ x. x.chars) c.counts_to-start.ensures
+    let size = ap (λ x. x.chars) c.counts_to-start.ensures.value
     ∙ length-take (place - s.start.chars) (text_of s) in
     elim (cases_lt place s.end.chars) [
       | inr past ↦ in_chunk_end (text_of s) (chunks_of s) c.counts_to-start.result.chars

@@ -47,7 +47,7 @@ counts_to-requires-clause-counts c =
     (here (goal.at.counts_to-requires-clause-counts c).After-line_start_at)
 
 pub returns : goal.returns
-returns c = c.counts_to.ensures
+returns c = c.counts_to.ensures.value
     ∙ own_line _ _ _ _ _ c.args.self.now.is_excerpt c.args.line_idx (omega arith)
     (here (goal.at.returns c).After-line_start_at)
 

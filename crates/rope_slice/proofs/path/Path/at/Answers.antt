@@ -1,6 +1,6 @@
-use Rattle.std.proofs.Common.{◌≡◌, refl, sym, ap, ◌∙◌, arith}
+use Rattle.std.proofs.Common.{◌≡◌, refl, sym, ap, ap₂, ◌∙◌, arith}
 use Rattle.std.specs.Str.{chars}
-use Rattle.rope_text.specs.TextInfo.{info_sum}
+use Rattle.rope_text.specs.TextInfo.{info_of, info_sum}
 use Rattle.rope_text.proofs.InfoLaws.{part_of_sum}
 use Rattle.rope_tree.specs.Search.{IsSmall}
 use Rattle.rope_tree.specs.Tree.{breaks_of, leaf_tree}
@@ -10,6 +10,7 @@ use Rattle.rope_tree.proofs.LookupDescent.{small_more}
 use Rattle.rope_slice.proofs.PathLaws.{path_start, path_down, path_end, path_holds, leaves_descent}
 use Rattle.rope_slice.proofs.path.Path.at.Goals.{After-total_before-front, After-as_str-leaf}
 use Rattle.rope_tree.proofs.Infos.{small_sum}
+use Rattle.rope_tree.proofs.InsertLeaves.{text_of_leaf}
 use Rattle.rope_slice.proofs.path.Path.at.Goals as goal
 
 -- the index is in the child that the search returns
@@ -90,12 +91,12 @@ leaf_is : (c : After-as_str-leaf) → c.down.here.now
 leaf_is c = c.in-Leaf.ensures.is
     ∙ ap (leaf_tree c.down.here.now.breaks) (sym c.as_str-leaf.ensures.chars)
 
-pub invariant_of-result : goal.invariant_of-result
-invariant_of-result c = record {
+pub invariant_of-path : goal.invariant_of-path
+invariant_of-path c = record {
   descent =
       path_end c.args.unit c.args.idx c.args.root.now c.down.here.now c.down.rest c.down.before
       c.down.nodes.now c.down.at (chars c.as_str-leaf.result.now) c.requires.tree c.down.invariant.0
-      (leaf_is (goal.at.invariant_of-result c).After-as_str-leaf);
+      (leaf_is (goal.at.invariant_of-path c).After-as_str-leaf);
   listed = c.down.invariant.2;
 }
 
@@ -112,3 +113,13 @@ returns-in-Leaf-clause-holds c =
     path_holds c.args.unit c.args.idx c.args.root.now c.down.here.now c.down.rest c.down.before
     c.down.nodes.now c.down.at (chars c.as_str-leaf.result.now) c.requires.tree c.down.invariant.0
     (leaf_is (goal.at.returns-in-Leaf-clause-holds c).After-as_str-leaf)
+
+pub returns-in-Leaf-clause-leaf : goal.returns-in-Leaf-clause-leaf
+returns-in-Leaf-clause-leaf c = sym c.as_str-leaf.ensures.chars
+
+pub returns-in-Leaf-clause-inside : goal.returns-in-Leaf-clause-inside
+returns-in-Leaf-clause-inside c =
+    let here = c.down.here.now in
+    let leaf = chars c.as_str-leaf.result.now in
+    c.down.invariant.1 ∙ ap₂ info_of c.down.invariant.0.descent.same_breaks
+    (text_of_leaf here.breaks here leaf (leaf_is (goal.at.returns-in-Leaf-clause-inside c).After-as_str-leaf))

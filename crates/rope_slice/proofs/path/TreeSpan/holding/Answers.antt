@@ -33,7 +33,7 @@ invariant_of-span c =
     span_here s.node.now s.start s.end c.place.ensures.tree s.is_excerpt c.args.idx
     c.min-place.result c.args.unit c.requires.unit
     (place_is (goal.at.invariant_of-span c).After-min-place)
-    c.at-path.result.0 c.at-path.result.1 c.at-path.ensures.leaves c.at-path.ensures.holds
+    c.at-path.result.0 c.at-path.result.1.before c.at-path.ensures.leaves c.at-path.ensures.holds
 
 pub returns : goal.returns
 returns c =
@@ -41,5 +41,5 @@ returns c =
     rw (c.since.ensures.bytes, c.since.ensures.chars, c.since.ensures.break_count)
     (holds_here s.node.now s.start s.end c.place.ensures.tree s.is_excerpt c.args.idx
     c.min-place.result c.args.unit c.requires.unit (place_is (goal.at.returns c).After-min-place)
-    c.at-path.result.0 c.at-path.result.1 c.at-path.ensures.leaves c.at-path.ensures.holds
+    c.at-path.result.0 c.at-path.result.1.before c.at-path.ensures.leaves c.at-path.ensures.holds
     c.requires.within)

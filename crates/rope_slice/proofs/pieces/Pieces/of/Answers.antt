@@ -7,10 +7,10 @@ use Rattle.rope_slice.proofs.pieces.Pieces.of.Goals.{After-split_at-in-InTree}
 use Rattle.rope_slice.proofs.pieces.Pieces.of.Goals as goal
 
 front_is : (c : After-split_at-in-InTree)
-    → c.split_at.result.1.now ≡ drop (c.in-InTree.excerpt.start.bytes - c.at-path.result.1.bytes)
+    → c.split_at.result.1.now ≡ drop (c.in-InTree.excerpt.start.bytes - c.at-path.result.1.before.bytes)
     (encode_utf8_all c.at-path.result.0.here)
 front_is c = c.split_at.ensures.back
-    ∙ ap (drop (c.in-InTree.excerpt.start.bytes - c.at-path.result.1.bytes))
+    ∙ ap (drop (c.in-InTree.excerpt.start.bytes - c.at-path.result.1.before.bytes))
     ((bytes_of c.leaf.result.now c.as_bytes.result.now c.as_bytes.ensures.utf8
     c.as_bytes.ensures.value) ∙ ap encode_utf8_all c.leaf.ensures)
 
@@ -31,7 +31,7 @@ split_at-requires c =
       ap length (bytes_of c.leaf.result.now c.as_bytes.result.now
           c.as_bytes.ensures.utf8 c.as_bytes.ensures.value),
       ap byte_len c.leaf.ensures,
-      starts_here s.node.now s.start s.end c.at-path.result.0 c.at-path.result.1 s.is_low.tree
+      starts_here s.node.now s.start s.end c.at-path.result.0 c.at-path.result.1.before s.is_low.tree
           s.is_excerpt h.leaves h.holds,
     )
 
@@ -39,7 +39,7 @@ pub invariant_of-result : goal.invariant_of-result
 invariant_of-result c =
     let s = c.in-InTree.excerpt in
     let h = c.at-path.ensures in
-    solid_after s.node.now s.start s.end c.at-path.result.0 c.at-path.result.1 s.is_low.tree
+    solid_after s.node.now s.start s.end c.at-path.result.0 c.at-path.result.1.before s.is_low.tree
     s.is_excerpt h.leaves h.holds
 
 pub returns-in-InTree-clause-bytes : goal.returns-in-InTree-clause-bytes
@@ -48,7 +48,7 @@ returns-in-InTree-clause-bytes c =
     let h = c.at-path.ensures in
     let front = front_is (goal.at.returns-in-InTree-clause-bytes c).After-split_at-in-InTree in
     rw (c.in-InTree.is, c.split_at-in-InTree.ensures.front, front)
-    (excerpt_bytes s.node.now s.start s.end c.at-path.result.0 c.at-path.result.1 s.is_low.tree
+    (excerpt_bytes s.node.now s.start s.end c.at-path.result.0 c.at-path.result.1.before s.is_low.tree
     s.is_excerpt h.leaves h.holds c.min-count.result (rw front at c.min-count.ensures))
 
 pub returns-in-InTree-clause-some : goal.returns-in-InTree-clause-some
@@ -57,7 +57,7 @@ returns-in-InTree-clause-some c none =
     let h = c.at-path.ensures in
     let front = front_is (goal.at.returns-in-InTree-clause-some c).After-split_at-in-InTree in
     let some : 0 < length c.split_at.result.1.now =
-    rw front (some_here s.node.now s.start s.end c.at-path.result.0 c.at-path.result.1 s.is_low.tree
+    rw front (some_here s.node.now s.start s.end c.at-path.result.0 c.at-path.result.1.before s.is_low.tree
     s.is_excerpt h.leaves h.holds) in
     none_left c.split_at.result.1.now _ (s.end.bytes - s.start.bytes) c.min-count.result
     c.min-count.ensures some (ap length (sym c.split_at-in-InTree.ensures.front) ∙ none)

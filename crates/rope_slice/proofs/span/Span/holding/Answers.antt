@@ -4,5 +4,7 @@ use Rattle.rope_slice.proofs.span.Span.holding.Goals as goal
 
 pub returns-in-Alone : goal.returns-in-Alone
 returns-in-Alone c =
-    rw c.in-Alone.is (holds_alone c.in-Alone.plain.breaks (chars c.in-Alone.plain.text.now)
-    c.args.idx c.args.unit c.requires.unit (rw c.in-Alone.is at c.requires.within))
+    let e = c.alone.ensures in
+    rw (c.in-Alone.is, e.span, e.bytes, e.chars, e.break_count)
+    (holds_alone c.in-Alone.plain.breaks (chars c.in-Alone.plain.text.now) c.args.idx c.args.unit
+    c.requires.unit (rw c.in-Alone.is at c.requires.within))

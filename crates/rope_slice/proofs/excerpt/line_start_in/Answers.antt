@@ -15,15 +15,15 @@ use Rattle.rope_slice.proofs.InChunks.{in_found}
 use Rattle.rope_text.proofs.LineLaws.{line_start-le-length}
 use Rattle.rope_tree.proofs.FoundLaws.{found_line_start}
 use Rattle.rope_tree.specs.declared.search.Unit.TheVariants.{LineBreak}
-use Rattle.rope_slice.proofs.excerpt.line_start_at.Goals.{After-before_line-front}
-use Rattle.rope_slice.proofs.excerpt.line_start_at.Goals as goal
+use Rattle.rope_slice.proofs.excerpt.line_start_in.Goals.{After-before_line-front}
+use Rattle.rope_slice.proofs.excerpt.line_start_in.Goals as goal
 
 front_is : (c : After-before_line-front) → c.before_line-front.result
     ≡ info_of c.args.node.now.breaks
-    (take (line_start c.args.node.now.breaks c.leaf_at-found.result.leaf
-    (c.args.line_idx - c.leaf_at-found.result.before.break_count)) c.leaf_at-found.result.leaf)
+    (take (line_start c.args.node.now.breaks c.args.found.leaf
+    (c.args.line_idx - c.args.found.before.break_count)) c.args.found.leaf)
 front_is c =
-    let l : ℕ = c.args.line_idx - c.leaf_at-found.result.before.break_count in
+    let l : ℕ = c.args.line_idx - c.args.found.before.break_count in
     c.before_line-front.ensures
     ∙ ap (λ b. info_of b (take (line_start b (chars c.as_str-leaf.result.now) l)
     (chars c.as_str-leaf.result.now))) c.line_breaks.ensures
@@ -32,16 +32,16 @@ front_is c =
 
 pub before_line-front-requires-clause-within : goal.before_line-front-requires-clause-within
 before_line-front-requires-clause-within c =
-    let l : ℕ = c.args.line_idx - c.leaf_at-found.result.before.break_count in
+    let l : ℕ = c.args.line_idx - c.args.found.before.break_count in
     let same : break_count c.line_breaks.result (chars c.as_str-leaf.result.now)
-    ≡ break_count c.args.node.now.breaks c.leaf_at-found.result.leaf =
+    ≡ break_count c.args.node.now.breaks c.args.found.leaf =
     ap (λ b. break_count b (chars c.as_str-leaf.result.now)) c.line_breaks.ensures
     ∙ ap (break_count c.args.node.now.breaks) c.as_str-leaf.ensures.chars in
     omega (
       arith,
       same,
-      line_within c.args.line_idx c.args.node.now c.leaf_at-found.result.leaf
-          c.leaf_at-found.result.before c.leaf_at-found.ensures.found c.requires.later,
+      line_within c.args.line_idx c.args.node.now c.args.found.leaf
+          c.args.found.before c.requires.found c.requires.later,
     )
 
 pub range_from-requires : goal.range_from-requires
@@ -49,15 +49,15 @@ range_from-requires c = λ some.
     let bs = c.as_str-leaf.result.now in
     subst (IsCharBoundary bs) (sym (ap (λ x. x.bytes) c.before_line-front.ensures))
     (byte_len_boundary bs (line_start c.line_breaks.result (chars bs)
-    (c.args.line_idx - c.leaf_at-found.result.before.break_count)) c.as_str-leaf.utf8)
+    (c.args.line_idx - c.args.found.before.break_count)) c.as_str-leaf.utf8)
 
 pub plus-requires : goal.plus-requires
 plus-requires c =
-    let small = small_found _ _ _ _ _ c.requires.tree c.leaf_at-found.ensures.found in
-    let leaf : List ℕ = c.leaf_at-found.result.leaf in
+    let small = small_found _ _ _ _ _ c.requires.tree c.requires.found in
+    let leaf : List ℕ = c.args.found.leaf in
     let k : ℕ =
     line_start c.args.node.now.breaks leaf
-    (c.args.line_idx - c.leaf_at-found.result.before.break_count) in
+    (c.args.line_idx - c.args.found.before.break_count) in
     let is = front_is (goal.at.plus-requires c).After-before_line-front in
     let less = size_le_all byte_len IsMeasure-byte_len leaf k in
     let fits = c.as_str-leaf.ensures.fits in
@@ -67,12 +67,12 @@ plus-requires c =
 pub returns-clause-before : goal.returns-clause-before
 returns-clause-before c =
     let front = front_is (goal.at.returns-clause-before c).After-before_line-front in
-    let leaf : List ℕ = c.leaf_at-found.result.leaf in
-    let l : ℕ = c.args.line_idx - c.leaf_at-found.result.before.break_count in
+    let leaf : List ℕ = c.args.found.leaf in
+    let l : ℕ = c.args.line_idx - c.args.found.before.break_count in
     let within =
-    line_within c.args.line_idx c.args.node.now leaf c.leaf_at-found.result.before
-    c.leaf_at-found.ensures.found c.requires.later in
-    let here : c.leaf_at-found.result.before.break_count + c.before_line-front.result.break_count
+    line_within c.args.line_idx c.args.node.now leaf c.args.found.before
+    c.requires.found c.requires.later in
+    let here : c.args.found.before.break_count + c.before_line-front.result.break_count
     ≡ c.args.line_idx =
     omega (
       arith,
@@ -82,15 +82,15 @@ returns-clause-before c =
     c.plus.ensures.sum
     ∙ ap (λ (n : ℕ). (let r : TextInfo =
     record {
-      bytes = c.leaf_at-found.result.before.bytes + c.before_line-front.result.bytes;
-      chars = c.leaf_at-found.result.before.chars + c.before_line-front.result.chars;
+      bytes = c.args.found.before.bytes + c.before_line-front.result.bytes;
+      chars = c.args.found.before.chars + c.before_line-front.result.chars;
       utf16_surrogates =
-          c.leaf_at-found.result.before.utf16_surrogates
+          c.args.found.before.utf16_surrogates
           + c.before_line-front.result.utf16_surrogates;
       break_count = n;
     } in r)) here
-    ∙ line_found c.args.line_idx c.args.node.now c.leaf_at-found.result.leaf
-    c.leaf_at-found.result.before c.requires.tree c.leaf_at-found.ensures.found (omega arith)
+    ∙ line_found c.args.line_idx c.args.node.now c.args.found.leaf
+    c.args.found.before c.requires.tree c.requires.found (omega arith)
     (omega arith)
     c.before_line-front.result.bytes c.before_line-front.result.chars
     c.before_line-front.result.utf16_surrogates
@@ -98,29 +98,29 @@ returns-clause-before c =
 
 pub returns-clause-rest : goal.returns-clause-rest
 returns-clause-rest c =
-    let leaf : List ℕ = c.leaf_at-found.result.leaf in
+    let leaf : List ℕ = c.args.found.leaf in
     let k : ℕ =
     line_start c.args.node.now.breaks leaf
-    (c.args.line_idx - c.leaf_at-found.result.before.break_count) in
+    (c.args.line_idx - c.args.found.before.break_count) in
     rw (chars_back c.as_str-leaf.result.now c.range_from.result.now leaf k
     c.before_line-front.result.bytes c.as_str-leaf.utf8 c.as_str-leaf.ensures.chars
     (ap (λ x. x.bytes) (front_is (goal.at.returns-clause-rest c).After-before_line-front)
     ∙ ap (λ s. byte_len (take k s)) (sym c.as_str-leaf.ensures.chars)) c.range_from.ensures.value)
-    (line_rest c.args.line_idx c.args.node.now leaf c.leaf_at-found.result.before c.requires.tree
-    c.leaf_at-found.ensures.found (omega arith) (omega arith))
+    (line_rest c.args.line_idx c.args.node.now leaf c.args.found.before c.requires.tree
+    c.requires.found (omega arith) (omega arith))
 
 pub returns-clause-chunk : goal.returns-clause-chunk
 returns-clause-chunk c =
-    let leaf : List ℕ = c.leaf_at-found.result.leaf in
+    let leaf : List ℕ = c.args.found.leaf in
     let k : ℕ =
     line_start c.args.node.now.breaks leaf
-    (c.args.line_idx - c.leaf_at-found.result.before.break_count) in
-    in_found LineBreak (c.args.line_idx - 1) c.args.node.now leaf c.leaf_at-found.result.before
-    c.leaf_at-found.ensures.found k _ _
+    (c.args.line_idx - c.args.found.before.break_count) in
+    in_found LineBreak (c.args.line_idx - 1) c.args.node.now leaf c.args.found.before
+    c.requires.found k _ _
     (line_start-le-length c.args.node.now.breaks leaf
-    (c.args.line_idx - c.leaf_at-found.result.before.break_count))
+    (c.args.line_idx - c.args.found.before.break_count))
     (found_line_start (c.args.line_idx - 1) c.args.line_idx c.args.node.now leaf
-    c.leaf_at-found.result.before c.requires.tree c.leaf_at-found.ensures.found (omega arith))
+    c.args.found.before c.requires.tree c.requires.found (omega arith))
     (chars_back c.as_str-leaf.result.now c.range_from.result.now leaf k
     c.before_line-front.result.bytes c.as_str-leaf.utf8 c.as_str-leaf.ensures.chars
     (ap (λ x. x.bytes) (front_is (goal.at.returns-clause-chunk c).After-before_line-front)
@@ -128,6 +128,22 @@ returns-clause-chunk c =
 
 pub before_line-front-requires-clause-info : goal.before_line-front-requires-clause-info
 before_line-front-requires-clause-info c =
-    c.leaf_at-found.ensures.inside
-    ∙ ap (λ b. info_of b c.leaf_at-found.result.leaf) (sym c.line_breaks.ensures)
+    c.requires.inside
+    ∙ ap (λ b. info_of b c.args.found.leaf) (sym c.line_breaks.ensures)
     ∙ ap (info_of c.line_breaks.result) (sym c.as_str-leaf.ensures.chars)
+
+pub returns-clause-from : goal.returns-clause-from
+returns-clause-from c = omega (arith, ap (λ x. x.bytes) c.plus.ensures.sum)
+
+pub returns-clause-upto : goal.returns-clause-upto
+returns-clause-upto c =
+    let leaf : List ℕ = c.args.found.leaf in
+    let k : ℕ =
+    line_start c.args.node.now.breaks leaf (c.args.line_idx - c.args.found.before.break_count) in
+    let front = front_is (goal.at.returns-clause-upto c).After-before_line-front in
+    omega (
+      arith,
+      ap (λ x. x.bytes) c.plus.ensures.sum,
+      ap (λ x. x.bytes) front,
+      size_le_all byte_len IsMeasure-byte_len leaf k,
+    )
