@@ -2,7 +2,7 @@
 use Rattle.std.proofs.Common.{◌≡◌, ℕ, zero, suc, ◌+◌, ◌-◌, ◌<◌, ◌≤◌, List, [], ◌∷◌, ◌++◌, length, take, drop, get_or, refl, sym, ap, subst, ◌∙◌, arith, inl, inr, All}
 use Rattle.std.specs.List.{concat}
 use Rattle.std.proofs.lemmas.Bool.{cases_lt}
-use Rattle.std.proofs.lemmas.List.{take_all, take_more, drop_more, take_at, length-append, length-take-le, get_or-append-add, get_or_append_left}
+use Rattle.std.proofs.lemmas.List.{append-nil, take_all, take_more, drop_more, take_at, length-append, length-take-le, get_or-append-add, get_or_append_left}
 use Rattle.std.proofs.lemmas.List.Elements.{All-get_or, All-take, All-drop, All-nil, All-cons, All-head, All-tail}
 use Rattle.std.proofs.lemmas.Str.{length-le-encodes}
 use Rattle.std.proofs.Math.Seq.{drop-append-add, get_or-append_seam}
@@ -17,14 +17,17 @@ use Rattle.rope_text.proofs.CuttingLaws.{concat-append}
 use Rattle.rope_text.proofs.LookupLaws.{chunk_index_at_byte_is}
 use Rattle.rope_text.proofs.Measures.{IsMeasure-byte_len}
 use Rattle.rope_tree.specs.declared.search.Unit.{Unit}
+use Rattle.rope_tree.specs.declared.search.Unit.TheVariants.{Byte, Char, CodeUnit, LineBreak}
 use Rattle.rope_tree.specs.Search.{count_of}
-use Rattle.rope_tree.specs.Tree.{Tree, text, leaves_of, height_of, breaks_of, leaf_tree, tree_over, IsTree, IsChild}
+use Rattle.rope_tree.specs.Totals.{HasTotals}
+use Rattle.rope_tree.specs.Tree.{Tree, text, joined, leaves_of, height_of, breaks_of, leaf_tree, tree_over, IsTree, IsChild, AreChildren}
 use Rattle.rope_tree.proofs.Descents.{Descends, count_of-nil}
 use Rattle.rope_tree.proofs.LeafLaws.{nonempty_leaves}
 use Rattle.rope_tree.proofs.LookupDescent.{IsOnDescent, at_start, at_end, further}
 use Rattle.rope_slice.proofs.ClippedChunks.{split_at}
 use Rattle.rope_slice.specs.Path.{Place, leaves, IsNext, HoldsPlace}
 use Rattle.rope_slice.specs.Descent.{place_at, IsLow, AreInList, IsDescent}
+use Rattle.rope_slice.specs.Starts.{IsItem}
 
 -- a text with an index in bounds has a leaf
 some_leaves : (unit : Unit) (breaks : LineBreaks) (at : ℕ) (ls : List (List ℕ))
@@ -519,3 +522,31 @@ path_holds unit idx t here rest info nodes at leaf tree p is =
     ap (λ n. concat (take n t.leaves)) next ∙ before_more t.leaves f.index f.within
     ∙ ap (λ x. concat (take f.index t.leaves) ++ x) (sym f.leaf_is) in
     rw front record { info_is = f.before_is; not_past = f.not_past; past = rw (← upto) f.past }
+
+-- a text with a character has one of each item
+item_count : (unit : Unit) → IsItem unit → (breaks : LineBreaks) (x : List ℕ) → 0 < length x
+    → 0 < count_of unit (info_of breaks x)
+item_count Byte i breaks x some = some_bytes x some
+item_count Char i breaks x some = some
+item_count CodeUnit i breaks x some = absurd i
+item_count LineBreak i breaks x some = absurd i
+
+-- leaves with a character each, of which there is one, have a character
+some_joined : (ls : List (List ℕ)) → All (λ leaf. 0 < length leaf) ls → 1 ≤ length ls
+    → 0 < length (concat ls)
+some_joined [] solid some = absurd (omega arith)
+some_joined (leaf ∷ ls) solid some =
+    omega (arith, length-append leaf (concat ls), solid 0 leaf (omega arith))
+
+-- the first child of a node has a byte and a character
+pub first_counts : (unit : Unit) → IsItem unit → (breaks : LineBreaks) (totals : List TextInfo)
+    (ts : List Tree) → AreChildren breaks (height_of ts) ts → HasTotals breaks totals ts
+    → (d : TextInfo) → 0 < count_of unit (get_or totals 0 d)
+first_counts unit i breaks totals [] a h d = absurd (omega (arith, a.at_least_two))
+first_counts unit i breaks totals (t ∷ ts) a h d =
+    let own = a.each 0 t (omega arith) in
+    let solid = nonempty_leaves t.leaves own.tree.leaves.each in
+    let some : 0 < length (concat t.leaves) = some_joined t.leaves solid own.some in
+    let same : concat (t.leaves ++ []) ≡ concat t.leaves = ap concat (append-nil t.leaves) in
+    rw (h.total_at 0 d (omega arith)) (item_count unit i breaks (joined (take (0 + 1) (t ∷ ts)))
+    (omega (arith, some, ap length same)))

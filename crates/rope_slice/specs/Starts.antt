@@ -57,8 +57,8 @@ pub record IsHolding (unit : Unit) (idx : ℕ) (c : Content) (p : Place)
   pub inside : idx < size_in unit c.text
       → idx < size_in unit (concat p.before) + size_in unit p.here
 
--- the chunk here is the part of a leaf in which the break before a line of an excerpt ends; with the
--- counts of the leaf, and those of the tree's text before it
+-- the chunk here is the part of a leaf in which the break before a line of an excerpt ends; with
+-- the counts of the leaf, and those of the tree's text before it
 pub record IsAtBreak (line : ℕ) (t : Tree) (start end : TextInfo) (p : Place) (leaf : List ℕ)
     (inside front : TextInfo) : Type 0 where
   pub found : IsFound LineBreak (start.break_count + line - 1) t leaf front

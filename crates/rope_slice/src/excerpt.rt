@@ -13,6 +13,7 @@ ghost use Rattle.rope_tree.specs.Tree.{IsTree, text};
 ghost use Rattle.rope_slice.specs.Edge.{start_info, end_info, line_info, IsLeafFrom, IsExcerpt, IsExcerpt-prop, IsLowTree, IsLowTree-prop};
 ghost use Rattle.rope_slice.specs.InChunk.{IsInChunk};
 
+use crate::path::Path;
 use crate::plain::LinePlace;
 use rope_text::str_utils::{byte_to_line_of, byte_to_surrogates_of, char_to_byte_idx};
 use rope_text::{Steps, TextInfo};
@@ -142,7 +143,7 @@ impl<'a> Excerpt<'a> {
     fn first_held(&self) -> &'a str
         ensures { IsInChunk (text_of self.now) (chunks_of self.now) 0 (chars result.now) }
     {
-        let found = leaf_at(self.node, Unit::Byte, self.start.bytes, &mut Steps::new());
+        let (_, found) = Path::at(self.node, Unit::Byte, self.start.bytes);
         &found.leaf.as_str()[self.start.bytes - found.before.bytes..]
     }
 

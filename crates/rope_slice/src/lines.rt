@@ -1,5 +1,5 @@
-//! Lines of a slice by their number, and a cursor over them. A start costs one lookup. No call takes
-//! memory.
+//! Lines of a slice by their number, and a cursor over them. A start costs one lookup. No call
+//! takes memory.
 //!
 //! The slice of all of `"a\nb\n"` has the lines `"a\n"`, `"b\n"` and `""`.
 ghost use Rattle.std.specs.Prelude.{◌≡◌, ◌≤◌, ◌<◌, ◌+◌, ◌++◌, ⊤, false, take, drop, length, MatchOption, IfSome};

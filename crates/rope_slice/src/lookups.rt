@@ -19,10 +19,11 @@ ghost use Rattle.rope_tree.specs.Conversions.{end_index, are_converted, converte
 ghost use Rattle.rope_slice.specs.Refusals.{index_error};
 
 use crate::excerpt::Before;
+use crate::path::Path;
 use crate::slice::{RopeSlice, within};
 use rope_text::str_utils::{byte_len_of, char_to_byte_idx, first_char};
 use rope_text::{Error, Result, Steps};
-use rope_tree::{Unit, byte_at, char_at, convert, convert_in, count, first_sought, leaf_at};
+use rope_tree::{Unit, byte_at, char_at, convert, convert_in, count, first_sought};
 
 /// A chunk, and the numbers of bytes, characters and line breaks before it.
 pub type ChunkAt<'a> = (&'a str, usize, usize, usize);
@@ -79,7 +80,7 @@ impl<'a> RopeSlice<'a> {
         match self {
             RopeSlice::InTree(excerpt) => {
                 let place = excerpt.place(unit, idx).min(count(excerpt.end, unit) - 1);
-                let found = leaf_at(excerpt.node, unit, place, &mut Steps::new());
+                let (_, found) = Path::at(excerpt.node, unit, place);
                 let leaf = found.leaf.as_str();
                 let before = found.before;
                 let start = excerpt.start;
@@ -156,7 +157,7 @@ impl<'a> RopeSlice<'a> {
         if line_break_idx > info.break_count {
             return self.chunk_apart(Unit::Char, info.chars.saturating_sub(1));
         }
-        self.chunk_apart(Unit::LineBreak, line_break_idx - 1)
+        self.chunk_at(Unit::LineBreak, line_break_idx - 1)
     }
 
     /// Returns the whole text if the slice has at most one chunk, else `None`. Costs at most two

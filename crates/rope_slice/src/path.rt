@@ -6,7 +6,11 @@ ghost use Rattle.std.specs.List.{concat};
 ghost use Rattle.std.specs.Str.{chars};
 ghost use Rattle.rope_text.specs.Breaks.{break_count};
 ghost use Rattle.rope_text.specs.Text.{byte_len};
+ghost use Rattle.rope_text.specs.declared.TheConstants.{MAX_CHILDREN};
+ghost use Rattle.rope_text.specs.declared.text_info.TextInfo.{TextInfo};
 ghost use Rattle.rope_text.specs.TextInfo.{info_of};
+ghost use Rattle.rope_tree.specs.Found.{IsFound};
+ghost use Rattle.rope_tree.specs.RunningTotals.{AreSmall};
 ghost use Rattle.rope_tree.specs.Search.{count_of};
 ghost use Rattle.rope_tree.specs.Tree.{Tree, IsTree, text};
 ghost use Rattle.rope_slice.specs.Excerpt.{content_of as excerpt_content, text_of as excerpt_text, breaks_of as excerpt_breaks};
@@ -70,6 +74,28 @@ fn text_in_list<'a>(nodes: &'a [Node], totals: Option<&Totals>, at: usize) -> &'
     }
 }
 
+// Returns the index of the child that contains an index, counted in `unit`. The first byte and the
+// first character are in the first child: a cursor from the start of a text makes no search.
+#[inline(always)]
+fn child_at(totals: &Totals, unit: Unit, at: usize) -> usize
+    requires some { 0 < length totals.now }
+    requires few { length totals.now ≤ MAX_CHILDREN }
+    requires small { AreSmall totals.now }
+    requires first { IsItem unit
+        → (d : TextInfo) → 0 < count_of unit (slice_index_or totals.now 0 d) }
+    requires last { (d : TextInfo)
+        → at < count_of unit (slice_index_or totals.now (length totals.now - 1) d) }
+    ensures within { result < length totals.now }
+    ensures before { (d : TextInfo) → 0 < result
+        → count_of unit (slice_index_or totals.now (result - 1) d) ≤ at }
+    ensures past { (d : TextInfo) → at < count_of unit (slice_index_or totals.now result d) }
+{
+    if at == 0 && matches!(unit, Unit::Byte | Unit::Char) {
+        return 0;
+    }
+    place_of(totals, unit, at, &mut Steps::new())
+}
+
 /// Whether a walk that reaches a list prefetches the heads of its leaves.
 #[derive(Clone, Copy)]
 pub(crate) enum Heads {
@@ -100,6 +126,7 @@ impl<'a> Path<'a> {
         ensures inside { result.1.inside ≡ info_of root.now.breaks result.0.here }
         ensures holds { HoldsPlace unit root.now.breaks idx result.0.before result.0.here
             result.1.before }
+        ensures found { IsFound unit idx root.now result.1.leaf result.1.before }
     {
         let mut here = root;
         // A leaf's counts come from its list's totals, so that no walk misses on the leaf's head.
@@ -127,7 +154,7 @@ impl<'a> Path<'a> {
                     return (path, found);
                 }
                 View::Inner(children, sums) => {
-                    at = place_of(sums, unit, rest, &mut Steps::new());
+                    at = child_at(sums, unit, rest);
                     let child = &children[at];
                     let front = total_before(sums, at);
                     rest -= count(front, unit);

@@ -10,22 +10,22 @@ use Rattle.rope_slice.proofs.Measured.{measured}
 use Rattle.rope_slice.proofs.excerpt.Excerpt.first_held.Goals.{After-as_str}
 use Rattle.rope_slice.proofs.excerpt.Excerpt.first_held.Goals as goal
 
-pub leaf_at-found-requires-clause-within : goal.leaf_at-found-requires-clause-within
-leaf_at-found-requires-clause-within c = let m = measured _ _ _ _ c.args.self.now.is_excerpt in
+pub at-found-requires-clause-within : goal.at-found-requires-clause-within
+at-found-requires-clause-within c = let m = measured _ _ _ _ c.args.self.now.is_excerpt in
     omega (arith, m.some_bytes, m.all_bytes)
 
 starts : (c : After-as_str)
-    → StartsIn c.args.self.now.start c.leaf_at-found.result.leaf c.leaf_at-found.result.before
+    → StartsIn c.args.self.now.start c.at-found.result.1.leaf c.at-found.result.1.before
 starts c =
     let s = c.args.self.now in
-    starts_in s.node.now s.start s.end c.leaf_at-found.result.leaf c.leaf_at-found.result.before
-    s.is_low.tree s.is_excerpt c.leaf_at-found.ensures.found
+    starts_in s.node.now s.start s.end c.at-found.result.1.leaf c.at-found.result.1.before
+    s.is_low.tree s.is_excerpt c.at-found.ensures.found
 
 -- the number of characters of the leaf before the excerpt
 skipped : After-as_str → ℕ
-skipped c = c.args.self.now.start.chars - c.leaf_at-found.result.before.chars
+skipped c = c.args.self.now.start.chars - c.at-found.result.1.before.chars
 
-bytes_are : (c : After-as_str) → c.args.self.now.start.bytes - c.leaf_at-found.result.before.bytes
+bytes_are : (c : After-as_str) → c.args.self.now.start.bytes - c.at-found.result.1.before.bytes
     ≡ byte_len (take (skipped c) (chars c.as_str.result.now))
 unfolding skipped
 bytes_are c = (starts c).bytes
@@ -43,15 +43,15 @@ returns c =
     let here = (goal.at.returns c).After-as_str in
     let s = c.args.self.now in
     let t = starts here in
-    let leaf : List ℕ = c.leaf_at-found.result.leaf in
+    let leaf : List ℕ = c.at-found.result.1.leaf in
     let held =
     chars_back c.as_str.result.now c.range_from.result.now leaf (skipped here)
-    (s.start.bytes - c.leaf_at-found.result.before.bytes) c.as_str.utf8 c.as_str.ensures.chars
+    (s.start.bytes - c.at-found.result.1.before.bytes) c.as_str.utf8 c.as_str.ensures.chars
     (bytes_are here) c.range_from.ensures.value in
     let m = measured _ _ _ _ s.is_excerpt in
     in_clip (text s.node.now) s.node.now.leaves s.start.chars s.end.chars 0
     (chars c.range_from.result.now)
-    (in_found Byte s.start.bytes s.node.now leaf c.leaf_at-found.result.before
-    c.leaf_at-found.ensures.found (skipped here) (s.start.chars + 0) (chars c.range_from.result.now)
+    (in_found Byte s.start.bytes s.node.now leaf c.at-found.result.1.before
+    c.at-found.ensures.found (skipped here) (s.start.chars + 0) (chars c.range_from.result.now)
     t.within (omega (arith, t.place)) held)
     (omega (arith, m.some)) m.within

@@ -6,8 +6,8 @@ use Rattle.rope_tree.specs.Search.{IsSmall}
 use Rattle.rope_tree.specs.Tree.{breaks_of, leaf_tree}
 use Rattle.rope_tree.proofs.NodeLaws.{small_totals}
 use Rattle.rope_tree.proofs.Descents.{Descends, child_counts, child_total, descends}
-use Rattle.rope_tree.proofs.LookupDescent.{small_more}
-use Rattle.rope_slice.proofs.PathLaws.{path_start, path_down, path_end, path_holds, leaves_descent}
+use Rattle.rope_tree.proofs.LookupDescent.{at_end, small_more}
+use Rattle.rope_slice.proofs.PathLaws.{first_counts, path_start, path_down, path_end, path_holds, leaves_descent}
 use Rattle.rope_slice.proofs.path.Path.at.Goals.{After-total_before-front, After-as_str-leaf}
 use Rattle.rope_tree.proofs.Infos.{small_sum}
 use Rattle.rope_tree.proofs.InsertLeaves.{text_of_leaf}
@@ -16,20 +16,20 @@ use Rattle.rope_slice.proofs.path.Path.at.Goals as goal
 -- the index is in the child that the search returns
 down : (c : After-total_before-front)
     → Descends (breaks_of c.in-Inner.children.now) c.args.unit c.down.rest c.in-Inner.children.now
-    c.place_of-at.result c.index-children-at.result c.total_before-front.result
+    c.child_at-at.result c.index-children-at.result c.total_before-front.result
 down c =
     descends c.args.unit c.down.rest c.in-Inner.children.now c.in-Inner.sums.now
-    c.place_of-at.result c.index-children-at.result c.total_before-front.result
-    c.in-Inner.ensures.children c.in-Inner.ensures.totals_right c.place_of-at.ensures.within
+    c.child_at-at.result c.index-children-at.result c.total_before-front.result
+    c.in-Inner.ensures.children c.in-Inner.ensures.totals_right c.child_at-at.ensures.within
     c.index-children-at.is
     c.total_before-front.ensures.first c.total_before-front.ensures.later
-    c.place_of-at.ensures.before c.place_of-at.ensures.past
+    c.child_at-at.ensures.before c.child_at-at.ensures.past
 
 small : (c : After-total_before-front)
     → IsSmall (info_sum c.down.before c.total_before-front.result)
 small c =
     small_more c.args.unit c.args.idx c.args.root.now c.down.here.now c.down.rest c.down.before
-    c.in-Inner.children.now c.place_of-at.result
+    c.in-Inner.children.now c.child_at-at.result
     c.index-children-at.result c.total_before-front.result c.requires.tree
     c.down.invariant.0.descent c.in-Inner.ensures.is (down c)
 
@@ -40,8 +40,8 @@ down-init c = (
   λ some. absurd (omega (arith, some)),
 )
 
-pub place_of-at-requires-clause-small : goal.place_of-at-requires-clause-small
-place_of-at-requires-clause-small c =
+pub child_at-at-requires-clause-small : goal.child_at-at-requires-clause-small
+child_at-at-requires-clause-small c =
     small_totals _ c.in-Inner.sums.now c.in-Inner.children.now c.in-Inner.ensures.totals_right
     c.in-Inner.ensures.children.fits
 
@@ -66,7 +66,7 @@ pub minus-inside-requires : goal.minus-inside-requires
 minus-inside-requires c =
     let w = down (goal.at.minus-inside-requires c).After-total_before-front in
     let v = c.in-Inner.ensures in
-    part_of_sum _ _ _ (child_total c.in-Inner.children.now c.in-Inner.sums.now c.place_of-at.result
+    part_of_sum _ _ _ (child_total c.in-Inner.children.now c.in-Inner.sums.now c.child_at-at.result
     c.index-children-at.result c.total_before-front.result c.get.result v.children v.totals_right
     w.within c.index-children-at.is w.front_is (c.get.ensures c.get.result))
 
@@ -76,10 +76,10 @@ down-preserved c =
     let v = c.in-Inner.ensures in (
       rw (c.plus-before.ensures.sum, c.count-rest.ensures)
           (path_down c.args.unit c.args.idx c.args.root.now c.down.here.now c.down.rest
-          c.down.before c.down.nodes.now c.in-Inner.children.now c.down.at c.place_of-at.result
+          c.down.before c.down.nodes.now c.in-Inner.children.now c.down.at c.child_at-at.result
           c.index-children-at.result c.total_before-front.result
           c.requires.tree c.down.invariant.0 v.is d),
-      child_counts c.in-Inner.children.now c.in-Inner.sums.now c.place_of-at.result
+      child_counts c.in-Inner.children.now c.in-Inner.sums.now c.child_at-at.result
           c.index-children-at.result c.total_before-front.result c.get.result c.minus-inside.result
           v.children v.totals_right d.within c.index-children-at.is d.front_is
           (c.get.ensures c.get.result) c.minus-inside.ensures.sum,
@@ -123,3 +123,13 @@ returns-in-Leaf-clause-inside c =
     let leaf = chars c.as_str-leaf.result.now in
     c.down.invariant.1 ∙ ap₂ info_of c.down.invariant.0.descent.same_breaks
     (text_of_leaf here.breaks here leaf (leaf_is (goal.at.returns-in-Leaf-clause-inside c).After-as_str-leaf))
+
+pub child_at-at-requires-clause-first : goal.child_at-at-requires-clause-first
+child_at-at-requires-clause-first c =
+    λ item. first_counts c.args.unit item (breaks_of c.in-Inner.children.now) c.in-Inner.sums.now
+    c.in-Inner.children.now c.in-Inner.ensures.children c.in-Inner.ensures.totals_right
+
+pub returns-in-Leaf-clause-found : goal.returns-in-Leaf-clause-found
+returns-in-Leaf-clause-found c =
+    at_end c.args.unit c.args.idx c.args.root.now c.down.here.now c.down.rest c.down.before
+    c.in-Leaf.leaf c.requires.tree c.down.invariant.0.descent c.in-Leaf.ensures.is

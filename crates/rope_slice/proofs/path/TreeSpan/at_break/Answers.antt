@@ -1,4 +1,4 @@
-use Rattle.std.proofs.Common.{◌≡◌, ◌+◌, ◌-◌, ap, sym, subst, arith}
+use Rattle.std.proofs.Common.{◌+◌, ◌-◌, arith}
 use Rattle.rope_tree.specs.declared.search.Unit.TheVariants.{LineBreak}
 use Rattle.rope_slice.specs.Path.{HoldsPlace}
 use Rattle.rope_slice.proofs.BreakStarts.{break_within, span_at_break, is_at_break}

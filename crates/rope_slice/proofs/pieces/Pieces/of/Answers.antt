@@ -57,7 +57,7 @@ returns-in-InTree-clause-some c none =
     let h = c.at-path.ensures in
     let front = front_is (goal.at.returns-in-InTree-clause-some c).After-split_at-in-InTree in
     let some : 0 < length c.split_at.result.1.now =
-    rw front (some_here s.node.now s.start s.end c.at-path.result.0 c.at-path.result.1.before s.is_low.tree
-    s.is_excerpt h.leaves h.holds) in
+    rw front (some_here s.node.now s.start s.end c.at-path.result.0 c.at-path.result.1.before
+    s.is_low.tree s.is_excerpt h.leaves h.holds) in
     none_left c.split_at.result.1.now _ (s.end.bytes - s.start.bytes) c.min-count.result
     c.min-count.ensures some (ap length (sym c.split_at-in-InTree.ensures.front) ∙ none)

@@ -31,35 +31,35 @@ place_is : (c : After-min-place) → let s = c.in-InTree.excerpt in
 place_is c = rw (c.place.ensures.value, c.count.ensures) at c.min-place.ensures
 
 holds : (c : After-as_str-leaf) → let s = c.in-InTree.excerpt in
-    HoldsIt c.args.unit s.node.now s.start s.end c.leaf_at-found.result.leaf
-    c.leaf_at-found.result.before c.args.idx
+    HoldsIt c.args.unit s.node.now s.start s.end c.at-found.result.1.leaf
+    c.at-found.result.1.before c.args.idx
 holds c =
     let s = c.in-InTree.excerpt in
     holds_in s.node.now s.start s.end s.is_excerpt c.args.idx c.min-place.result c.args.unit
     (rw c.in-InTree.is at c.requires)
     (rw (c.place.ensures.value, c.count.ensures) at c.min-place.ensures)
-    c.leaf_at-found.result.leaf c.leaf_at-found.result.before c.place.ensures.tree
-    c.leaf_at-found.ensures.found
+    c.at-found.result.1.leaf c.at-found.result.1.before c.place.ensures.tree
+    c.at-found.ensures.found
 
-pub leaf_at-found-requires-clause-within : goal.leaf_at-found-requires-clause-within
-leaf_at-found-requires-clause-within c =
+pub at-found-requires-clause-within : goal.at-found-requires-clause-within
+at-found-requires-clause-within c =
     let s = c.in-InTree.excerpt in
     place_in s.node.now s.start s.end s.is_excerpt c.args.idx c.min-place.result c.args.unit
     (rw c.in-InTree.is at c.requires)
-    (place_is (goal.at.leaf_at-found-requires-clause-within c).After-min-place)
+    (place_is (goal.at.at-found-requires-clause-within c).After-min-place)
 
 part : (c : After-as_str-leaf)
     → LeafIn c.in-InTree.excerpt.node.now c.in-InTree.excerpt.start c.in-InTree.excerpt.end
-    c.leaf_at-found.result.leaf c.leaf_at-found.result.before
+    c.at-found.result.1.leaf c.at-found.result.1.before
 part c =
     let s = c.in-InTree.excerpt in
-    let f = c.leaf_at-found.ensures.found in
+    let f = c.at-found.ensures.found in
     let h = holds c in
-    leaf_in s.node.now s.start s.end c.leaf_at-found.result.leaf c.leaf_at-found.result.before
+    leaf_in s.node.now s.start s.end c.at-found.result.1.leaf c.at-found.result.1.before
     c.place.ensures.tree s.is_excerpt f.index f.within f.leaf_is f.before_is h.starts h.ends
 
 size : (c : After-as_str-leaf) → length c.as_str-leaf.result.now
-    ≡ byte_len c.leaf_at-found.result.leaf
+    ≡ byte_len c.at-found.result.1.leaf
 size c = sym (byte_len-chars c.as_str-leaf.result.now c.as_str-leaf.utf8)
     ∙ ap byte_len c.as_str-leaf.ensures.chars
 
@@ -77,16 +77,16 @@ range-requires-clause-start_le_end c =
       p.to_bytes,
       c.saturating_sub-from.ensures,
       c.min-to.ensures,
-      size_le byte_len IsMeasure-byte_len c.leaf_at-found.result.leaf
-          (c.in-InTree.excerpt.start.chars - c.leaf_at-found.result.before.chars)
-          (c.in-InTree.excerpt.end.chars - c.leaf_at-found.result.before.chars) (omega arith),
+      size_le byte_len IsMeasure-byte_len c.at-found.result.1.leaf
+          (c.in-InTree.excerpt.start.chars - c.at-found.result.1.before.chars)
+          (c.in-InTree.excerpt.end.chars - c.at-found.result.1.before.chars) (omega arith),
     )
 
 pub range-requires-clause-start_boundary : goal.range-requires-clause-start_boundary
 range-requires-clause-start_boundary c =
     let p = part (goal.at.range-requires-clause-start_boundary c).After-as_str-leaf in
-    λ _. boundary_of c.as_str-leaf.result.now c.leaf_at-found.result.leaf
-    (c.in-InTree.excerpt.start.chars - c.leaf_at-found.result.before.chars)
+    λ _. boundary_of c.as_str-leaf.result.now c.at-found.result.1.leaf
+    (c.in-InTree.excerpt.start.chars - c.at-found.result.1.before.chars)
     c.saturating_sub-from.result c.as_str-leaf.utf8 c.as_str-leaf.ensures.chars
     (c.saturating_sub-from.ensures ∙ sym p.from_bytes)
 
@@ -94,8 +94,8 @@ pub range-requires-clause-end_boundary : goal.range-requires-clause-end_boundary
 range-requires-clause-end_boundary c =
     let p = part (goal.at.range-requires-clause-end_boundary c).After-as_str-leaf in
     let long = size (goal.at.range-requires-clause-end_boundary c).After-as_str-leaf in
-    boundary_of c.as_str-leaf.result.now c.leaf_at-found.result.leaf
-    (c.in-InTree.excerpt.end.chars - c.leaf_at-found.result.before.chars) c.min-to.result
+    boundary_of c.as_str-leaf.result.now c.at-found.result.1.leaf
+    (c.in-InTree.excerpt.end.chars - c.at-found.result.1.before.chars) c.min-to.result
     c.as_str-leaf.utf8 c.as_str-leaf.ensures.chars
     (omega (arith, c.min-to.ensures, p.to_bytes))
 
@@ -105,13 +105,13 @@ returns-in-InTree c =
     let h = holds (goal.at.returns-in-InTree c).After-as_str-leaf in
     let p = part (goal.at.returns-in-InTree c).After-as_str-leaf in
     let long = size (goal.at.returns-in-InTree c).After-as_str-leaf in
-    let i : ℕ = c.in-InTree.excerpt.start.chars - c.leaf_at-found.result.before.chars in
-    let j : ℕ = c.in-InTree.excerpt.end.chars - c.leaf_at-found.result.before.chars in
+    let i : ℕ = c.in-InTree.excerpt.start.chars - c.at-found.result.1.before.chars in
+    let j : ℕ = c.in-InTree.excerpt.end.chars - c.at-found.result.1.before.chars in
     let some = p.some in
     rw c.in-InTree.is (rw (h.index_is
     (excerpt_kept s.node.now s.start s.end c.place.ensures.tree s.is_excerpt).cut.nonempty)
     (p.found _ _ _ _
-    (chars_of_part c.as_str-leaf.result.now c.leaf_at-found.result.leaf c.range.result.now i j
+    (chars_of_part c.as_str-leaf.result.now c.at-found.result.1.leaf c.range.result.now i j
     c.saturating_sub-from.result c.min-to.result c.as_str-leaf.utf8 c.as_str-leaf.ensures.chars
     (omega arith)
     (c.saturating_sub-from.ensures ∙ sym p.from_bytes) (omega (arith, c.min-to.ensures, p.to_bytes))
