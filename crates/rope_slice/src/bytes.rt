@@ -1,5 +1,5 @@
-//! A cursor over the bytes of a slice. A start costs one or two lookups, a step at the end of a
-//! chunk up to one. No call takes memory.
+//! A cursor over the bytes of a slice. A start costs one lookup, a step at the end of a chunk up to
+//! one. No call takes memory.
 ghost use Rattle.std.specs.Prelude.{◌≡◌, ℕ, ◌≤◌, ⊤};
 ghost use Rattle.std.specs.Bool.{MatchBool};
 ghost use Rattle.std.specs.Str.{encode_utf8_all};

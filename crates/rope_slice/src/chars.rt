@@ -1,5 +1,5 @@
-//! A cursor over the characters of a slice. A start costs one or two lookups, a step at the end of
-//! a chunk up to one. No call takes memory.
+//! A cursor over the characters of a slice. A start costs one lookup, a step at the end of a chunk
+//! up to one. No call takes memory.
 ghost use Rattle.std.specs.Prelude.{◌≡◌, ℕ, ◌≤◌, length, ⊤};
 ghost use Rattle.std.specs.Iterator.{YieldsFirstBy, item_count};
 ghost use Rattle.rope_slice.specs.Found.{GivesWithin};

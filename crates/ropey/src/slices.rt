@@ -209,8 +209,7 @@ impl Rope {
 
     /// Returns a cursor before the first chunk that ends after `line_break_idx` line breaks, or
     /// else before the last, facing forward; for `len_lines()` it is past the last chunk. Also
-    /// returns the numbers of bytes, characters and line breaks that end before the cursor. Costs
-    /// two lookups.
+    /// returns the numbers of bytes, characters and line breaks that end before the cursor.
     ///
     /// The index is at most `len_lines()`. With the text `"a\nb"`, `chunks_at_line_break(2)`
     /// returns the numbers 3, 3 and 1.
@@ -223,8 +222,8 @@ impl Rope {
         self.whole().chunks_at_line_break(line_break_idx)
     }
 
-    /// Returns the line `line_idx`, with its line break, as a slice. Costs two lookups, and counts
-    /// the line.
+    /// Returns the line `line_idx`, with its line break, as a slice. Costs at most two lookups, and
+    /// counts the line.
     ///
     /// The index is below `len_lines()`. With the text `"a\nb"`, `line(0)` is `"a\n"`.
     pub fn line(&self, line_idx: usize) -> RopeSlice<'_>
@@ -245,7 +244,7 @@ impl Rope {
     }
 
     /// Returns a cursor before the line `line_idx`, facing forward; for `len_lines()` it is past
-    /// the last line. Costs two lookups.
+    /// the last line.
     ///
     /// The index is at most `len_lines()`. With the text `"a\nb"`, `lines_at(1).next()` is the line
     /// `"b"`.
@@ -258,7 +257,7 @@ impl Rope {
     }
 
     /// Returns a cursor before the line `line_idx`, facing forward, and the counts of the text
-    /// before the line. Costs two lookups.
+    /// before the line.
     ///
     /// The index is at most `len_lines()`. With the text `"a\nb"` and line 1 the counts are 2
     /// bytes, 2 characters, no surrogate pair and 1 line break.
@@ -308,8 +307,7 @@ impl Rope {
     }
 
     /// Returns a cursor as `chunks_at_line_break` does, or `None` exactly if the index is past
-    /// `len_lines()`. Costs two lookups. With the text `"ab"`, `get_chunks_at_line_break(2)` is
-    /// `None`.
+    /// `len_lines()`. With the text `"ab"`, `get_chunks_at_line_break(2)` is `None`.
     pub fn get_chunks_at_line_break(&self, line_break_idx: usize) -> Option<ChunksAt<'_>>
         ensures { GivesWithin line_break_idx (line_count self.now.breaks self.now.text) result
             (StandsBefore (content self.now)
@@ -319,7 +317,7 @@ impl Rope {
     }
 
     /// Returns the line `line_idx`, with its line break, or `None` exactly if the index is
-    /// `len_lines()` or more. Costs two lookups, and counts the line. With the text `"ab"`,
+    /// `len_lines()` or more. Costs at most two lookups, and counts the line. With the text `"ab"`,
     /// `get_line(1)` is `None`.
     pub fn get_line(&self, line_idx: usize) -> Option<RopeSlice<'_>>
         ensures { MatchOption result (line_count self.now.breaks self.now.text ≤ line_idx)
@@ -330,7 +328,7 @@ impl Rope {
     }
 
     /// Returns a cursor as `lines_at` does, or `None` exactly if the index is past `len_lines()`.
-    /// Costs two lookups. With the text `"ab"`, `get_lines_at(2)` is `None`.
+    /// With the text `"ab"`, `get_lines_at(2)` is `None`.
     pub fn get_lines_at(&self, line_idx: usize) -> Option<Lines<'_>>
         ensures { GivesWithin line_idx (line_count self.now.breaks self.now.text) result
             (λ lines. lines ≡ at_place (lines_of (content self.now)) line_idx) }

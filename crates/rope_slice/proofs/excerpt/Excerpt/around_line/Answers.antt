@@ -161,8 +161,8 @@ pub returns-clause-end : goal.returns-clause-end
 returns-clause-end c =
     let end =
     next_is (goal.at.returns-clause-end c).Else-line-eq0 c.plus.result c.plus.ensures.sum in
-    c.counts_to-end.ensures.value ∙ own_line _ _ _ _ _ c.args.self.now.is_excerpt (c.args.line_idx + 1)
-    (omega arith) end
+    c.counts_to-end.ensures.value
+    ∙ own_line _ _ _ _ _ c.args.self.now.is_excerpt (c.args.line_idx + 1) (omega arith) end
 
 -- the rest of the leaf is inside the chunk there, or the line starts at the end
 held_in : (c : After-counts_to-start) → c.line_start_at.result.0

@@ -122,7 +122,8 @@ returns-in-Leaf-clause-inside c =
     let here = c.down.here.now in
     let leaf = chars c.as_str-leaf.result.now in
     c.down.invariant.1 ∙ ap₂ info_of c.down.invariant.0.descent.same_breaks
-    (text_of_leaf here.breaks here leaf (leaf_is (goal.at.returns-in-Leaf-clause-inside c).After-as_str-leaf))
+    (text_of_leaf here.breaks here leaf
+    (leaf_is (goal.at.returns-in-Leaf-clause-inside c).After-as_str-leaf))
 
 pub child_at-at-requires-clause-first : goal.child_at-at-requires-clause-first
 child_at-at-requires-clause-first c =

@@ -7,7 +7,8 @@ use Rattle.rope_slice.proofs.pieces.Pieces.of.Goals.{After-split_at-in-InTree}
 use Rattle.rope_slice.proofs.pieces.Pieces.of.Goals as goal
 
 front_is : (c : After-split_at-in-InTree)
-    → c.split_at.result.1.now ≡ drop (c.in-InTree.excerpt.start.bytes - c.at-path.result.1.before.bytes)
+    → c.split_at.result.1.now
+    ≡ drop (c.in-InTree.excerpt.start.bytes - c.at-path.result.1.before.bytes)
     (encode_utf8_all c.at-path.result.0.here)
 front_is c = c.split_at.ensures.back
     ∙ ap (drop (c.in-InTree.excerpt.start.bytes - c.at-path.result.1.before.bytes))
@@ -31,8 +32,8 @@ split_at-requires c =
       ap length (bytes_of c.leaf.result.now c.as_bytes.result.now
           c.as_bytes.ensures.utf8 c.as_bytes.ensures.value),
       ap byte_len c.leaf.ensures,
-      starts_here s.node.now s.start s.end c.at-path.result.0 c.at-path.result.1.before s.is_low.tree
-          s.is_excerpt h.leaves h.holds,
+      starts_here s.node.now s.start s.end c.at-path.result.0 c.at-path.result.1.before
+          s.is_low.tree s.is_excerpt h.leaves h.holds,
     )
 
 pub invariant_of-result : goal.invariant_of-result
@@ -48,8 +49,9 @@ returns-in-InTree-clause-bytes c =
     let h = c.at-path.ensures in
     let front = front_is (goal.at.returns-in-InTree-clause-bytes c).After-split_at-in-InTree in
     rw (c.in-InTree.is, c.split_at-in-InTree.ensures.front, front)
-    (excerpt_bytes s.node.now s.start s.end c.at-path.result.0 c.at-path.result.1.before s.is_low.tree
-    s.is_excerpt h.leaves h.holds c.min-count.result (rw front at c.min-count.ensures))
+    (excerpt_bytes s.node.now s.start s.end c.at-path.result.0 c.at-path.result.1.before
+    s.is_low.tree s.is_excerpt h.leaves h.holds c.min-count.result
+    (rw front at c.min-count.ensures))
 
 pub returns-in-InTree-clause-some : goal.returns-in-InTree-clause-some
 returns-in-InTree-clause-some c none =
