@@ -53,7 +53,8 @@ module _ (t : Tree) (start end : TextInfo) (tree : IsTree t)
         let nonempty = (excerpt_kept t start end tree s).cut.nonempty in
         let a = are_before t start end p front tree s e h.info_is ends.starts ends.ends in
         let upto = chars_upto t start end p front tree s e h.info_is ends.starts ends.ends in
-        let here = some_leaf p (solid t start end p front tree s e h.info_is ends.starts ends.ends) in
+        let here =
+        some_leaf p (solid t start end p front tree s e h.info_is ends.starts ends.ends) in
         let chars = ap (λ x. x.chars) h.info_is in
         ends.index nonempty
         ∙ index_of_char q (clip t.leaves start.chars end.chars)
