@@ -12,7 +12,8 @@ use crate::changes::{apply, keep, replace};
 use crate::changes_handle::ChangesHandle;
 use crate::handle::Handle;
 use crate::lent_changes::LentChanges;
-use crate::status::{NO_CHANGES_HELD, NO_ROPE_HELD, OK, TOO_LONG};
+use crate::macros::{edit, ok_or};
+use crate::status::{NO_CHANGES_HELD, OK, TOO_LONG};
 use rope_changes::{ChangeSet, EditRange};
 use ropey::Rope;
 use std::alloc::Global;
@@ -83,10 +84,8 @@ pub extern "C" fn ropey_changes_of_edits(
         → changes.new.held ≡ Some (built (unchanged len) (map edit_of edits.now)) }
     ensures err { 0 < result → changes.new.held ≡ changes.old.held }
 {
-    match ChangeSet::new(alloc, len) {
-        Ok(made) => make(alloc, made, edits, changes),
-        Err(error) => status_of_change(error),
-    }
+    let made = ok_or!(ChangeSet::new(alloc, len), status_of_change);
+    make(alloc, made, edits, changes)
 }
 
 // Makes the edits in changes that were just made, and puts these into a handle.
@@ -146,12 +145,7 @@ pub extern "C" fn ropey_apply_edits(
     ensures empty { length edits.now ≡ 0 → Keeps rope.old.rope rope.new.rope result (λ _. ⊤) }
     ensures kept { HoldsRope rope.new.rope }
 {
-    let Some(mut held) = rope.take(alloc) else {
-        return NO_ROPE_HELD;
-    };
-    let status = apply_edits(alloc, &mut held, edits);
-    rope.put(held);
-    status
+    edit!(rope, alloc, held => apply_edits(alloc, &mut held, edits))
 }
 
 fn shown<'a>(edit: &EditRange<'a>) -> Replacement<'a>
