@@ -4,7 +4,7 @@ use Rattle.std.specs.Prelude.{Option, None, Some, min}
 use Rattle.std.specs.Iterator.{Yields, YieldsFirstBy}
 use Rattle.std.proofs.Math.Seq.{take-append_seam}
 use Rattle.std.proofs.Math.Nat.{min-eq_left, min-eq_right, eq-or-lt_of_le}
-use Rattle.std.proofs.lemmas.List.{length-append, length-set, drop-set-lt, drop-drop, take_more_set, map-append, length-map}
+use Rattle.std.proofs.lemmas.List.{length-append, length-set, drop-set-lt, drop-drop, take_more_set, length-map}
 use Rattle.ropey_c.specs.Filling.{EachGives, FillsBy}
 
 -- calls of `next` and one more

@@ -1,5 +1,5 @@
 -- Arrays that C gives, filled by iterators.
-use Rattle.std.specs.Prelude.{◌≡◌, ℕ, ◌<◌, ◌≤◌, List, [], ◌∷◌, length, take, drop, Option, Some, None}
+use Rattle.std.specs.Prelude.{◌≡◌, ℕ, ◌<◌, ◌≤◌, List, [], ◌∷◌, length, take, drop, Option, None}
 use Rattle.std.specs.Iterator.{Yields}
 
 -- each item of a list gives the item at its index of another list

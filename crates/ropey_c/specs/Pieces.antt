@@ -7,7 +7,6 @@ use Rattle.rope_text.specs.Lookup.{found_chunk, front_chunks, LieBefore, chunk_p
 use Rattle.rope_text.specs.Conversions.{line_to_byte}
 use Rattle.rope_text.specs.LineParts.{line_of}
 use Rattle.rope_text.specs.Lines.{line_count}
-use Rattle.rope_text.specs.Sides.{Sides, ahead}
 use Rattle.ropey.specs.View.{RopeView, content}
 use Rattle.ropey_c.specs.declared.status.TheConstants.{OK, NO_ROPE_HELD, BYTE_INDEX_OUT_OF_BOUNDS, LINE_INDEX_OUT_OF_BOUNDS}
 use Rattle.ropey_c.specs.declared.lookups.Span.{Span}

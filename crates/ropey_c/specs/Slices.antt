@@ -8,8 +8,6 @@ use Rattle.rope_text.specs.Content.{Content}
 use Rattle.rope_text.specs.LineParts.{line_of, lines_of, part_between}
 use Rattle.rope_text.specs.Lines.{line_count}
 use Rattle.rope_text.specs.Edit.{char_range_error}
-use Rattle.rope_slice.specs.declared.slice.RopeSlice.{RopeSlice}
-use Rattle.rope_slice.specs.Slice.{content_of}
 use Rattle.ropey.specs.View.{RopeView, content}
 use Rattle.ropey_c.specs.Status.{status_of}
 use Rattle.ropey_c.specs.declared.counts.Counts.{Counts}

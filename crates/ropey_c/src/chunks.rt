@@ -29,10 +29,14 @@ pub struct Chunk<'a> {
 }
 
 // A chunk as C sees it.
-fn chunk_of<'a>(found: (&'a str, usize, usize, usize)) -> Chunk<'a>
-    ensures { IsChunk (chars found.entry.0.now) found.entry.1 found.entry.2 found.entry.3 result }
+fn chunk_of(
+    text: &str,
+    bytes_before: usize,
+    chars_before: usize,
+    line_breaks_before: usize,
+) -> Chunk<'_>
+    ensures { IsChunk (chars text.now) bytes_before chars_before line_breaks_before result }
 {
-    let (text, bytes_before, chars_before, line_breaks_before) = found;
     Chunk {
         text: text.as_bytes(),
         bytes_before,
@@ -59,7 +63,8 @@ pub extern "C" fn ropey_chunk_at_byte<'a>(
     ensures kept { HoldsRope rope.now.rope }
 {
     let found = held!(rope).get_chunk_at_byte(byte_idx);
-    *chunk = chunk_of(some_or!(found, BYTE_INDEX_OUT_OF_BOUNDS));
+    let (text, bytes, chars, line_breaks) = some_or!(found, BYTE_INDEX_OUT_OF_BOUNDS);
+    *chunk = chunk_of(text, bytes, chars, line_breaks);
     OK
 }
 
@@ -81,7 +86,8 @@ pub extern "C" fn ropey_chunk_at_char<'a>(
     ensures kept { HoldsRope rope.now.rope }
 {
     let found = held!(rope).get_chunk_at_char(char_idx);
-    *chunk = chunk_of(some_or!(found, CHAR_INDEX_OUT_OF_BOUNDS));
+    let (text, bytes, chars, line_breaks) = some_or!(found, CHAR_INDEX_OUT_OF_BOUNDS);
+    *chunk = chunk_of(text, bytes, chars, line_breaks);
     OK
 }
 
@@ -104,6 +110,7 @@ pub extern "C" fn ropey_chunk_at_line_break<'a>(
     ensures kept { HoldsRope rope.now.rope }
 {
     let found = held!(rope).get_chunk_at_line_break(line_idx);
-    *chunk = chunk_of(some_or!(found, LINE_INDEX_OUT_OF_BOUNDS));
+    let (text, bytes, chars, line_breaks) = some_or!(found, LINE_INDEX_OUT_OF_BOUNDS);
+    *chunk = chunk_of(text, bytes, chars, line_breaks);
     OK
 }
