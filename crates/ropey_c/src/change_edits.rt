@@ -84,21 +84,7 @@ pub extern "C" fn ropey_changes_of_edits(
         → changes.new.held ≡ Some (built (unchanged len) (map edit_of edits.now)) }
     ensures err { 0 < result → changes.new.held ≡ changes.old.held }
 {
-    let made = ok_or!(ChangeSet::new(alloc, len), status_of_change);
-    make(alloc, made, edits, changes)
-}
-
-// Makes the edits in changes that were just made, and puts these into a handle.
-fn make(
-    alloc: Global,
-    mut made: ChangeSet,
-    edits: &[GivenEdit<'_>],
-    changes: &mut ChangesHandle,
-) -> u32
-    ensures status { IsEditsStatus made edits.now result }
-    ensures ok { result ≡ OK → changes.new.held ≡ Some (built made (map edit_of edits.now)) }
-    ensures err { 0 < result → changes.new.held ≡ changes.old.held }
-{
+    let mut made = ok_or!(ChangeSet::new(alloc, len), status_of_change);
     let status = replace_all(&mut made, edits);
     if status != OK {
         return status;

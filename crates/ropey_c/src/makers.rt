@@ -10,7 +10,7 @@ ghost use Rattle.ropey_c.specs.Answers.{Changes, Keeps, IsBuiltWith, ClonesChars
 
 use crate::handle::Handle;
 use crate::lent::Lent;
-use crate::macros::{allocated, breaks_for, held, ok_or, utf8_text};
+use crate::macros::{allocated, breaks_for, edit, held, ok_or, utf8_text};
 use crate::status::{NO_ROPE_HELD, OK, given_breaks, status, status_of};
 use rope_text::range::char_bounds;
 use ropey::{LineBreaks, Rope, RopeSlice};
@@ -120,17 +120,6 @@ pub extern "C" fn ropey_clone(alloc: Global, rope: &Lent, copy: &mut Handle) -> 
     keep(alloc, made, copy)
 }
 
-// Puts a rope of a slice's text into a handle.
-fn keep_part(alloc: Global, part: RopeSlice<'_>, rope: &mut Handle) -> u32
-    ensures status { IsStatus None result }
-    ensures ok { result ≡ OK → IsSomeAnd rope.new.rope (λ r. (r.text ≡ text_of part.entry)
-        × (r.breaks ≡ breaks_of part.entry) × IsRope r) }
-    ensures err { 0 < result → rope.new.rope ≡ rope.old.rope }
-{
-    let made = allocated!(Rope::from_slice(alloc, part));
-    keep(alloc, made, rope)
-}
-
 /// Makes a rope of the characters from `start` up to `end`, counted from 0, and frees the one that
 /// `copy` held. The two ropes share the nodes within the range until one of them is edited, which
 /// leaves the other as it was. Takes time and memory for the nodes on the two cuts.
@@ -152,7 +141,8 @@ pub extern "C" fn ropey_clone_chars(
 {
     let held = held!(rope);
     let (start, end) = ok_or!(char_bounds(&(start..end), held.len_chars()), status_of);
-    keep_part(alloc, held.slice(start..end), copy)
+    let made = allocated!(Rope::from_slice(alloc, held.slice(start..end)));
+    keep(alloc, made, copy)
 }
 
 /// Cuts the text into as few chunks as `ropey_from_text` does. Takes time and memory in proportion
@@ -168,14 +158,9 @@ pub extern "C" fn ropey_shrink_to_fit(alloc: Global, rope: &mut Handle) -> u32
     ensures empty { Keeps rope.old.rope rope.new.rope result (λ old. length old.text ≡ 0) }
     ensures kept { HoldsRope rope.new.rope }
 {
-    let Some(mut held) = rope.take(alloc) else {
-        return NO_ROPE_HELD;
-    };
-    if held.len_chars() == 0 {
-        rope.put(held);
-        return OK;
-    }
-    let status = status(held.shrink_to_fit());
-    rope.put(held);
-    status
+    edit!(rope, alloc, held => if held.len_chars() == 0 {
+        OK
+    } else {
+        status(held.shrink_to_fit())
+    })
 }

@@ -4,9 +4,11 @@ use Rattle.ropey_c.proofs.pieces.ropey_chunks_from_char_with_before.Goals as goa
 
 pub returns-in-None-found-clause-answer : goal.returns-in-None-found-clause-answer
 returns-in-None-found-clause-answer c =
-    rw c.in-Some.ensures.found (none_at c.in-Some.value.now _ _ _ _ _ _ _ _ _ c.in-None-found.ensures)
+    rw c.in-Some.ensures.found
+    (none_at c.in-Some.value.now _ _ _ _ _ _ _ _ _ c.in-None-found.ensures)
 
 pub returns-clause-answer : goal.returns-clause-answer
 returns-clause-answer c =
     rw c.in-Some.ensures.found
-    (fills_at c.in-Some.value.now _ _ _ _ _ _ _ _ _ _ _ _ c.in-Some-found.ensures (chunks_filled _ _ _ _ c.fill.ensures))
+    (fills_at c.in-Some.value.now _ _ _ _ _ _ _ _ _ _ _ _ c.in-Some-found.ensures
+    (chunks_filled _ _ _ _ c.fill.ensures))
