@@ -6,7 +6,7 @@ ghost use Rattle.ropey_c.specs.Status.{given_breaks};
 use crate::builder_handle::BuilderHandle;
 use crate::handle::Handle;
 use crate::intake::Intake;
-use crate::macros::{allocated, breaks_for, edit};
+use crate::macros::{allocated, breaks_for, edit, some_or};
 use crate::makers::keep;
 use crate::status::{NO_BUILDER_HELD, OK, given_breaks};
 use std::alloc::Global;
@@ -73,9 +73,7 @@ pub extern "C" fn ropey_builder_finish(
         rope.new.rope }
     ensures spent { builder.new.held ≡ None }
 {
-    let Some(held) = builder.take(alloc) else {
-        return NO_BUILDER_HELD;
-    };
+    let held = some_or!(builder.take(alloc), NO_BUILDER_HELD);
     match Box::into_inner(held).finish(valid) {
         Ok(made) => keep(alloc, made, rope),
         Err(status) => status,

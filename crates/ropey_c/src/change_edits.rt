@@ -12,7 +12,7 @@ use crate::changes::{apply, keep, replace};
 use crate::changes_handle::ChangesHandle;
 use crate::handle::Handle;
 use crate::lent_changes::LentChanges;
-use crate::macros::{edit, ok_or};
+use crate::macros::{edit, held_changes, ok_or};
 use crate::status::{NO_CHANGES_HELD, OK, TOO_LONG};
 use rope_changes::{ChangeSet, EditRange};
 use ropey::Rope;
@@ -182,11 +182,6 @@ pub extern "C" fn ropey_changes_edits<'a>(
 ) -> u32
     ensures { ListsAt changes.now.held result edits.old edits.new count.old count.new }
 {
-    match changes.changes() {
-        Some(held) => {
-            *count = list(held, edits);
-            OK
-        }
-        None => NO_CHANGES_HELD,
-    }
+    *count = list(held_changes!(changes), edits);
+    OK
 }

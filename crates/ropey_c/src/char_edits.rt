@@ -8,7 +8,7 @@ ghost use Rattle.ropey_c.specs.Status.{IsStatus, IsTextStatus, IsCharStatus};
 ghost use Rattle.ropey_c.specs.Answers.{Changes, Keeps};
 
 use crate::handle::Handle;
-use crate::macros::{allocated, edit, utf8_text};
+use crate::macros::{allocated, edit, some_or, utf8_text};
 use crate::status::{
     CHAR_INDEX_OUT_OF_BOUNDS, NO_ROPE_HELD, NOT_A_CHARACTER, OK, status, status_of,
 };
@@ -64,10 +64,8 @@ fn insert_char(rope: &mut Rope, char_idx: usize, c: u32) -> u32
     ensures breaks { rope.new.breaks ≡ rope.old.breaks }
     ensures kept { IsRope rope.old → IsRope rope.new }
 {
-    match char::from_u32(c) {
-        Some(c) => status(rope.try_insert_char(char_idx, c)),
-        None => NOT_A_CHARACTER,
-    }
+    let c = some_or!(char::from_u32(c), NOT_A_CHARACTER);
+    status(rope.try_insert_char(char_idx, c))
 }
 
 /// Inserts the character `c`, a Unicode scalar value, before the character `char_idx`, counted from
@@ -215,9 +213,7 @@ pub extern "C" fn ropey_append(alloc: Global, rope: &mut Handle, other: &mut Han
         → other.new.rope ≡ other.old.rope)) }
     ensures kept { HoldsRope rope.new.rope }
 {
-    let Some(mut held) = rope.take(alloc) else {
-        return NO_ROPE_HELD;
-    };
+    let mut held = some_or!(rope.take(alloc), NO_ROPE_HELD);
     let Some(end) = other.take(alloc) else {
         rope.put(held);
         return NO_ROPE_HELD;

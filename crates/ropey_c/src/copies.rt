@@ -103,7 +103,6 @@ pub extern "C" fn ropey_copy_bytes(
         result buffer.old buffer.new len.old len.new }
     ensures kept { HoldsRope rope.now.rope }
 {
-    let held = held!(rope);
-    let slice = ok_or!(held.try_byte_slice(start..end), status_of);
+    let slice = ok_or!(held!(rope).try_byte_slice(start..end), status_of);
     copy(&slice, buffer, len)
 }

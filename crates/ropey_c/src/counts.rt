@@ -78,8 +78,7 @@ pub extern "C" fn ropey_counts_in_bytes(
         result counts.old counts.new }
     ensures kept { HoldsRope rope.now.rope }
 {
-    let held = held!(rope);
-    let slice = ok_or!(held.try_byte_slice(start..end), status_of);
+    let slice = ok_or!(held!(rope).try_byte_slice(start..end), status_of);
     *counts = counts_of(&slice);
     OK
 }

@@ -129,9 +129,7 @@ pub extern "C" fn ropey_chunks_from_byte_with_before<'a>(
     let held = held!(rope);
     let found = held.get_chunks_at_byte(byte_idx);
     let (chunks, bytes, chars, line_breaks) = some_or!(found, BYTE_INDEX_OUT_OF_BOUNDS);
-    *bytes_before = bytes;
-    *chars_before = chars;
-    *line_breaks_before = line_breaks;
+    (*bytes_before, *chars_before, *line_breaks_before) = (bytes, chars, line_breaks);
     *count = fill(chunks, pieces);
     OK
 }
@@ -163,9 +161,7 @@ pub extern "C" fn ropey_chunks_from_char_with_before<'a>(
     let held = held!(rope);
     let found = held.get_chunks_at_char(char_idx);
     let (chunks, bytes, chars, line_breaks) = some_or!(found, CHAR_INDEX_OUT_OF_BOUNDS);
-    *bytes_before = bytes;
-    *chars_before = chars;
-    *line_breaks_before = line_breaks;
+    (*bytes_before, *chars_before, *line_breaks_before) = (bytes, chars, line_breaks);
     *count = fill(chunks, pieces);
     OK
 }
@@ -198,9 +194,7 @@ pub extern "C" fn ropey_chunks_from_line_break_with_before<'a>(
     let held = held!(rope);
     let found = held.get_chunks_at_line_break(line_idx);
     let (chunks, bytes, chars, line_breaks) = some_or!(found, LINE_INDEX_OUT_OF_BOUNDS);
-    *bytes_before = bytes;
-    *chars_before = chars;
-    *line_breaks_before = line_breaks;
+    (*bytes_before, *chars_before, *line_breaks_before) = (bytes, chars, line_breaks);
     *count = fill(chunks, pieces);
     OK
 }

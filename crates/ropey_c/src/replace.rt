@@ -14,7 +14,7 @@ ghost use Rattle.ropey_c.specs.Status.{IsStatus, IsTextStatus};
 
 use crate::byte_edits::chars_of_bytes;
 use crate::handle::Handle;
-use crate::macros::{edit, ok_or, utf8_text};
+use crate::macros::{edit, ok_or, some_or, utf8_text};
 use crate::status::{OK, OUT_OF_MEMORY, TOO_LONG, status_of};
 use rope_text::MAX_TEXT_BYTES;
 use rope_text::range::char_bounds;
@@ -80,13 +80,8 @@ fn exchange(rope: &mut Rope, start: usize, end: usize, text: &str) -> u32
     if start == end && text.is_empty() {
         return OK;
     }
-    match replaced(rope, start, end, text) {
-        Some(made) => {
-            *rope = made;
-            OK
-        }
-        None => OUT_OF_MEMORY,
-    }
+    *rope = some_or!(replaced(rope, start, end, text), OUT_OF_MEMORY);
+    OK
 }
 
 fn replace_chars(rope: &mut Rope, start: usize, end: usize, text: &[u8]) -> u32

@@ -2,8 +2,6 @@
 //!
 //! A program that draws lines or counts in a range needs one lookup in place of three. The bytes
 //! belong to the rope, and are lent for as long as its handle is. No call takes memory.
-#![tactic(auto)]
-
 ghost use Rattle.std.specs.Prelude.{◌≡◌, ◌<◌, ◌≤◌, ◌↔◌, true, [], length, drop, Some, IsSome, IfSome};
 ghost use Rattle.std.specs.Str.{chars, encode_utf8_all};
 ghost use Rattle.rope_text.specs.Conversions.{line_to_char, byte_to_char};

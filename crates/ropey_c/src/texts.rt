@@ -40,8 +40,7 @@ pub extern "C" fn ropey_text_counts(text: &[u8], break_set: u32, counts: &mut Co
     ensures { CountsText (given_breaks break_set) text.now result counts.old counts.new }
 {
     let breaks = breaks_for!(break_set);
-    let text = utf8_text!(text);
-    *counts = counts_in(text, breaks);
+    *counts = counts_in(utf8_text!(text), breaks);
     OK
 }
 
@@ -94,8 +93,7 @@ pub extern "C" fn ropey_text_byte_to_line(
         (λ breaks t. byte_to_line breaks t byte_idx) result line_idx.old line_idx.new }
 {
     let breaks = breaks_for!(break_set);
-    let text = utf8_text!(text);
-    *line_idx = str_utils::byte_to_line_with(text, byte_idx, breaks);
+    *line_idx = str_utils::byte_to_line_with(utf8_text!(text), byte_idx, breaks);
     OK
 }
 
@@ -128,8 +126,7 @@ pub extern "C" fn ropey_text_char_to_line(
         (λ breaks t. char_to_line breaks t char_idx) result line_idx.old line_idx.new }
 {
     let breaks = breaks_for!(break_set);
-    let text = utf8_text!(text);
-    *line_idx = str_utils::char_to_line_with(text, char_idx, breaks);
+    *line_idx = str_utils::char_to_line_with(utf8_text!(text), char_idx, breaks);
     OK
 }
 
@@ -185,8 +182,7 @@ pub extern "C" fn ropey_text_line_to_byte(
         (λ breaks t. line_to_byte breaks t line_idx) result byte_idx.old byte_idx.new }
 {
     let breaks = breaks_for!(break_set);
-    let text = utf8_text!(text);
-    *byte_idx = str_utils::line_to_byte_with(text, line_idx, breaks);
+    *byte_idx = str_utils::line_to_byte_with(utf8_text!(text), line_idx, breaks);
     OK
 }
 
@@ -206,7 +202,6 @@ pub extern "C" fn ropey_text_line_to_char(
         (λ breaks t. line_to_char breaks t line_idx) result char_idx.old char_idx.new }
 {
     let breaks = breaks_for!(break_set);
-    let text = utf8_text!(text);
-    *char_idx = str_utils::line_to_char_with(text, line_idx, breaks);
+    *char_idx = str_utils::line_to_char_with(utf8_text!(text), line_idx, breaks);
     OK
 }
