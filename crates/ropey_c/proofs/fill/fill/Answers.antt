@@ -25,7 +25,8 @@ loop-count-preserved g c = (
 
 pub returns-in_default : goal.returns-in_default
 returns-in_default g c =
-    filled _ _ _ _ _ _ _ c.loop-count.invariant.0 (λ _. (c.next.new.self, c.in_default.ensures.steps))
+    filled _ _ _ _ _ _ _ c.loop-count.invariant.0
+    (λ _. (c.next.new.self, c.in_default.ensures.steps))
 
 pub returns : goal.returns
 returns g c = filled_full _ _ _ _ _ _ _ c.loop-count.invariant.0 c.loop-count-test.false
