@@ -14,3 +14,4 @@ pub mod ChangeStatus
 pub mod ChangeSets
 pub mod ChangeEdits
 pub mod Files
+pub mod Filling

@@ -1,14 +1,12 @@
 -- Chunks in bulk, as C sees them.
 use Rattle.std.specs.Prelude.{◌≡◌, ℕ, ◌+◌, ◌<◌, ◌≤◌, List, length, take, drop, map, reverse, min, Option, Some, None}
 use Rattle.std.specs.Borrow.{Bor}
-use Rattle.std.specs.Iterator.{Yields}
 use Rattle.std.specs.Str.{chars, encode_utf8_all}
 use Rattle.rope_text.specs.Text.{byte_len}
 use Rattle.rope_text.specs.Lookup.{found_chunk, front_chunks, LieBefore, chunk_place_at_byte}
 use Rattle.rope_text.specs.Conversions.{line_to_byte}
 use Rattle.rope_text.specs.LineParts.{line_of}
 use Rattle.rope_text.specs.Lines.{line_count}
-use Rattle.rope_text.specs.Sides.{Sides, ahead}
 use Rattle.ropey.specs.View.{RopeView, content}
 use Rattle.ropey_c.specs.declared.status.TheConstants.{OK, NO_ROPE_HELD, BYTE_INDEX_OUT_OF_BOUNDS, LINE_INDEX_OUT_OF_BOUNDS}
 use Rattle.ropey_c.specs.declared.lookups.Span.{Span}
@@ -24,19 +22,6 @@ len_of piece = length piece.text.now
 -- the bytes of a text that an iterator gave
 abbrev pub bytes_at : Bor (List ℕ) → List ℕ
 bytes_at text = encode_utf8_all (chars text.now)
-
--- an iterator was asked for texts as far as there is room, their bytes were lent to the front, and
--- the rest stayed
-pub record FillsBy {S : Type 0} (steps : S → Option (Bor (List ℕ)) → S → Type 0) (s : S)
-    (old new : List Piece) (count : ℕ) : Type 0 where
-  pub texts : List (Bor (List ℕ))
-  pub after : S
-  pub given : Yields steps s texts after
-  pub count_is : count ≡ length texts
-  pub written : map bytes_of (take count new) ≡ map bytes_at texts
-  pub kept : drop count new ≡ drop count old
-  pub within : count ≤ length old
-  pub ended : count < length old → (u : S) × steps after None u
 
 -- as many of the chunks as there is room for were lent to the front, and the rest stayed
 abbrev pub Fills : List (List ℕ) → List Piece → List Piece → ℕ → Type 0
@@ -84,20 +69,6 @@ FillsAt (Some rope) len i place missing status old new count_old count bytes_old
     × (i ≤ len rope → (status ≡ OK)
     × LieBefore (found_chunk rope.breaks rope.chunks (place rope)) bytes chars breaks
     × Fills (drop (place rope) rope.chunks) old new count)
-
--- the chunks ahead of a cursor that was found, with the bytes, the characters and the line breaks
--- before it; where none was found,
--- what is missing
-abbrev pub FillsFound : Option (Sides (List ℕ) × ℕ × ℕ × ℕ) → ℕ → ℕ → List Piece → List Piece → ℕ
-    → ℕ → ℕ → ℕ → ℕ → ℕ → ℕ → ℕ → Type 0
-FillsFound None missing status old new count_old count bytes_old bytes chars_old chars breaks_old
-    breaks =
-    (status ≡ missing) × (new ≡ old) × (count ≡ count_old) × (bytes ≡ bytes_old)
-    × (chars ≡ chars_old) × (breaks ≡ breaks_old)
-FillsFound (Some found) missing status old new count_old count bytes_old bytes chars_old chars
-    breaks_old breaks =
-    (status ≡ OK) × Fills (ahead found.0) old new count × (bytes ≡ found.1) × (chars ≡ found.2)
-    × (breaks ≡ found.3)
 
 -- the bytes of a line, and the pieces of its text: the chunks, clipped to it
 abbrev pub FillsLine : Option RopeView → ℕ → ℕ → List Piece → List Piece → ℕ → ℕ → Span → Span

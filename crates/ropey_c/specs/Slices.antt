@@ -1,6 +1,5 @@
 -- Parts of a rope's text, as C sees them.
 use Rattle.std.specs.Prelude.{◌≡◌, ℕ, ◌<◌, ◌≤◌, nat_le, if◌then◌else◌, List, [], length, take, drop, map, reverse, min, Option, Some, None}
-use Rattle.std.specs.Iterator.{Yields}
 use Rattle.std.specs.Str.{encode_utf8_all}
 use Rattle.rope_text.specs.declared.error.Error.{Error}
 use Rattle.rope_text.specs.Text.{byte_len, utf16_len}
@@ -9,8 +8,6 @@ use Rattle.rope_text.specs.Content.{Content}
 use Rattle.rope_text.specs.LineParts.{line_of, lines_of, part_between}
 use Rattle.rope_text.specs.Lines.{line_count}
 use Rattle.rope_text.specs.Edit.{char_range_error}
-use Rattle.rope_slice.specs.declared.slice.RopeSlice.{RopeSlice}
-use Rattle.rope_slice.specs.Slice.{content_of}
 use Rattle.ropey.specs.View.{RopeView, content}
 use Rattle.ropey_c.specs.Status.{status_of}
 use Rattle.ropey_c.specs.declared.counts.Counts.{Counts}
@@ -56,22 +53,6 @@ SliceOfChars None start end status old new = (status ≡ NO_ROPE_HELD) × (new �
 SliceOfChars (Some rope) start end status old new =
     SliceInRange (char_range_error (Some start) (Some end) (length rope.text))
     (part_between (content rope) start end) status old new
-
-abbrev pub shown_of : RopeSlice → Shown
-shown_of slice = shown_as (content_of slice)
-
--- an iterator was asked for slices as far as there is room, what C sees of them was written to the
--- front, and the rest stayed
-pub record ShowsBy {S : Type 0} (steps : S → Option RopeSlice → S → Type 0) (s : S)
-    (old new : List Slice) (count : ℕ) : Type 0 where
-  pub parts : List RopeSlice
-  pub after : S
-  pub given : Yields steps s parts after
-  pub count_is : count ≡ length parts
-  pub written : map shown (take count new) ≡ map shown_of parts
-  pub kept : drop count new ≡ drop count old
-  pub within : count ≤ length old
-  pub ended : count < length old → (u : S) × steps after None u
 
 -- as many of the parts as there is room for were written to the front, and the rest stayed
 abbrev pub Shows : List Content → List Slice → List Slice → ℕ → Type 0

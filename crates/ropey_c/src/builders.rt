@@ -6,8 +6,9 @@ ghost use Rattle.ropey_c.specs.Status.{given_breaks};
 use crate::builder_handle::BuilderHandle;
 use crate::handle::Handle;
 use crate::intake::Intake;
+use crate::macros::{allocated, breaks_for, edit, some_or};
 use crate::makers::keep;
-use crate::status::{NO_BUILDER_HELD, OK, OUT_OF_MEMORY, UNKNOWN_BREAK_SET, given_breaks};
+use crate::status::{NO_BUILDER_HELD, OK, given_breaks};
 use std::alloc::Global;
 
 /// Makes a builder that was given nothing, and frees the one that the handle held.
@@ -23,19 +24,11 @@ pub extern "C" fn ropey_builder_new(
 ) -> u32
     ensures { Begins (given_breaks break_set) builder.old.held builder.new.held result }
 {
-    let Some(breaks) = given_breaks(break_set) else {
-        return UNKNOWN_BREAK_SET;
-    };
-    let Ok(made) = Intake::new(alloc, breaks) else {
-        return OUT_OF_MEMORY;
-    };
-    match Box::new(alloc, made) {
-        Ok(made) => {
-            builder.put(made);
-            OK
-        }
-        Err(_) => OUT_OF_MEMORY,
-    }
+    let breaks = breaks_for!(break_set);
+    let made = allocated!(Intake::new(alloc, breaks));
+    let made = allocated!(Box::new(alloc, made));
+    builder.put(made);
+    OK
 }
 
 /// Appends bytes. They may end inside a character, which the next bytes continue.
@@ -57,12 +50,7 @@ pub extern "C" fn ropey_builder_append(
 ) -> u32
     ensures { TakesAt builder.old.held builder.new.held bytes.now result valid.old valid.new }
 {
-    let Some(mut held) = builder.take(alloc) else {
-        return NO_BUILDER_HELD;
-    };
-    let status = held.append(bytes, valid);
-    builder.put(held);
-    status
+    edit!(builder, alloc, NO_BUILDER_HELD, held => held.append(bytes, valid))
 }
 
 /// Makes the rope of all bytes that were given, in as few chunks as `ropey_from_text` does, and
@@ -85,9 +73,7 @@ pub extern "C" fn ropey_builder_finish(
         rope.new.rope }
     ensures spent { builder.new.held ≡ None }
 {
-    let Some(held) = builder.take(alloc) else {
-        return NO_BUILDER_HELD;
-    };
+    let held = some_or!(builder.take(alloc), NO_BUILDER_HELD);
     match Box::into_inner(held).finish(valid) {
         Ok(made) => keep(alloc, made, rope),
         Err(status) => status,
@@ -100,8 +86,5 @@ pub extern "C" fn ropey_builder_finish(
 pub extern "C" fn ropey_builder_free(alloc: Global, builder: &mut BuilderHandle)
     ensures { builder.new.held ≡ None }
 {
-    match builder.take(alloc) {
-        Some(held) => drop(held),
-        None => (),
-    }
+    drop(builder.take(alloc));
 }

@@ -10,8 +10,8 @@ ghost use Rattle.ropey_c.specs.Handles.{HoldsRope};
 ghost use Rattle.ropey_c.specs.Status.{IsStatus, IsTextStatus};
 
 use crate::handle::Handle;
-use crate::status::{INVALID_UTF8, NO_ROPE_HELD, OK, status, status_of};
-use rope_text::utf8;
+use crate::macros::{edit, ok_or, utf8_text};
+use crate::status::{OK, status, status_of};
 use ropey::{Error, Result, Rope};
 use std::alloc::Global;
 
@@ -58,13 +58,9 @@ fn insert_at_byte(rope: &mut Rope, byte_idx: usize, text: &[u8]) -> u32
     ensures breaks { rope.new.breaks ≡ rope.old.breaks }
     ensures kept { IsRope rope.old → IsRope rope.new }
 {
-    let Some(text) = utf8::text_of(text) else {
-        return INVALID_UTF8;
-    };
-    match char_at_byte(rope, byte_idx) {
-        Ok(char_idx) => status(rope.insert(char_idx, text)),
-        Err(error) => status_of(error),
-    }
+    let text = utf8_text!(text);
+    let char_idx = ok_or!(char_at_byte(rope, byte_idx), status_of);
+    status(rope.insert(char_idx, text))
 }
 
 /// Inserts the text before the byte `byte_idx`, counted from 0; for the number of bytes, at the
@@ -93,12 +89,7 @@ pub extern "C" fn ropey_insert_at_byte(
         (λ old. byte_insert_error old.text byte_idx [] ≡ None) }
     ensures kept { HoldsRope rope.new.rope }
 {
-    let Some(mut held) = rope.take(alloc) else {
-        return NO_ROPE_HELD;
-    };
-    let status = insert_at_byte(&mut held, byte_idx, text);
-    rope.put(held);
-    status
+    edit!(rope, alloc, held => insert_at_byte(&mut held, byte_idx, text))
 }
 
 fn remove_bytes(rope: &mut Rope, start: usize, end: usize) -> u32
@@ -113,10 +104,8 @@ fn remove_bytes(rope: &mut Rope, start: usize, end: usize) -> u32
     ensures breaks { rope.new.breaks ≡ rope.old.breaks }
     ensures kept { IsRope rope.old → IsRope rope.new }
 {
-    match chars_of_bytes(rope, start, end) {
-        Ok((first, last)) => status(rope.remove(first..last)),
-        Err(error) => status_of(error),
-    }
+    let (first, last) = ok_or!(chars_of_bytes(rope, start, end), status_of);
+    status(rope.remove(first..last))
 }
 
 /// Removes the bytes from `start` up to `end`, counted from 0. An empty range takes no memory and
@@ -144,10 +133,5 @@ pub extern "C" fn ropey_remove_bytes(
         (λ old. byte_range_error old.text (Some start) (Some end) ≡ None) }
     ensures kept { HoldsRope rope.new.rope }
 {
-    let Some(mut held) = rope.take(alloc) else {
-        return NO_ROPE_HELD;
-    };
-    let status = remove_bytes(&mut held, start, end);
-    rope.put(held);
-    status
+    edit!(rope, alloc, held => remove_bytes(&mut held, start, end))
 }

@@ -12,7 +12,8 @@ use crate::changes::{apply, keep, replace};
 use crate::changes_handle::ChangesHandle;
 use crate::handle::Handle;
 use crate::lent_changes::LentChanges;
-use crate::status::{NO_CHANGES_HELD, NO_ROPE_HELD, OK, TOO_LONG};
+use crate::macros::{edit, held_changes, ok_or};
+use crate::status::{NO_CHANGES_HELD, OK, TOO_LONG};
 use rope_changes::{ChangeSet, EditRange};
 use ropey::Rope;
 use std::alloc::Global;
@@ -83,23 +84,7 @@ pub extern "C" fn ropey_changes_of_edits(
         → changes.new.held ≡ Some (built (unchanged len) (map edit_of edits.now)) }
     ensures err { 0 < result → changes.new.held ≡ changes.old.held }
 {
-    match ChangeSet::new(alloc, len) {
-        Ok(made) => make(alloc, made, edits, changes),
-        Err(error) => status_of_change(error),
-    }
-}
-
-// Makes the edits in changes that were just made, and puts these into a handle.
-fn make(
-    alloc: Global,
-    mut made: ChangeSet,
-    edits: &[GivenEdit<'_>],
-    changes: &mut ChangesHandle,
-) -> u32
-    ensures status { IsEditsStatus made edits.now result }
-    ensures ok { result ≡ OK → changes.new.held ≡ Some (built made (map edit_of edits.now)) }
-    ensures err { 0 < result → changes.new.held ≡ changes.old.held }
-{
+    let mut made = ok_or!(ChangeSet::new(alloc, len), status_of_change);
     let status = replace_all(&mut made, edits);
     if status != OK {
         return status;
@@ -146,12 +131,7 @@ pub extern "C" fn ropey_apply_edits(
     ensures empty { length edits.now ≡ 0 → Keeps rope.old.rope rope.new.rope result (λ _. ⊤) }
     ensures kept { HoldsRope rope.new.rope }
 {
-    let Some(mut held) = rope.take(alloc) else {
-        return NO_ROPE_HELD;
-    };
-    let status = apply_edits(alloc, &mut held, edits);
-    rope.put(held);
-    status
+    edit!(rope, alloc, held => apply_edits(alloc, &mut held, edits))
 }
 
 fn shown<'a>(edit: &EditRange<'a>) -> Replacement<'a>
@@ -202,11 +182,6 @@ pub extern "C" fn ropey_changes_edits<'a>(
 ) -> u32
     ensures { ListsAt changes.now.held result edits.old edits.new count.old count.new }
 {
-    match changes.changes() {
-        Some(held) => {
-            *count = list(held, edits);
-            OK
-        }
-        None => NO_CHANGES_HELD,
-    }
+    *count = list(held_changes!(changes), edits);
+    OK
 }

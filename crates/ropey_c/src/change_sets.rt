@@ -1,26 +1,17 @@
 //! Changes made of other changes: two in a row as one, and one carried over another of the same
 //! text; and indices moved through changes.
-ghost use Rattle.std.specs.Prelude.{◌≡◌, ◌≤◌, ◌↔◌, IsTrue, Some};
+ghost use Rattle.std.specs.Prelude.{◌≡◌, ◌≤◌, ◌↔◌, IsTrue};
 ghost use Rattle.std.specs.List.{All};
-ghost use Rattle.ropey_c.specs.ChangeSets.{ComposesTo, RebasesTo, Rebases, MovesAt, MovesAllAt};
+ghost use Rattle.ropey_c.specs.ChangeSets.{ComposesTo, RebasesTo, MovesAt, MovesAllAt};
 ghost use Rattle.ropey_c.specs.ChangeStatus.{given_side};
 
 use crate::change_status::{given_side, status_of_change};
 use crate::changes::keep;
 use crate::changes_handle::ChangesHandle;
 use crate::lent_changes::LentChanges;
-use crate::status::{CHAR_INDEX_OUT_OF_BOUNDS, NO_CHANGES_HELD, OK, UNKNOWN_SIDE};
-use rope_changes::{ChangeSet, Side};
+use crate::macros::{held_changes, ok_or, some_or};
+use crate::status::{CHAR_INDEX_OUT_OF_BOUNDS, OK, UNKNOWN_SIDE};
 use std::alloc::Global;
-
-fn compose(alloc: Global, changes: &ChangeSet, later: &ChangeSet, both: &mut ChangesHandle) -> u32
-    ensures { ComposesTo (Some changes.now) (Some later.now) result both.old.held both.new.held }
-{
-    match changes.compose(later) {
-        Ok(made) => keep(alloc, made, both),
-        Err(error) => status_of_change(error),
-    }
-}
 
 /// Makes the changes that do what the changes and then `later` do, and frees those that `both`
 /// held. Takes memory for the replacements of the result and for the texts that it inserts.
@@ -39,44 +30,9 @@ pub extern "C" fn ropey_changes_compose(
 ) -> u32
     ensures { ComposesTo changes.now.held later.now.held result both.old.held both.new.held }
 {
-    let Some(first) = changes.changes() else {
-        return NO_CHANGES_HELD;
-    };
-    match later.changes() {
-        Some(second) => compose(alloc, first, second, both),
-        None => NO_CHANGES_HELD,
-    }
-}
-
-fn rebase_on(
-    alloc: Global,
-    changes: &ChangeSet,
-    over: &ChangeSet,
-    side: Side,
-    rebased: &mut ChangesHandle,
-) -> u32
-    ensures { Rebases side changes.now over.now result rebased.old.held rebased.new.held }
-{
-    match changes.rebase(over, side) {
-        Ok(made) => keep(alloc, made, rebased),
-        Err(error) => status_of_change(error),
-    }
-}
-
-fn rebase(
-    alloc: Global,
-    changes: &ChangeSet,
-    over: &ChangeSet,
-    side: u32,
-    rebased: &mut ChangesHandle,
-) -> u32
-    ensures { RebasesTo (Some changes.now) (Some over.now) (given_side side) result
-        rebased.old.held rebased.new.held }
-{
-    match given_side(side) {
-        Some(side) => rebase_on(alloc, changes, over, side, rebased),
-        None => UNKNOWN_SIDE,
-    }
+    let held = held_changes!(changes);
+    let made = ok_or!(held.compose(held_changes!(later)), status_of_change);
+    keep(alloc, made, both)
 }
 
 /// Makes the changes as changes of the text after `over`, where both are changes of one text, and
@@ -101,26 +57,11 @@ pub extern "C" fn ropey_changes_rebase(
     ensures { RebasesTo changes.now.held over.now.held (given_side side) result
         rebased.old.held rebased.new.held }
 {
-    let Some(own) = changes.changes() else {
-        return NO_CHANGES_HELD;
-    };
-    match over.changes() {
-        Some(other) => rebase(alloc, own, other, side, rebased),
-        None => NO_CHANGES_HELD,
-    }
-}
-
-fn move_index(changes: &ChangeSet, char_idx: usize, side: u32, moved: &mut usize) -> u32
-    ensures { MovesAt (Some changes.now) (given_side side) char_idx result moved.old moved.new }
-{
-    let Some(side) = given_side(side) else {
-        return UNKNOWN_SIDE;
-    };
-    if char_idx > changes.len_before() {
-        return CHAR_INDEX_OUT_OF_BOUNDS;
-    }
-    *moved = changes.map(char_idx, side);
-    OK
+    let held = held_changes!(changes);
+    let other = held_changes!(over);
+    let side = some_or!(given_side(side), UNKNOWN_SIDE);
+    let made = ok_or!(held.rebase(other, side), status_of_change);
+    keep(alloc, made, rebased)
 }
 
 /// Writes to `moved` the index in the text after the changes of a character, or of the end, of the
@@ -141,10 +82,13 @@ pub extern "C" fn ropey_changes_map(
 ) -> u32
     ensures { MovesAt changes.now.held (given_side side) char_idx result moved.old moved.new }
 {
-    match changes.changes() {
-        Some(held) => move_index(held, char_idx, side, moved),
-        None => NO_CHANGES_HELD,
+    let held = held_changes!(changes);
+    let side = some_or!(given_side(side), UNKNOWN_SIDE);
+    if char_idx > held.len_before() {
+        return CHAR_INDEX_OUT_OF_BOUNDS;
     }
+    *moved = held.map(char_idx, side);
+    OK
 }
 
 // Returns whether each of the indices is at most `most`.
@@ -157,20 +101,6 @@ fn are_within(char_indices: &[usize], most: usize) -> bool
         }
     }
     true
-}
-
-fn move_indices(changes: &ChangeSet, char_indices: &mut [usize], side: u32) -> u32
-    ensures { MovesAllAt (Some changes.now) (given_side side) result
-        char_indices.old char_indices.new }
-{
-    let Some(side) = given_side(side) else {
-        return UNKNOWN_SIDE;
-    };
-    if !are_within(char_indices, changes.len_before()) {
-        return CHAR_INDEX_OUT_OF_BOUNDS;
-    }
-    changes.map_sorted(char_indices, side);
-    OK
 }
 
 /// Moves each of the indices as `ropey_changes_map` does, in one pass over the replacements if the
@@ -189,8 +119,11 @@ pub extern "C" fn ropey_changes_map_sorted(
     ensures { MovesAllAt changes.now.held (given_side side) result
         char_indices.old char_indices.new }
 {
-    match changes.changes() {
-        Some(held) => move_indices(held, char_indices, side),
-        None => NO_CHANGES_HELD,
+    let held = held_changes!(changes);
+    let side = some_or!(given_side(side), UNKNOWN_SIDE);
+    if !are_within(char_indices, held.len_before()) {
+        return CHAR_INDEX_OUT_OF_BOUNDS;
     }
+    held.map_sorted(char_indices, side);
+    OK
 }

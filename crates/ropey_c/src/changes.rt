@@ -21,9 +21,9 @@ use crate::changes_handle::ChangesHandle;
 use crate::handle::Handle;
 use crate::lent::Lent;
 use crate::lent_changes::LentChanges;
-use crate::status::{INVALID_UTF8, NO_CHANGES_HELD, NO_ROPE_HELD, OK, OUT_OF_MEMORY, TOO_LONG};
+use crate::macros::{allocated, edit, held, held_changes, ok_or, some_or, utf8_text};
+use crate::status::{NO_CHANGES_HELD, OK, TOO_LONG};
 use rope_changes::ChangeSet;
-use rope_text::utf8;
 use ropey::Rope;
 use std::alloc::Global;
 
@@ -36,13 +36,9 @@ pub(crate) fn keep(alloc: Global, made: ChangeSet, changes: &mut ChangesHandle) 
 {
     // For the proof: changes are in normal form.
     let _ = made.is_empty();
-    match Box::new(alloc, made) {
-        Ok(made) => {
-            changes.put(made);
-            OK
-        }
-        Err(_) => OUT_OF_MEMORY,
-    }
+    let made = allocated!(Box::new(alloc, made));
+    changes.put(made);
+    OK
 }
 
 /// Makes changes of a text of `len` characters that keep all of it, and frees those that the handle
@@ -59,10 +55,8 @@ pub extern "C" fn ropey_changes_new(alloc: Global, len: usize, changes: &mut Cha
     ensures ok { result ≡ OK → changes.new.held ≡ Some (unchanged len) }
     ensures err { 0 < result → changes.new.held ≡ changes.old.held }
 {
-    match ChangeSet::new(alloc, len) {
-        Ok(made) => keep(alloc, made, changes),
-        Err(error) => status_of_change(error),
-    }
+    let made = ok_or!(ChangeSet::new(alloc, len), status_of_change);
+    keep(alloc, made, changes)
 }
 
 pub(crate) fn replace(changes: &mut ChangeSet, start: usize, end: usize, text: &[u8]) -> u32
@@ -72,10 +66,7 @@ pub(crate) fn replace(changes: &mut ChangeSet, start: usize, end: usize, text: &
     ensures empty { length text.now ≡ 0 → start ≡ end → IsInOrder changes.old start end
         → (result ≡ OK) × (changes.new ≡ changes.old) }
 {
-    match utf8::text_of(text) {
-        Some(text) => change_status(changes.replace(start, end, text)),
-        None => INVALID_UTF8,
-    }
+    change_status(changes.replace(start, end, utf8_text!(text)))
 }
 
 /// Replaces the characters from `start` up to `end` of the text before the changes by a text. The
@@ -105,12 +96,7 @@ pub extern "C" fn ropey_changes_replace(
         → KeepsChanges changes.old.held changes.new.held result
         (λ old. IsInOrder old start end) }
 {
-    let Some(mut held) = changes.take(alloc) else {
-        return NO_CHANGES_HELD;
-    };
-    let status = replace(&mut held, start, end, text);
-    changes.put(held);
-    status
+    edit!(changes, alloc, NO_CHANGES_HELD, held => replace(&mut held, start, end, text))
 }
 
 /// Frees the changes, if there are any. Afterwards the handle holds none. The contract doesn't say
@@ -119,10 +105,7 @@ pub extern "C" fn ropey_changes_replace(
 pub extern "C" fn ropey_changes_free(alloc: Global, changes: &mut ChangesHandle)
     ensures { changes.new.held ≡ None }
 {
-    match changes.take(alloc) {
-        Some(held) => drop(held),
-        None => (),
-    }
+    drop(changes.take(alloc));
 }
 
 /// Returns the number of characters of the text before the changes; 0 if the handle holds none.
@@ -130,10 +113,7 @@ pub extern "C" fn ropey_changes_free(alloc: Global, changes: &mut ChangesHandle)
 pub extern "C" fn ropey_changes_len_before(changes: &LentChanges) -> usize
     ensures { MatchOption changes.now.held (result ≡ 0) (λ c. result ≡ before c) }
 {
-    match changes.changes() {
-        Some(held) => held.len_before(),
-        None => 0,
-    }
+    some_or!(changes.changes(), 0).len_before()
 }
 
 /// Returns the number of characters of the text after the changes; 0 if the handle holds none.
@@ -141,10 +121,7 @@ pub extern "C" fn ropey_changes_len_before(changes: &LentChanges) -> usize
 pub extern "C" fn ropey_changes_len_after(changes: &LentChanges) -> usize
     ensures { MatchOption changes.now.held (result ≡ 0) (λ c. result ≡ after c) }
 {
-    match changes.changes() {
-        Some(held) => held.len_after(),
-        None => 0,
-    }
+    some_or!(changes.changes(), 0).len_after()
 }
 
 pub(crate) fn apply(changes: &ChangeSet, rope: &mut Rope) -> u32
@@ -183,25 +160,8 @@ pub extern "C" fn ropey_changes_apply(
         → Keeps rope.old.rope rope.new.rope result (λ old. length old.text ≡ before c)) }
     ensures kept { IfSome changes.now.held (λ _. HoldsRope rope.new.rope) }
 {
-    let Some(made) = changes.changes() else {
-        return NO_CHANGES_HELD;
-    };
-    let Some(mut held) = rope.take(alloc) else {
-        return NO_ROPE_HELD;
-    };
-    let status = apply(made, &mut held);
-    rope.put(held);
-    status
-}
-
-fn invert(alloc: Global, changes: &ChangeSet, rope: &Rope, inverse: &mut ChangesHandle) -> u32
-    ensures { InvertsTo (Some changes.now) (Some rope.now) result
-        inverse.old.held inverse.new.held }
-{
-    match changes.invert(rope) {
-        Ok(made) => keep(alloc, made, inverse),
-        Err(error) => status_of_change(error),
-    }
+    let made = held_changes!(changes);
+    edit!(rope, alloc, held => apply(made, &mut held))
 }
 
 /// Makes the changes that lead from the text after the changes back to the text of `before`, which
@@ -222,11 +182,7 @@ pub extern "C" fn ropey_changes_invert(
     ensures { InvertsTo changes.now.held before.now.rope result
         inverse.old.held inverse.new.held }
 {
-    let Some(made) = changes.changes() else {
-        return NO_CHANGES_HELD;
-    };
-    match before.held() {
-        Some(rope) => invert(alloc, made, rope, inverse),
-        None => NO_ROPE_HELD,
-    }
+    let held = held_changes!(changes);
+    let made = ok_or!(held.invert(held!(before)), status_of_change);
+    keep(alloc, made, inverse)
 }

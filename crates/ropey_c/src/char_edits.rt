@@ -8,11 +8,11 @@ ghost use Rattle.ropey_c.specs.Status.{IsStatus, IsTextStatus, IsCharStatus};
 ghost use Rattle.ropey_c.specs.Answers.{Changes, Keeps};
 
 use crate::handle::Handle;
+use crate::macros::{allocated, edit, some_or, utf8_text};
 use crate::status::{
-    CHAR_INDEX_OUT_OF_BOUNDS, INVALID_UTF8, NO_ROPE_HELD, NOT_A_CHARACTER, OK, OUT_OF_MEMORY,
-    status, status_of,
+    CHAR_INDEX_OUT_OF_BOUNDS, NO_ROPE_HELD, NOT_A_CHARACTER, OK, status, status_of,
 };
-use rope_text::{MAX_TEXT_BYTES, utf8};
+use rope_text::MAX_TEXT_BYTES;
 use ropey::{Error, Result, Rope};
 use std::alloc::Global;
 
@@ -26,10 +26,7 @@ fn insert(rope: &mut Rope, char_idx: usize, text: &[u8]) -> u32
     ensures breaks { rope.new.breaks ≡ rope.old.breaks }
     ensures kept { IsRope rope.old → IsRope rope.new }
 {
-    match utf8::text_of(text) {
-        Some(text) => status(rope.try_insert(char_idx, text)),
-        None => INVALID_UTF8,
-    }
+    status(rope.try_insert(char_idx, utf8_text!(text)))
 }
 
 /// Inserts the text before the character `char_idx`, counted from 0; for the number of characters,
@@ -57,12 +54,7 @@ pub extern "C" fn ropey_insert(
         (λ old. insert_error old.text char_idx [] ≡ None) }
     ensures kept { HoldsRope rope.new.rope }
 {
-    let Some(mut held) = rope.take(alloc) else {
-        return NO_ROPE_HELD;
-    };
-    let status = insert(&mut held, char_idx, text);
-    rope.put(held);
-    status
+    edit!(rope, alloc, held => insert(&mut held, char_idx, text))
 }
 
 fn insert_char(rope: &mut Rope, char_idx: usize, c: u32) -> u32
@@ -72,10 +64,8 @@ fn insert_char(rope: &mut Rope, char_idx: usize, c: u32) -> u32
     ensures breaks { rope.new.breaks ≡ rope.old.breaks }
     ensures kept { IsRope rope.old → IsRope rope.new }
 {
-    match char::from_u32(c) {
-        Some(c) => status(rope.try_insert_char(char_idx, c)),
-        None => NOT_A_CHARACTER,
-    }
+    let c = some_or!(char::from_u32(c), NOT_A_CHARACTER);
+    status(rope.try_insert_char(char_idx, c))
 }
 
 /// Inserts the character `c`, a Unicode scalar value, before the character `char_idx`, counted from
@@ -97,12 +87,7 @@ pub extern "C" fn ropey_insert_char(
         (λ old new. (new.text ≡ inserted old.text char_idx (c ∷ [])) × (new.breaks ≡ old.breaks)) }
     ensures kept { HoldsRope rope.new.rope }
 {
-    let Some(mut held) = rope.take(alloc) else {
-        return NO_ROPE_HELD;
-    };
-    let status = insert_char(&mut held, char_idx, c);
-    rope.put(held);
-    status
+    edit!(rope, alloc, held => insert_char(&mut held, char_idx, c))
 }
 
 /// Removes the characters from `start` up to `end`, counted from 0. An empty range takes no memory
@@ -122,12 +107,7 @@ pub extern "C" fn ropey_remove(alloc: Global, rope: &mut Handle, start: usize, e
         (λ old. char_range_error (Some start) (Some end) (length old.text) ≡ None) }
     ensures kept { HoldsRope rope.new.rope }
 {
-    let Some(mut held) = rope.take(alloc) else {
-        return NO_ROPE_HELD;
-    };
-    let status = status(held.try_remove(start..end));
-    rope.put(held);
-    status
+    edit!(rope, alloc, held => status(held.try_remove(start..end)))
 }
 
 // Splits a clone, so that the rope is unchanged if there is no memory for the handle of its tail.
@@ -145,15 +125,9 @@ fn split_off(alloc: Global, rope: &mut Rope, char_idx: usize, tail: &mut Handle)
     if char_idx > rope.len_chars() {
         return CHAR_INDEX_OUT_OF_BOUNDS;
     }
-    let Ok(mut front) = rope.clone() else {
-        return OUT_OF_MEMORY;
-    };
-    let Ok(back) = front.split_off(char_idx) else {
-        return OUT_OF_MEMORY;
-    };
-    let Ok(back) = Box::new(alloc, back) else {
-        return OUT_OF_MEMORY;
-    };
+    let mut front = allocated!(rope.clone());
+    let back = allocated!(front.split_off(char_idx));
+    let back = allocated!(Box::new(alloc, back));
     tail.put(back);
     *rope = front;
     OK
@@ -184,12 +158,7 @@ pub extern "C" fn ropey_split_off(
     ensures err { 0 < result → tail.new.rope ≡ tail.old.rope }
     ensures kept { HoldsRope rope.new.rope }
 {
-    let Some(mut held) = rope.take(alloc) else {
-        return NO_ROPE_HELD;
-    };
-    let status = split_off(alloc, &mut held, char_idx, tail);
-    rope.put(held);
-    status
+    edit!(rope, alloc, held => split_off(alloc, &mut held, char_idx, tail))
 }
 
 // Whether another rope can be appended to one, memory aside.
@@ -244,9 +213,7 @@ pub extern "C" fn ropey_append(alloc: Global, rope: &mut Handle, other: &mut Han
         → other.new.rope ≡ other.old.rope)) }
     ensures kept { HoldsRope rope.new.rope }
 {
-    let Some(mut held) = rope.take(alloc) else {
-        return NO_ROPE_HELD;
-    };
+    let mut held = some_or!(rope.take(alloc), NO_ROPE_HELD);
     let Some(end) = other.take(alloc) else {
         rope.put(held);
         return NO_ROPE_HELD;

@@ -2,7 +2,7 @@
 //!
 //! The bytes belong to the rope, and are lent for as long as its handle is: until it is edited or
 //! freed. Each call costs one lookup and takes no memory.
-ghost use Rattle.std.specs.Prelude.{◌≡◌, length, MatchOption};
+ghost use Rattle.std.specs.Prelude.{length};
 ghost use Rattle.std.specs.Str.{chars};
 ghost use Rattle.rope_text.specs.Text.{byte_len};
 ghost use Rattle.rope_text.specs.Lines.{line_count};
@@ -11,8 +11,9 @@ ghost use Rattle.ropey_c.specs.Answers.{FindsChunk, IsChunk};
 ghost use Rattle.ropey_c.specs.Handles.{HoldsRope};
 
 use crate::lent::Lent;
+use crate::macros::{held, some_or};
 use crate::status::{
-    BYTE_INDEX_OUT_OF_BOUNDS, CHAR_INDEX_OUT_OF_BOUNDS, LINE_INDEX_OUT_OF_BOUNDS, NO_ROPE_HELD, OK,
+    BYTE_INDEX_OUT_OF_BOUNDS, CHAR_INDEX_OUT_OF_BOUNDS, LINE_INDEX_OUT_OF_BOUNDS, OK,
 };
 
 /// A chunk: its bytes, which are lent, and the bytes, the characters and the line breaks of the
@@ -44,24 +45,6 @@ fn chunk_of(
     }
 }
 
-// Writes the chunk that was found to `chunk`.
-fn write_chunk<'a>(
-    found: Option<(&'a str, usize, usize, usize)>,
-    missing: u32,
-    chunk: &mut Chunk<'a>,
-) -> u32
-    ensures { MatchOption found.entry ((result ≡ missing) × (chunk.new ≡ chunk.old))
-        (λ f. (result ≡ OK) × IsChunk (chars f.0.now) f.1 f.2 f.3 chunk.new) }
-{
-    match found {
-        Some((text, bytes, chars, line_breaks)) => {
-            *chunk = chunk_of(text, bytes, chars, line_breaks);
-            OK
-        }
-        None => missing,
-    }
-}
-
 /// Writes the chunk that holds the byte `byte_idx`, and at the end of the text the last chunk.
 ///
 /// # Errors
@@ -79,14 +62,10 @@ pub extern "C" fn ropey_chunk_at_byte<'a>(
         BYTE_INDEX_OUT_OF_BOUNDS result chunk.old chunk.new }
     ensures kept { HoldsRope rope.now.rope }
 {
-    let Some(held) = rope.held() else {
-        return NO_ROPE_HELD;
-    };
-    write_chunk(
-        held.get_chunk_at_byte(byte_idx),
-        BYTE_INDEX_OUT_OF_BOUNDS,
-        chunk,
-    )
+    let found = held!(rope).get_chunk_at_byte(byte_idx);
+    let (text, bytes, chars, line_breaks) = some_or!(found, BYTE_INDEX_OUT_OF_BOUNDS);
+    *chunk = chunk_of(text, bytes, chars, line_breaks);
+    OK
 }
 
 /// Writes the chunk that holds the character `char_idx`, and at the end of the text the last chunk.
@@ -106,14 +85,10 @@ pub extern "C" fn ropey_chunk_at_char<'a>(
         CHAR_INDEX_OUT_OF_BOUNDS result chunk.old chunk.new }
     ensures kept { HoldsRope rope.now.rope }
 {
-    let Some(held) = rope.held() else {
-        return NO_ROPE_HELD;
-    };
-    write_chunk(
-        held.get_chunk_at_char(char_idx),
-        CHAR_INDEX_OUT_OF_BOUNDS,
-        chunk,
-    )
+    let found = held!(rope).get_chunk_at_char(char_idx);
+    let (text, bytes, chars, line_breaks) = some_or!(found, CHAR_INDEX_OUT_OF_BOUNDS);
+    *chunk = chunk_of(text, bytes, chars, line_breaks);
+    OK
 }
 
 /// Writes the chunk that holds the line break before the line `line_idx`; for the first line the
@@ -134,12 +109,8 @@ pub extern "C" fn ropey_chunk_at_line_break<'a>(
         LINE_INDEX_OUT_OF_BOUNDS result chunk.old chunk.new }
     ensures kept { HoldsRope rope.now.rope }
 {
-    let Some(held) = rope.held() else {
-        return NO_ROPE_HELD;
-    };
-    write_chunk(
-        held.get_chunk_at_line_break(line_idx),
-        LINE_INDEX_OUT_OF_BOUNDS,
-        chunk,
-    )
+    let found = held!(rope).get_chunk_at_line_break(line_idx);
+    let (text, bytes, chars, line_breaks) = some_or!(found, LINE_INDEX_OUT_OF_BOUNDS);
+    *chunk = chunk_of(text, bytes, chars, line_breaks);
+    OK
 }

@@ -1,15 +1,14 @@
 //! Comparisons of the texts of ropes, whatever their chunks and their sets of line breaks. No call
 //! takes memory.
-ghost use Rattle.std.specs.Prelude.{◌≡◌, IsTrue, ◌↔◌, Some, None};
+ghost use Rattle.std.specs.Prelude.{◌≡◌, IsTrue, ◌↔◌, None};
 ghost use Rattle.std.specs.Str.{chars, IsUtf8};
 ghost use Rattle.rope_text.specs.Compare.{text_cmp};
 ghost use Rattle.ropey_c.specs.Handles.{HoldsRope};
 ghost use Rattle.ropey_c.specs.Answers.{sign_of, Compares, ComparesText};
 
 use crate::lent::Lent;
-use crate::status::{INVALID_UTF8, NO_ROPE_HELD, OK};
-use rope_text::utf8;
-use ropey::Rope;
+use crate::macros::{held, utf8_text};
+use crate::status::OK;
 use std::cmp::Ordering;
 
 // -1, 0 or 1.
@@ -34,23 +33,9 @@ pub extern "C" fn ropey_compare(rope: &Lent, other: &Lent, order: &mut i32) -> u
     ensures answer { Compares rope.now.rope other.now.rope result order.old order.new }
     ensures kept { HoldsRope rope.now.rope }
 {
-    let Some(left) = rope.held() else {
-        return NO_ROPE_HELD;
-    };
-    let Some(right) = other.held() else {
-        return NO_ROPE_HELD;
-    };
+    let left = held!(rope);
+    let right = held!(other);
     *order = sign_of(left.cmp(right));
-    OK
-}
-
-fn equals(rope: &Rope, text: &[u8], equal: &mut bool) -> u32
-    ensures { ComparesText (Some rope.now) text.now result equal.old equal.new }
-{
-    let Some(text) = utf8::text_of(text) else {
-        return INVALID_UTF8;
-    };
-    *equal = rope.eq_str(text);
     OK
 }
 
@@ -64,8 +49,8 @@ pub extern "C" fn ropey_equals_text(rope: &Lent, text: &[u8], equal: &mut bool) 
     ensures answer { ComparesText rope.now.rope text.now result equal.old equal.new }
     ensures kept { HoldsRope rope.now.rope }
 {
-    let Some(held) = rope.held() else {
-        return NO_ROPE_HELD;
-    };
-    equals(held, text, equal)
+    let held = held!(rope);
+    let text = utf8_text!(text);
+    *equal = held.eq_str(text);
+    OK
 }

@@ -12,7 +12,8 @@ ghost use Rattle.ropey_c.specs.Handles.{HoldsRope};
 ghost use Rattle.ropey_c.specs.Answers.{AnswersAt};
 
 use crate::lent::Lent;
-use crate::status::{NO_ROPE_HELD, answer};
+use crate::macros::held;
+use crate::status::answer;
 
 /// Writes the character that holds the byte `byte_idx`, also if the byte is inside the character;
 /// at the end of the text, the number of characters.
@@ -27,10 +28,7 @@ pub extern "C" fn ropey_byte_to_char(rope: &Lent, byte_idx: usize, char_idx: &mu
         result char_idx.old char_idx.new }
     ensures kept { HoldsRope rope.now.rope }
 {
-    let Some(held) = rope.held() else {
-        return NO_ROPE_HELD;
-    };
-    answer(held.try_byte_to_char(byte_idx), char_idx)
+    answer(held!(rope).try_byte_to_char(byte_idx), char_idx)
 }
 
 /// Writes the line of the byte `byte_idx`. A byte inside a break of several bytes is on the line
@@ -47,10 +45,7 @@ pub extern "C" fn ropey_byte_to_line(rope: &Lent, byte_idx: usize, line_idx: &mu
         result line_idx.old line_idx.new }
     ensures kept { HoldsRope rope.now.rope }
 {
-    let Some(held) = rope.held() else {
-        return NO_ROPE_HELD;
-    };
-    answer(held.try_byte_to_line(byte_idx), line_idx)
+    answer(held!(rope).try_byte_to_line(byte_idx), line_idx)
 }
 
 /// Writes the byte at which the character `char_idx` starts; at the end of the text, the number of
@@ -66,10 +61,7 @@ pub extern "C" fn ropey_char_to_byte(rope: &Lent, char_idx: usize, byte_idx: &mu
         result byte_idx.old byte_idx.new }
     ensures kept { HoldsRope rope.now.rope }
 {
-    let Some(held) = rope.held() else {
-        return NO_ROPE_HELD;
-    };
-    answer(held.try_char_to_byte(char_idx), byte_idx)
+    answer(held!(rope).try_char_to_byte(char_idx), byte_idx)
 }
 
 /// Writes the line of the character `char_idx`. The LF of a CR LF is on the line that the two end.
@@ -85,10 +77,7 @@ pub extern "C" fn ropey_char_to_line(rope: &Lent, char_idx: usize, line_idx: &mu
         result line_idx.old line_idx.new }
     ensures kept { HoldsRope rope.now.rope }
 {
-    let Some(held) = rope.held() else {
-        return NO_ROPE_HELD;
-    };
-    answer(held.try_char_to_line(char_idx), line_idx)
+    answer(held!(rope).try_char_to_line(char_idx), line_idx)
 }
 
 /// Writes the UTF-16 code unit at which the character `char_idx` starts; at the end of the text,
@@ -104,10 +93,7 @@ pub extern "C" fn ropey_char_to_utf16(rope: &Lent, char_idx: usize, utf16_idx: &
         result utf16_idx.old utf16_idx.new }
     ensures kept { HoldsRope rope.now.rope }
 {
-    let Some(held) = rope.held() else {
-        return NO_ROPE_HELD;
-    };
-    answer(held.try_char_to_utf16_cu(char_idx), utf16_idx)
+    answer(held!(rope).try_char_to_utf16_cu(char_idx), utf16_idx)
 }
 
 /// Writes the character that holds the UTF-16 code unit `utf16_idx`, also if that is the second of
@@ -124,10 +110,7 @@ pub extern "C" fn ropey_utf16_to_char(rope: &Lent, utf16_idx: usize, char_idx: &
         result char_idx.old char_idx.new }
     ensures kept { HoldsRope rope.now.rope }
 {
-    let Some(held) = rope.held() else {
-        return NO_ROPE_HELD;
-    };
-    answer(held.try_utf16_cu_to_char(utf16_idx), char_idx)
+    answer(held!(rope).try_utf16_cu_to_char(utf16_idx), char_idx)
 }
 
 /// Writes the byte at which the line `line_idx` starts; for the number of lines, the end of the
@@ -144,10 +127,7 @@ pub extern "C" fn ropey_line_to_byte(rope: &Lent, line_idx: usize, byte_idx: &mu
         result byte_idx.old byte_idx.new }
     ensures kept { HoldsRope rope.now.rope }
 {
-    let Some(held) = rope.held() else {
-        return NO_ROPE_HELD;
-    };
-    answer(held.try_line_to_byte(line_idx), byte_idx)
+    answer(held!(rope).try_line_to_byte(line_idx), byte_idx)
 }
 
 /// Writes the character at which the line `line_idx` starts; for the number of lines, the end of
@@ -164,8 +144,5 @@ pub extern "C" fn ropey_line_to_char(rope: &Lent, line_idx: usize, char_idx: &mu
         result char_idx.old char_idx.new }
     ensures kept { HoldsRope rope.now.rope }
 {
-    let Some(held) = rope.held() else {
-        return NO_ROPE_HELD;
-    };
-    answer(held.try_line_to_char(line_idx), char_idx)
+    answer(held!(rope).try_line_to_char(line_idx), char_idx)
 }

@@ -7,12 +7,13 @@ ghost use Rattle.rope_text.specs.Conversions.{byte_to_char};
 ghost use Rattle.rope_text.specs.Edit.{char_range_error, byte_range_error};
 ghost use Rattle.rope_slice.specs.Slice.{text_of};
 ghost use Rattle.ropey_c.specs.Handles.{HoldsRope};
-ghost use Rattle.ropey_c.specs.Answers.{Copies, CopiesOf, CopiesAt};
+ghost use Rattle.ropey_c.specs.Answers.{Copies, CopiesAt};
 
 use crate::lent::Lent;
-use crate::status::{BUFFER_TOO_SMALL, NO_ROPE_HELD, OK, status_of};
+use crate::macros::{held, ok_or};
+use crate::status::{BUFFER_TOO_SMALL, OK, status_of};
 use rope_text::range::char_bounds;
-use ropey::{Rope, RopeSlice};
+use ropey::RopeSlice;
 
 // Writes the bytes over those from an index on.
 pub(crate) fn write_at(buffer: &mut [u8], at: usize, bytes: &[u8])
@@ -51,17 +52,6 @@ fn copy(slice: &RopeSlice<'_>, buffer: &mut [u8], len: &mut usize) -> u32
     OK
 }
 
-fn copy_chars(rope: &Rope, start: usize, end: usize, buffer: &mut [u8], len: &mut usize) -> u32
-    ensures { CopiesOf (char_range_error (Some start) (Some end) (length rope.now.text))
-        (encode_utf8_all (slice_range rope.now.text start end))
-        result buffer.old buffer.new len.old len.new }
-{
-    match char_bounds(&(start..end), rope.len_chars()) {
-        Ok((start, end)) => copy(&rope.slice(start..end), buffer, len),
-        Err(error) => status_of(error),
-    }
-}
-
 /// Copies the text of the characters from `start` up to `end`, counted from 0, to the front of the
 /// buffer, and writes its number of bytes to `len`. The bytes of the buffer after it stay. Costs
 /// two lookups and a copy.
@@ -85,23 +75,9 @@ pub extern "C" fn ropey_copy_chars(
         result buffer.old buffer.new len.old len.new }
     ensures kept { HoldsRope rope.now.rope }
 {
-    let Some(held) = rope.held() else {
-        return NO_ROPE_HELD;
-    };
-    copy_chars(held, start, end, buffer, len)
-}
-
-fn copy_bytes(rope: &Rope, start: usize, end: usize, buffer: &mut [u8], len: &mut usize) -> u32
-    ensures { CopiesOf (byte_range_error rope.now.text (Some start) (Some end))
-        (encode_utf8_all
-        (slice_range rope.now.text (byte_to_char rope.now.text start)
-        (byte_to_char rope.now.text end)))
-        result buffer.old buffer.new len.old len.new }
-{
-    match rope.try_byte_slice(start..end) {
-        Ok(slice) => copy(&slice, buffer, len),
-        Err(error) => status_of(error),
-    }
+    let held = held!(rope);
+    let (start, end) = ok_or!(char_bounds(&(start..end), held.len_chars()), status_of);
+    copy(&held.slice(start..end), buffer, len)
 }
 
 /// Copies the text of the bytes from `start` up to `end`, counted from 0, to the front of the
@@ -127,8 +103,6 @@ pub extern "C" fn ropey_copy_bytes(
         result buffer.old buffer.new len.old len.new }
     ensures kept { HoldsRope rope.now.rope }
 {
-    let Some(held) = rope.held() else {
-        return NO_ROPE_HELD;
-    };
-    copy_bytes(held, start, end, buffer, len)
+    let slice = ok_or!(held!(rope).try_byte_slice(start..end), status_of);
+    copy(&slice, buffer, len)
 }

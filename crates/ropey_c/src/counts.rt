@@ -5,12 +5,13 @@ ghost use Rattle.rope_text.specs.Conversions.{byte_to_char};
 ghost use Rattle.rope_text.specs.Edit.{char_range_error, byte_range_error};
 ghost use Rattle.rope_slice.specs.Slice.{text_of, breaks_of};
 ghost use Rattle.ropey_c.specs.Handles.{HoldsRope};
-ghost use Rattle.ropey_c.specs.Counts.{IsCounts, CountsOf, CountsAt};
+ghost use Rattle.ropey_c.specs.Counts.{IsCounts, CountsAt};
 
 use crate::lent::Lent;
-use crate::status::{NO_ROPE_HELD, OK, status_of};
+use crate::macros::{held, ok_or};
+use crate::status::{OK, status_of};
 use rope_text::range::char_bounds;
-use ropey::{Rope, RopeSlice};
+use ropey::RopeSlice;
 
 /// The counts of a text, in each of the units.
 #[repr(C)]
@@ -34,19 +35,6 @@ pub(crate) fn counts_of(slice: &RopeSlice<'_>) -> Counts
     }
 }
 
-fn count_chars(rope: &Rope, start: usize, end: usize, counts: &mut Counts) -> u32
-    ensures { CountsOf (char_range_error (Some start) (Some end) (length rope.now.text))
-        rope.now.breaks (slice_range rope.now.text start end) result counts.old counts.new }
-{
-    match char_bounds(&(start..end), rope.len_chars()) {
-        Ok((start, end)) => {
-            *counts = counts_of(&rope.slice(start..end));
-            OK
-        }
-        Err(error) => status_of(error),
-    }
-}
-
 /// Writes the counts of the characters from `start` up to `end`, counted from 0, as a text of their
 /// own: a CR whose LF is outside is a line break by itself.
 ///
@@ -66,25 +54,10 @@ pub extern "C" fn ropey_counts_in_chars(
         (λ r. slice_range r.text start end) result counts.old counts.new }
     ensures kept { HoldsRope rope.now.rope }
 {
-    match rope.held() {
-        Some(held) => count_chars(held, start, end, counts),
-        None => NO_ROPE_HELD,
-    }
-}
-
-fn count_bytes(rope: &Rope, start: usize, end: usize, counts: &mut Counts) -> u32
-    ensures { CountsOf (byte_range_error rope.now.text (Some start) (Some end)) rope.now.breaks
-        (slice_range rope.now.text (byte_to_char rope.now.text start)
-        (byte_to_char rope.now.text end))
-        result counts.old counts.new }
-{
-    match rope.try_byte_slice(start..end) {
-        Ok(slice) => {
-            *counts = counts_of(&slice);
-            OK
-        }
-        Err(error) => status_of(error),
-    }
+    let held = held!(rope);
+    let (start, end) = ok_or!(char_bounds(&(start..end), held.len_chars()), status_of);
+    *counts = counts_of(&held.slice(start..end));
+    OK
 }
 
 /// Writes the counts of the bytes from `start` up to `end`, counted from 0, as a text of their own.
@@ -105,8 +78,7 @@ pub extern "C" fn ropey_counts_in_bytes(
         result counts.old counts.new }
     ensures kept { HoldsRope rope.now.rope }
 {
-    match rope.held() {
-        Some(held) => count_bytes(held, start, end, counts),
-        None => NO_ROPE_HELD,
-    }
+    let slice = ok_or!(held!(rope).try_byte_slice(start..end), status_of);
+    *counts = counts_of(&slice);
+    OK
 }

@@ -7,8 +7,9 @@ ghost use Rattle.ropey_c.specs.Files.{encoding_of_bytes, offset_of_fault, IsRead
 
 use crate::encodings::{Fault, encoding_of_bytes, number_of_encoding, status_of_fault};
 use crate::handle::Handle;
+use crate::macros::{breaks_for, some_or};
 use crate::makers::keep;
-use crate::status::{OK, UNKNOWN_BREAK_SET, UNKNOWN_ENCODING, given_breaks};
+use crate::status::{OK, UNKNOWN_ENCODING, given_breaks};
 use rope_files::{Encoding, ReadAnyError, ReadAnyResult, read_any_watched};
 use rope_text::utf8;
 use ropey::io::{Mark, Source};
@@ -200,12 +201,8 @@ pub extern "C" fn ropey_from_bytes_as(
     ensures { ReadsAs (given_breaks break_set) (encoding_of_bytes encoding bytes.now) bytes.now
         result rope.old.rope rope.new.rope found.old found.new offset.old offset.new }
 {
-    let Some(breaks) = given_breaks(break_set) else {
-        return UNKNOWN_BREAK_SET;
-    };
-    let Some(encoding) = encoding_of_bytes(encoding, bytes) else {
-        return UNKNOWN_ENCODING;
-    };
+    let breaks = breaks_for!(break_set);
+    let encoding = some_or!(encoding_of_bytes(encoding, bytes), UNKNOWN_ENCODING);
     let read = read(alloc, bytes, breaks, encoding);
     report(alloc, read, encoding, rope, found, offset)
 }

@@ -10,7 +10,8 @@ ghost use Rattle.ropey_c.specs.Files.{given_file_encoding, body_len, spelled, Wr
 use crate::copies::{copy_chunks, write_at};
 use crate::encodings::given_file_encoding;
 use crate::lent::Lent;
-use crate::status::{BUFFER_TOO_SMALL, NO_ROPE_HELD, OK, UNENCODABLE, UNKNOWN_ENCODING};
+use crate::macros::{held, some_or};
+use crate::status::{BUFFER_TOO_SMALL, OK, UNENCODABLE, UNKNOWN_ENCODING};
 use rope_files::Encoding;
 use ropey::Rope;
 
@@ -186,11 +187,7 @@ pub extern "C" fn ropey_write_as(
         buffer.old buffer.new len.old len.new char_idx.old char_idx.new }
     ensures kept { HoldsRope rope.now.rope }
 {
-    let Some(held) = rope.held() else {
-        return NO_ROPE_HELD;
-    };
-    let Some(encoding) = given_file_encoding(encoding) else {
-        return UNKNOWN_ENCODING;
-    };
+    let held = held!(rope);
+    let encoding = some_or!(given_file_encoding(encoding), UNKNOWN_ENCODING);
     write(held, encoding, buffer, len, char_idx)
 }

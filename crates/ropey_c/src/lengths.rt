@@ -6,6 +6,7 @@ ghost use Rattle.rope_text.specs.Lines.{line_count};
 ghost use Rattle.ropey_c.specs.Handles.{len_at, HoldsRope};
 
 use crate::lent::Lent;
+use crate::macros::some_or;
 
 /// Returns the length in bytes.
 #[unsafe(no_mangle)]
@@ -13,10 +14,7 @@ pub extern "C" fn ropey_len_bytes(rope: &Lent) -> usize
     ensures len { result ≡ len_at rope.now.rope (λ r. byte_len r.text) }
     ensures kept { HoldsRope rope.now.rope }
 {
-    match rope.held() {
-        Some(held) => held.len_bytes(),
-        None => 0,
-    }
+    some_or!(rope.held(), 0).len_bytes()
 }
 
 /// Returns the length in characters.
@@ -25,10 +23,7 @@ pub extern "C" fn ropey_len_chars(rope: &Lent) -> usize
     ensures len { result ≡ len_at rope.now.rope (λ r. length r.text) }
     ensures kept { HoldsRope rope.now.rope }
 {
-    match rope.held() {
-        Some(held) => held.len_chars(),
-        None => 0,
-    }
+    some_or!(rope.held(), 0).len_chars()
 }
 
 /// Returns the number of lines: one more than there are line breaks.
@@ -37,10 +32,7 @@ pub extern "C" fn ropey_len_lines(rope: &Lent) -> usize
     ensures len { result ≡ len_at rope.now.rope (λ r. line_count r.breaks r.text) }
     ensures kept { HoldsRope rope.now.rope }
 {
-    match rope.held() {
-        Some(held) => held.len_lines(),
-        None => 0,
-    }
+    some_or!(rope.held(), 0).len_lines()
 }
 
 /// Returns the length in UTF-16 code units.
@@ -49,8 +41,5 @@ pub extern "C" fn ropey_len_utf16(rope: &Lent) -> usize
     ensures len { result ≡ len_at rope.now.rope (λ r. utf16_len r.text) }
     ensures kept { HoldsRope rope.now.rope }
 {
-    match rope.held() {
-        Some(held) => held.len_utf16_cu(),
-        None => 0,
-    }
+    some_or!(rope.held(), 0).len_utf16_cu()
 }

@@ -33,7 +33,8 @@
 //! files, over `encodings`; `changes` makes changes as values and applies them, `change_edits`
 //! makes them of lists and reads them back, `change_sets` composes and rebases them; `handle`,
 //! `lent`, `builder_handle`, `changes_handle`, `lent_changes` and `unboxed` own or lend the values
-//! of handles; `status` and `change_status` have the numbers of errors.
+//! of handles; `status` and `change_status` have the numbers of errors, and `macros` the steps by
+//! which calls return them.
 #![tactic(auto)]
 
 pub mod builder_handle;
@@ -53,12 +54,14 @@ pub mod counts;
 mod encodings;
 pub mod file_reading;
 pub mod file_writing;
+mod fill;
 pub mod handle;
 pub mod intake;
 pub mod lengths;
 pub mod lent;
 pub mod lent_changes;
 pub mod lookups;
+mod macros;
 pub mod makers;
 pub mod pieces;
 pub mod positions;

@@ -9,11 +9,11 @@ ghost use Rattle.ropey_c.specs.Answers.{FindsAt, FindsLine, FindsLineBreak};
 ghost use Rattle.ropey_c.specs.Status.{number_of};
 
 use crate::lent::Lent;
+use crate::macros::{held, some_or};
 use crate::status::{
     BYTE_INDEX_OUT_OF_BOUNDS, CHAR_INDEX_OUT_OF_BOUNDS, LINE_INDEX_OUT_OF_BOUNDS, NO_ROPE_HELD, OK,
     number_of,
 };
-use ropey::Rope;
 
 /// A range of a text, from `start` up to `end`, the first index after it. Both count from 0.
 #[repr(C)]
@@ -34,10 +34,7 @@ pub extern "C" fn ropey_get_break_set(rope: &Lent, break_set: &mut u32) -> u32
         NO_ROPE_HELD result break_set.old break_set.new }
     ensures kept { HoldsRope rope.now.rope }
 {
-    let Some(held) = rope.held() else {
-        return NO_ROPE_HELD;
-    };
-    *break_set = number_of(held.line_breaks());
+    *break_set = number_of(held!(rope).line_breaks());
     OK
 }
 
@@ -52,16 +49,8 @@ pub extern "C" fn ropey_byte(rope: &Lent, byte_idx: usize, byte: &mut u8) -> u32
         BYTE_INDEX_OUT_OF_BOUNDS result byte.old byte.new }
     ensures kept { HoldsRope rope.now.rope }
 {
-    let Some(held) = rope.held() else {
-        return NO_ROPE_HELD;
-    };
-    match held.get_byte(byte_idx) {
-        Some(value) => {
-            *byte = value;
-            OK
-        }
-        None => BYTE_INDEX_OUT_OF_BOUNDS,
-    }
+    *byte = some_or!(held!(rope).get_byte(byte_idx), BYTE_INDEX_OUT_OF_BOUNDS);
+    OK
 }
 
 /// Writes the character `char_idx`, counted from 0, as a Unicode scalar value.
@@ -75,28 +64,8 @@ pub extern "C" fn ropey_char(rope: &Lent, char_idx: usize, c: &mut u32) -> u32
         CHAR_INDEX_OUT_OF_BOUNDS result c.old c.new }
     ensures kept { HoldsRope rope.now.rope }
 {
-    let Some(held) = rope.held() else {
-        return NO_ROPE_HELD;
-    };
-    match held.get_char(char_idx) {
-        Some(value) => {
-            *c = u32::from(value);
-            OK
-        }
-        None => CHAR_INDEX_OUT_OF_BOUNDS,
-    }
-}
-
-fn find_line(rope: &Rope, line_idx: usize, chars: &mut Span) -> u32
-    ensures { FindsLine (Some rope.now) line_idx result chars.old chars.new }
-{
-    if line_idx >= rope.len_lines() {
-        return LINE_INDEX_OUT_OF_BOUNDS;
-    }
-    *chars = Span {
-        start: rope.line_to_char(line_idx),
-        end: rope.line_to_char(line_idx + 1),
-    };
+    let found = some_or!(held!(rope).get_char(char_idx), CHAR_INDEX_OUT_OF_BOUNDS);
+    *c = u32::from(found);
     OK
 }
 
@@ -111,19 +80,14 @@ pub extern "C" fn ropey_line(rope: &Lent, line_idx: usize, chars: &mut Span) -> 
     ensures answer { FindsLine rope.now.rope line_idx result chars.old chars.new }
     ensures kept { HoldsRope rope.now.rope }
 {
-    let Some(held) = rope.held() else {
-        return NO_ROPE_HELD;
-    };
-    find_line(held, line_idx, chars)
-}
-
-fn find_line_break(rope: &Rope, line_idx: usize, len: &mut usize) -> u32
-    ensures { FindsLineBreak (Some rope.now) line_idx result len.old len.new }
-{
-    if line_idx >= rope.len_lines() {
+    let held = held!(rope);
+    if line_idx >= held.len_lines() {
         return LINE_INDEX_OUT_OF_BOUNDS;
     }
-    *len = rope.line(line_idx).line_break().len_chars();
+    *chars = Span {
+        start: held.line_to_char(line_idx),
+        end: held.line_to_char(line_idx + 1),
+    };
     OK
 }
 
@@ -139,8 +103,10 @@ pub extern "C" fn ropey_line_break(rope: &Lent, line_idx: usize, len: &mut usize
     ensures answer { FindsLineBreak rope.now.rope line_idx result len.old len.new }
     ensures kept { HoldsRope rope.now.rope }
 {
-    match rope.held() {
-        Some(held) => find_line_break(held, line_idx, len),
-        None => NO_ROPE_HELD,
+    let held = held!(rope);
+    if line_idx >= held.len_lines() {
+        return LINE_INDEX_OUT_OF_BOUNDS;
     }
+    *len = held.line(line_idx).line_break().len_chars();
+    OK
 }

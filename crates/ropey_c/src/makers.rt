@@ -5,17 +5,14 @@ ghost use Rattle.rope_text.specs.declared.error.Error.TheVariants.{OutOfMemory};
 ghost use Rattle.rope_slice.specs.Slice.{text_of, breaks_of};
 ghost use Rattle.ropey.specs.View.{HasFewChunks, IsBuilt, IsRope};
 ghost use Rattle.ropey_c.specs.Handles.{HoldsRope};
-ghost use Rattle.ropey_c.specs.Status.{given_breaks, IsStatus, IsTextStatus, IsMakerStatus};
+ghost use Rattle.ropey_c.specs.Status.{given_breaks, IsStatus, IsMakerStatus};
 ghost use Rattle.ropey_c.specs.Answers.{Changes, Keeps, IsBuiltWith, ClonesChars};
 
 use crate::handle::Handle;
 use crate::lent::Lent;
-use crate::status::{
-    INVALID_UTF8, NO_ROPE_HELD, OK, OUT_OF_MEMORY, UNKNOWN_BREAK_SET, given_breaks, status,
-    status_of,
-};
+use crate::macros::{allocated, breaks_for, edit, held, ok_or, utf8_text};
+use crate::status::{NO_ROPE_HELD, OK, given_breaks, status, status_of};
 use rope_text::range::char_bounds;
-use rope_text::utf8;
 use ropey::{LineBreaks, Rope, RopeSlice};
 use std::alloc::Global;
 use std::str;
@@ -26,13 +23,9 @@ pub(crate) fn keep(alloc: Global, made: Rope, rope: &mut Handle) -> u32
     ensures ok { result ≡ OK → rope.new.rope ≡ Some made }
     ensures err { 0 < result → rope.new.rope ≡ rope.old.rope }
 {
-    match Box::new(alloc, made) {
-        Ok(made) => {
-            rope.put(made);
-            OK
-        }
-        Err(_) => OUT_OF_MEMORY,
-    }
+    let made = allocated!(Box::new(alloc, made));
+    rope.put(made);
+    OK
 }
 
 fn make(alloc: Global, text: &str, breaks: LineBreaks, rope: &mut Handle) -> u32
@@ -41,22 +34,8 @@ fn make(alloc: Global, text: &str, breaks: LineBreaks, rope: &mut Handle) -> u32
         → IsSomeAnd rope.new.rope (λ r. (r.text ≡ chars text.now) × IsBuilt breaks r) }
     ensures err { 0 < result → rope.new.rope ≡ rope.old.rope }
 {
-    match Rope::from_str_with(alloc, text, breaks) {
-        Ok(made) => keep(alloc, made, rope),
-        Err(_) => OUT_OF_MEMORY,
-    }
-}
-
-fn make_checked(alloc: Global, text: &[u8], breaks: LineBreaks, rope: &mut Handle) -> u32
-    ensures status { IsTextStatus text.now None result }
-    ensures ok { result ≡ OK
-        → IsSomeAnd rope.new.rope (λ r. (r.text ≡ chars text.now) × IsBuilt breaks r) }
-    ensures err { 0 < result → rope.new.rope ≡ rope.old.rope }
-{
-    match utf8::text_of(text) {
-        Some(text) => make(alloc, text, breaks, rope),
-        None => INVALID_UTF8,
-    }
+    let made = allocated!(Rope::from_str_with(alloc, text, breaks));
+    keep(alloc, made, rope)
 }
 
 /// Makes a rope of a copy of the text, and frees the one that the handle held.
@@ -80,10 +59,8 @@ pub extern "C" fn ropey_from_text(
         (λ r. (r.text ≡ chars text.now) × IsBuiltWith (given_breaks break_set) r) }
     ensures err { 0 < result → rope.new.rope ≡ rope.old.rope }
 {
-    match given_breaks(break_set) {
-        Some(breaks) => make_checked(alloc, text, breaks, rope),
-        None => UNKNOWN_BREAK_SET,
-    }
+    let breaks = breaks_for!(break_set);
+    make(alloc, utf8_text!(text), breaks, rope)
 }
 
 /// Makes a rope of a copy of a text without checking that it is UTF-8, and frees the one that the
@@ -109,10 +86,9 @@ pub extern "C" fn ropey_from_text_unchecked(
         (λ r. (r.text ≡ chars text.now) × IsBuiltWith (given_breaks break_set) r) }
     ensures err { 0 < result → rope.new.rope ≡ rope.old.rope }
 {
-    match given_breaks(break_set) {
-        Some(set) => make(alloc, unsafe { str::from_utf8_unchecked(text) }, set, rope),
-        None => UNKNOWN_BREAK_SET,
-    }
+    let breaks = breaks_for!(break_set);
+    let text = unsafe { str::from_utf8_unchecked(text) };
+    make(alloc, text, breaks, rope)
 }
 
 /// Frees the rope, if there is one. The nodes that it shares with its clones stay. The contract
@@ -123,21 +99,7 @@ pub extern "C" fn ropey_from_text_unchecked(
 pub extern "C" fn ropey_free(alloc: Global, rope: &mut Handle)
     ensures { rope.new.rope ≡ None }
 {
-    match rope.take(alloc) {
-        Some(rope) => drop(rope),
-        None => (),
-    }
-}
-
-fn clone_into(alloc: Global, rope: &Rope, copy: &mut Handle) -> u32
-    ensures status { IsStatus None result }
-    ensures ok { result ≡ OK → copy.new.rope ≡ Some rope.now }
-    ensures err { 0 < result → copy.new.rope ≡ copy.old.rope }
-{
-    match rope.clone() {
-        Ok(made) => keep(alloc, made, copy),
-        Err(_) => OUT_OF_MEMORY,
-    }
+    drop(rope.take(alloc));
 }
 
 /// Makes a clone, and frees the rope that `copy` held. The clone shares every node with the rope
@@ -153,32 +115,9 @@ pub extern "C" fn ropey_clone(alloc: Global, rope: &Lent, copy: &mut Handle) -> 
     ensures err { 0 < result → copy.new.rope ≡ copy.old.rope }
     ensures kept { HoldsRope rope.now.rope }
 {
-    match rope.held() {
-        Some(held) => clone_into(alloc, held, copy),
-        None => NO_ROPE_HELD,
-    }
-}
-
-fn clone_chars(alloc: Global, rope: &Rope, start: usize, end: usize, copy: &mut Handle) -> u32
-    ensures { ClonesChars (Some rope.now) start end result copy.old.rope copy.new.rope }
-{
-    match char_bounds(&(start..end), rope.len_chars()) {
-        Ok((start, end)) => keep_part(alloc, rope.slice(start..end), copy),
-        Err(error) => status_of(error),
-    }
-}
-
-// Puts a rope of a slice's text into a handle.
-fn keep_part(alloc: Global, part: RopeSlice<'_>, rope: &mut Handle) -> u32
-    ensures status { IsStatus None result }
-    ensures ok { result ≡ OK → IsSomeAnd rope.new.rope (λ r. (r.text ≡ text_of part.entry)
-        × (r.breaks ≡ breaks_of part.entry) × IsRope r) }
-    ensures err { 0 < result → rope.new.rope ≡ rope.old.rope }
-{
-    match Rope::from_slice(alloc, part) {
-        Ok(made) => keep(alloc, made, rope),
-        Err(_) => OUT_OF_MEMORY,
-    }
+    let held = held!(rope);
+    let made = allocated!(held.clone());
+    keep(alloc, made, copy)
 }
 
 /// Makes a rope of the characters from `start` up to `end`, counted from 0, and frees the one that
@@ -200,10 +139,10 @@ pub extern "C" fn ropey_clone_chars(
     ensures answer { ClonesChars rope.now.rope start end result copy.old.rope copy.new.rope }
     ensures kept { HoldsRope rope.now.rope }
 {
-    match rope.held() {
-        Some(held) => clone_chars(alloc, held, start, end, copy),
-        None => NO_ROPE_HELD,
-    }
+    let held = held!(rope);
+    let (start, end) = ok_or!(char_bounds(&(start..end), held.len_chars()), status_of);
+    let made = allocated!(Rope::from_slice(alloc, held.slice(start..end)));
+    keep(alloc, made, copy)
 }
 
 /// Cuts the text into as few chunks as `ropey_from_text` does. Takes time and memory in proportion
@@ -219,14 +158,9 @@ pub extern "C" fn ropey_shrink_to_fit(alloc: Global, rope: &mut Handle) -> u32
     ensures empty { Keeps rope.old.rope rope.new.rope result (λ old. length old.text ≡ 0) }
     ensures kept { HoldsRope rope.new.rope }
 {
-    let Some(mut held) = rope.take(alloc) else {
-        return NO_ROPE_HELD;
-    };
-    if held.len_chars() == 0 {
-        rope.put(held);
-        return OK;
-    }
-    let status = status(held.shrink_to_fit());
-    rope.put(held);
-    status
+    edit!(rope, alloc, held => if held.len_chars() == 0 {
+        OK
+    } else {
+        status(held.shrink_to_fit())
+    })
 }

@@ -3,23 +3,21 @@
 //! A program reads a text by them from an index on, several chunks at a time. The bytes belong to
 //! the rope, and are lent for as long as its handle is: until it is edited or freed. No call takes
 //! memory.
-ghost use Rattle.std.specs.Prelude.{◌≡◌, length, Some};
-ghost use Rattle.std.specs.Iterator.{IsFinite};
+ghost use Rattle.std.specs.Prelude.{◌≡◌, length};
 ghost use Rattle.std.specs.Str.{chars, encode_utf8_all};
 ghost use Rattle.rope_text.specs.Text.{byte_len};
 ghost use Rattle.rope_text.specs.Lines.{line_count};
 ghost use Rattle.rope_text.specs.Lookup.{chunk_place_at_byte, chunk_place_at_char, chunk_place_at_line_break};
-ghost use Rattle.rope_text.specs.Sides.{ahead};
 ghost use Rattle.ropey_c.specs.Handles.{HoldsRope};
-ghost use Rattle.ropey_c.specs.Pieces.{Fills, FillsBy, FillsFrom, FillsBefore, FillsAt, FillsFound, FillsLine};
+ghost use Rattle.ropey_c.specs.Pieces.{FillsFrom, FillsBefore, FillsAt, FillsLine};
 
+use crate::fill::fill;
 use crate::lent::Lent;
 use crate::lookups::Span;
+use crate::macros::{held, some_or};
 use crate::status::{
-    BYTE_INDEX_OUT_OF_BOUNDS, CHAR_INDEX_OUT_OF_BOUNDS, LINE_INDEX_OUT_OF_BOUNDS, NO_ROPE_HELD, OK,
+    BYTE_INDEX_OUT_OF_BOUNDS, CHAR_INDEX_OUT_OF_BOUNDS, LINE_INDEX_OUT_OF_BOUNDS, OK,
 };
-use rope_slice::ChunksAt;
-use ropey::Rope;
 
 /// A piece of a text: its bytes, which are lent. C sees a pointer, which is never null, and their
 /// number.
@@ -29,48 +27,18 @@ pub struct Piece<'a> {
     pub text: &'a [u8],
 }
 
-fn piece_of(text: &str) -> Piece<'_>
-    ensures { result.text.now ≡ encode_utf8_all (chars text.now) }
-{
-    Piece {
-        text: text.as_bytes(),
-    }
-}
+impl<'a> From<&'a str> for Piece<'a> {
+    ghost use Rattle.std.specs.Str.{chars, encode_utf8_all};
 
-// Writes texts as far as there is room, and returns their number.
-fn fill<'a, I: Iterator<Item = &'a str>>(mut texts: I, pieces: &mut [Piece<'a>]) -> usize
-    requires { I.can_next texts × IsFinite (I.remaining texts) }
-    ensures { FillsBy I.next_gives texts pieces.old pieces.new result }
-{
-    let mut count = 0;
-    while count < pieces.len() {
-        let Some(text) = texts.next() else {
-            return count;
-        };
-        pieces[count] = piece_of(text);
-        count += 1;
-    }
-    count
-}
+    ghost from_gives = { λ text piece. piece.text.now ≡ encode_utf8_all (chars text.now) };
 
-fn find_pieces<'a>(
-    rope: &'a Rope,
-    byte_idx: usize,
-    pieces: &mut [Piece<'a>],
-    count: &mut usize,
-    bytes_before: &mut usize,
-) -> u32
-    ensures { FillsFrom (Some rope.now)
-        byte_idx result pieces.old pieces.new count.old count.new bytes_before.old
-        bytes_before.new }
-{
-    if byte_idx > rope.len_bytes() {
-        return BYTE_INDEX_OUT_OF_BOUNDS;
+    fn from(text: &'a str) -> Piece<'a>
+        ensures { result.text.now ≡ encode_utf8_all (chars text.now) }
+    {
+        Piece {
+            text: text.as_bytes(),
+        }
     }
-    let (cursor, before, _, _) = rope.chunks_at_byte(byte_idx);
-    *bytes_before = before;
-    *count = fill(cursor, pieces);
-    OK
 }
 
 /// Writes to `pieces` the chunks from the one that holds the byte `byte_idx` on, as far as there is
@@ -93,29 +61,13 @@ pub extern "C" fn ropey_chunks_from_byte<'a>(
         count.new bytes_before.old bytes_before.new }
     ensures kept { HoldsRope rope.now.rope }
 {
-    let Some(held) = rope.held() else {
-        return NO_ROPE_HELD;
-    };
-    find_pieces(held, byte_idx, pieces, count, bytes_before)
-}
-
-fn find_pieces_before<'a>(
-    rope: &'a Rope,
-    byte_idx: usize,
-    pieces: &mut [Piece<'a>],
-    count: &mut usize,
-    bytes_before: &mut usize,
-) -> u32
-    ensures { FillsBefore (Some rope.now)
-        byte_idx result pieces.old pieces.new count.old count.new bytes_before.old
-        bytes_before.new }
-{
-    if byte_idx > rope.len_bytes() {
+    let held = held!(rope);
+    if byte_idx > held.len_bytes() {
         return BYTE_INDEX_OUT_OF_BOUNDS;
     }
-    let (cursor, before, _, _) = rope.chunks_at_byte(byte_idx);
+    let (cursor, before, _, _) = held.chunks_at_byte(byte_idx);
     *bytes_before = before;
-    *count = fill(cursor.reversed(), pieces);
+    *count = fill(cursor, pieces);
     OK
 }
 
@@ -139,62 +91,14 @@ pub extern "C" fn ropey_chunks_before_byte<'a>(
         count.new bytes_before.old bytes_before.new }
     ensures kept { HoldsRope rope.now.rope }
 {
-    let Some(held) = rope.held() else {
-        return NO_ROPE_HELD;
-    };
-    find_pieces_before(held, byte_idx, pieces, count, bytes_before)
-}
-
-// Writes the chunks ahead as far as there is room, their number, and the counts before the first of
-// them.
-fn write_chunks<'a>(
-    found: ChunksAt<'a>,
-    pieces: &mut [Piece<'a>],
-    count: &mut usize,
-    bytes_before: &mut usize,
-    chars_before: &mut usize,
-    line_breaks_before: &mut usize,
-)
-    ensures pieces { Fills (ahead found.entry.0) pieces.old pieces.new count.new }
-    ensures bytes { bytes_before.new ≡ found.entry.1 }
-    ensures chars { chars_before.new ≡ found.entry.2 }
-    ensures line_breaks { line_breaks_before.new ≡ found.entry.3 }
-{
-    let (chunks, bytes, chars, line_breaks) = found;
-    *bytes_before = bytes;
-    *chars_before = chars;
-    *line_breaks_before = line_breaks;
-    *count = fill(chunks, pieces);
-}
-
-// Writes the chunks of a cursor that was found, or returns why none was.
-fn write_found<'a>(
-    found: Option<ChunksAt<'a>>,
-    missing: u32,
-    pieces: &mut [Piece<'a>],
-    count: &mut usize,
-    bytes_before: &mut usize,
-    chars_before: &mut usize,
-    line_breaks_before: &mut usize,
-) -> u32
-    ensures { FillsFound found.entry missing result pieces.old pieces.new count.old count.new
-        bytes_before.old bytes_before.new chars_before.old chars_before.new line_breaks_before.old
-        line_breaks_before.new }
-{
-    match found {
-        Some(found) => {
-            write_chunks(
-                found,
-                pieces,
-                count,
-                bytes_before,
-                chars_before,
-                line_breaks_before,
-            );
-            OK
-        }
-        None => missing,
+    let held = held!(rope);
+    if byte_idx > held.len_bytes() {
+        return BYTE_INDEX_OUT_OF_BOUNDS;
     }
+    let (cursor, before, _, _) = held.chunks_at_byte(byte_idx);
+    *bytes_before = before;
+    *count = fill(cursor.reversed(), pieces);
+    OK
 }
 
 /// Writes the chunks from the one that holds the byte `byte_idx` on, as `ropey_chunks_from_byte`
@@ -222,18 +126,12 @@ pub extern "C" fn ropey_chunks_from_byte_with_before<'a>(
         line_breaks_before.new }
     ensures kept { HoldsRope rope.now.rope }
 {
-    let Some(held) = rope.held() else {
-        return NO_ROPE_HELD;
-    };
-    write_found(
-        held.get_chunks_at_byte(byte_idx),
-        BYTE_INDEX_OUT_OF_BOUNDS,
-        pieces,
-        count,
-        bytes_before,
-        chars_before,
-        line_breaks_before,
-    )
+    let held = held!(rope);
+    let found = held.get_chunks_at_byte(byte_idx);
+    let (chunks, bytes, chars, line_breaks) = some_or!(found, BYTE_INDEX_OUT_OF_BOUNDS);
+    (*bytes_before, *chars_before, *line_breaks_before) = (bytes, chars, line_breaks);
+    *count = fill(chunks, pieces);
+    OK
 }
 
 /// Writes the chunks from the one that holds the character `char_idx` on, and the counts before
@@ -260,18 +158,12 @@ pub extern "C" fn ropey_chunks_from_char_with_before<'a>(
         line_breaks_before.new }
     ensures kept { HoldsRope rope.now.rope }
 {
-    let Some(held) = rope.held() else {
-        return NO_ROPE_HELD;
-    };
-    write_found(
-        held.get_chunks_at_char(char_idx),
-        CHAR_INDEX_OUT_OF_BOUNDS,
-        pieces,
-        count,
-        bytes_before,
-        chars_before,
-        line_breaks_before,
-    )
+    let held = held!(rope);
+    let found = held.get_chunks_at_char(char_idx);
+    let (chunks, bytes, chars, line_breaks) = some_or!(found, CHAR_INDEX_OUT_OF_BOUNDS);
+    (*bytes_before, *chars_before, *line_breaks_before) = (bytes, chars, line_breaks);
+    *count = fill(chunks, pieces);
+    OK
 }
 
 /// Writes the chunks from the one that holds the line break before the line `line_idx` on, and the
@@ -299,38 +191,11 @@ pub extern "C" fn ropey_chunks_from_line_break_with_before<'a>(
         line_breaks_before.new }
     ensures kept { HoldsRope rope.now.rope }
 {
-    let Some(held) = rope.held() else {
-        return NO_ROPE_HELD;
-    };
-    write_found(
-        held.get_chunks_at_line_break(line_idx),
-        LINE_INDEX_OUT_OF_BOUNDS,
-        pieces,
-        count,
-        bytes_before,
-        chars_before,
-        line_breaks_before,
-    )
-}
-
-fn find_line_pieces<'a>(
-    rope: &'a Rope,
-    line_idx: usize,
-    bytes: &mut Span,
-    pieces: &mut [Piece<'a>],
-    count: &mut usize,
-) -> u32
-    ensures { FillsLine (Some rope.now)
-        line_idx result pieces.old pieces.new count.old count.new bytes.old bytes.new }
-{
-    if line_idx >= rope.len_lines() {
-        return LINE_INDEX_OUT_OF_BOUNDS;
-    }
-    *bytes = Span {
-        start: rope.line_to_byte(line_idx),
-        end: rope.line_to_byte(line_idx + 1),
-    };
-    *count = fill(rope.line(line_idx).chunks(), pieces);
+    let held = held!(rope);
+    let found = held.get_chunks_at_line_break(line_idx);
+    let (chunks, bytes, chars, line_breaks) = some_or!(found, LINE_INDEX_OUT_OF_BOUNDS);
+    (*bytes_before, *chars_before, *line_breaks_before) = (bytes, chars, line_breaks);
+    *count = fill(chunks, pieces);
     OK
 }
 
@@ -354,8 +219,14 @@ pub extern "C" fn ropey_line_pieces<'a>(
         count.new bytes.old bytes.new }
     ensures kept { HoldsRope rope.now.rope }
 {
-    let Some(held) = rope.held() else {
-        return NO_ROPE_HELD;
+    let held = held!(rope);
+    if line_idx >= held.len_lines() {
+        return LINE_INDEX_OUT_OF_BOUNDS;
+    }
+    *bytes = Span {
+        start: held.line_to_byte(line_idx),
+        end: held.line_to_byte(line_idx + 1),
     };
-    find_line_pieces(held, line_idx, bytes, pieces, count)
+    *count = fill(held.line(line_idx).chunks(), pieces);
+    OK
 }

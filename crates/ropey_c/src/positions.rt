@@ -12,9 +12,10 @@ ghost use Rattle.ropey_c.specs.Answers.{AnswersAt};
 ghost use Rattle.ropey_c.specs.Places.{IsPlace, PlacesAt, PlacesIn, AnswersIn, given_encoding, place_of};
 
 use crate::lent::Lent;
-use crate::status::{NO_ROPE_HELD, OK, UNKNOWN_ENCODING, UTF8, UTF16, UTF32, answer, status_of};
+use crate::macros::{held, ok_or, some_or};
+use crate::status::{OK, UNKNOWN_ENCODING, UTF8, UTF16, UTF32, answer, status_of};
 use rope_position::{Encoding, Position, Positions};
-use ropey::{Result, Rope};
+use ropey::Result;
 
 /// A line, and a column in code units from the start of the line.
 #[repr(C)]
@@ -28,16 +29,12 @@ pub struct Place {
 fn answer_place(found: Result<Position>, place: &mut Place) -> u32
     ensures { IsPlace found result place.old place.new }
 {
-    match found {
-        Ok(position) => {
-            *place = Place {
-                line: position.line,
-                column: position.column,
-            };
-            OK
-        }
-        Err(error) => status_of(error),
-    }
+    let position = ok_or!(found, status_of);
+    *place = Place {
+        line: position.line,
+        column: position.column,
+    };
+    OK
 }
 
 /// Writes the position of the character `char_idx`, counted from 0, or of the end of the text.
@@ -53,10 +50,7 @@ pub extern "C" fn ropey_char_to_position(rope: &Lent, char_idx: usize, place: &m
         result place.old place.new }
     ensures kept { HoldsRope rope.now.rope }
 {
-    let Some(held) = rope.held() else {
-        return NO_ROPE_HELD;
-    };
-    answer_place(held.try_char_to_position(char_idx), place)
+    answer_place(held!(rope).try_char_to_position(char_idx), place)
 }
 
 /// Writes the last character of the line that begins at the column or before it; at the line's end,
@@ -79,13 +73,8 @@ pub extern "C" fn ropey_position_to_char(
         result char_idx.old char_idx.new }
     ensures kept { HoldsRope rope.now.rope }
 {
-    let Some(held) = rope.held() else {
-        return NO_ROPE_HELD;
-    };
-    answer(
-        held.try_position_to_char(Position { line, column }),
-        char_idx,
-    )
+    let found = held!(rope).try_position_to_char(Position { line, column });
+    answer(found, char_idx)
 }
 
 // The encoding that a number stands for.
@@ -97,18 +86,6 @@ fn given_encoding(number: u32) -> Option<Encoding>
         UTF16 => Some(Encoding::Utf16),
         UTF32 => Some(Encoding::Utf32),
         _ => None,
-    }
-}
-
-fn place_in(rope: &Rope, char_idx: usize, encoding: u32, place: &mut Place) -> u32
-    ensures { PlacesIn (Some rope.now) (given_encoding encoding)
-        (λ e r. checked (char_index_error char_idx (length r.text))
-        (position_in e r.breaks r.text char_idx))
-        result place.old place.new }
-{
-    match given_encoding(encoding) {
-        Some(encoding) => answer_place(rope.try_char_to_position_in(char_idx, encoding), place),
-        None => UNKNOWN_ENCODING,
     }
 }
 
@@ -131,24 +108,9 @@ pub extern "C" fn ropey_char_to_position_in(
         result place.old place.new }
     ensures kept { HoldsRope rope.now.rope }
 {
-    match rope.held() {
-        Some(held) => place_in(held, char_idx, encoding, place),
-        None => NO_ROPE_HELD,
-    }
-}
-
-fn clamped(rope: &Rope, position: Position, encoding: u32, char_idx: &mut usize) -> u32
-    ensures { AnswersIn (Some rope.now) (given_encoding encoding)
-        (λ e r. Ok (clamped_char e r.breaks r.text position))
-        result char_idx.old char_idx.new }
-{
-    match given_encoding(encoding) {
-        Some(encoding) => {
-            *char_idx = rope.clamped_position_to_char(position, encoding);
-            OK
-        }
-        None => UNKNOWN_ENCODING,
-    }
+    let held = held!(rope);
+    let encoding = some_or!(given_encoding(encoding), UNKNOWN_ENCODING);
+    answer_place(held.try_char_to_position_in(char_idx, encoding), place)
 }
 
 /// Writes to `char_idx` the character at a position, whose column counts code units of an encoding,
@@ -172,8 +134,8 @@ pub extern "C" fn ropey_clamped_position_to_char(
         result char_idx.old char_idx.new }
     ensures kept { HoldsRope rope.now.rope }
 {
-    match rope.held() {
-        Some(held) => clamped(held, Position { line, column }, encoding, char_idx),
-        None => NO_ROPE_HELD,
-    }
+    let held = held!(rope);
+    let encoding = some_or!(given_encoding(encoding), UNKNOWN_ENCODING);
+    *char_idx = held.clamped_position_to_char(Position { line, column }, encoding);
+    OK
 }

@@ -14,9 +14,10 @@ ghost use Rattle.ropey_c.specs.Status.{IsStatus, IsTextStatus};
 
 use crate::byte_edits::chars_of_bytes;
 use crate::handle::Handle;
-use crate::status::{INVALID_UTF8, NO_ROPE_HELD, OK, OUT_OF_MEMORY, TOO_LONG, status_of};
+use crate::macros::{edit, ok_or, some_or, utf8_text};
+use crate::status::{OK, OUT_OF_MEMORY, TOO_LONG, status_of};
+use rope_text::MAX_TEXT_BYTES;
 use rope_text::range::char_bounds;
-use rope_text::{MAX_TEXT_BYTES, utf8};
 use ropey::Rope;
 use std::alloc::Global;
 
@@ -79,13 +80,8 @@ fn exchange(rope: &mut Rope, start: usize, end: usize, text: &str) -> u32
     if start == end && text.is_empty() {
         return OK;
     }
-    match replaced(rope, start, end, text) {
-        Some(made) => {
-            *rope = made;
-            OK
-        }
-        None => OUT_OF_MEMORY,
-    }
+    *rope = some_or!(replaced(rope, start, end, text), OUT_OF_MEMORY);
+    OK
 }
 
 fn replace_chars(rope: &mut Rope, start: usize, end: usize, text: &[u8]) -> u32
@@ -99,13 +95,9 @@ fn replace_chars(rope: &mut Rope, start: usize, end: usize, text: &[u8]) -> u32
     ensures breaks { rope.new.breaks ≡ rope.old.breaks }
     ensures kept { IsRope rope.old → IsRope rope.new }
 {
-    let Some(text) = utf8::text_of(text) else {
-        return INVALID_UTF8;
-    };
-    match char_bounds(&(start..end), rope.len_chars()) {
-        Ok((start, end)) => exchange(rope, start, end, text),
-        Err(error) => status_of(error),
-    }
+    let text = utf8_text!(text);
+    let (start, end) = ok_or!(char_bounds(&(start..end), rope.len_chars()), status_of);
+    exchange(rope, start, end, text)
 }
 
 /// Replaces the characters from `start` up to `end`, counted from 0, by the text.
@@ -135,12 +127,7 @@ pub extern "C" fn ropey_replace(
         (λ old. replace_error old.text start end [] ≡ None) }
     ensures kept { HoldsRope rope.new.rope }
 {
-    let Some(mut held) = rope.take(alloc) else {
-        return NO_ROPE_HELD;
-    };
-    let status = replace_chars(&mut held, start, end, text);
-    rope.put(held);
-    status
+    edit!(rope, alloc, held => replace_chars(&mut held, start, end, text))
 }
 
 fn replace_bytes(rope: &mut Rope, start: usize, end: usize, text: &[u8]) -> u32
@@ -157,13 +144,9 @@ fn replace_bytes(rope: &mut Rope, start: usize, end: usize, text: &[u8]) -> u32
     ensures breaks { rope.new.breaks ≡ rope.old.breaks }
     ensures kept { IsRope rope.old → IsRope rope.new }
 {
-    let Some(text) = utf8::text_of(text) else {
-        return INVALID_UTF8;
-    };
-    match chars_of_bytes(rope, start, end) {
-        Ok((first, last)) => exchange(rope, first, last, text),
-        Err(error) => status_of(error),
-    }
+    let text = utf8_text!(text);
+    let (first, last) = ok_or!(chars_of_bytes(rope, start, end), status_of);
+    exchange(rope, first, last, text)
 }
 
 /// Replaces the bytes from `start` up to `end`, counted from 0, by the text.
@@ -196,10 +179,5 @@ pub extern "C" fn ropey_replace_bytes(
         (λ old. byte_replace_error old.text start end [] ≡ None) }
     ensures kept { HoldsRope rope.new.rope }
 {
-    let Some(mut held) = rope.take(alloc) else {
-        return NO_ROPE_HELD;
-    };
-    let status = replace_bytes(&mut held, start, end, text);
-    rope.put(held);
-    status
+    edit!(rope, alloc, held => replace_bytes(&mut held, start, end, text))
 }

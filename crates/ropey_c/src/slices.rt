@@ -2,10 +2,7 @@
 //!
 //! A program that draws lines or counts in a range needs one lookup in place of three. The bytes
 //! belong to the rope, and are lent for as long as its handle is. No call takes memory.
-#![tactic(auto)]
-
 ghost use Rattle.std.specs.Prelude.{◌≡◌, ◌<◌, ◌≤◌, ◌↔◌, true, [], length, drop, Some, IsSome, IfSome};
-ghost use Rattle.std.specs.Iterator.{IsFinite};
 ghost use Rattle.std.specs.Str.{chars, encode_utf8_all};
 ghost use Rattle.rope_text.specs.Conversions.{line_to_char, byte_to_char};
 ghost use Rattle.rope_text.specs.Edit.{is_char_boundary, byte_range_error};
@@ -16,14 +13,14 @@ ghost use Rattle.rope_slice.specs.Edge.{line_info};
 ghost use Rattle.rope_slice.specs.Slice.{content_of, text_of, chunks_of, breaks_of};
 ghost use Rattle.ropey.specs.View.{content};
 ghost use Rattle.ropey_c.specs.Handles.{HoldsRope};
-ghost use Rattle.ropey_c.specs.Slices.{shown, shown_as, SliceOfChars, SliceOfLine, ShowsBy, ShowsLinesFrom, ShowsLinesBefore};
+ghost use Rattle.ropey_c.specs.Slices.{shown, shown_as, SliceOfChars, SliceOfLine, ShowsLinesFrom, ShowsLinesBefore};
 ghost use Rattle.ropey_c.specs.Before.{IsBefore, SliceOfCharsAt, SliceOfBytesAt, CountsInCharsAt, SaysOf, ShowsLinesAt, ShowsLinesFromAt};
 
 use crate::counts::{Counts, counts_of};
+use crate::fill::fill;
 use crate::lent::Lent;
-use crate::status::{
-    CHAR_INDEX_OUT_OF_BOUNDS, LINE_INDEX_OUT_OF_BOUNDS, NO_ROPE_HELD, OK, status_of,
-};
+use crate::macros::{held, ok_or};
+use crate::status::{CHAR_INDEX_OUT_OF_BOUNDS, LINE_INDEX_OUT_OF_BOUNDS, OK, status_of};
 use rope_text::TextInfo;
 use rope_text::range::char_bounds;
 use ropey::{Rope, RopeSlice};
@@ -56,35 +53,20 @@ fn lent_of<'a>(slice: &RopeSlice<'a>) -> &'a [u8]
     }
 }
 
-#[inline(always)]
-fn slice_of<'a>(slice: &RopeSlice<'a>) -> Slice<'a>
-    ensures { shown result ≡ shown_as (content_of slice.now) }
-{
-    Slice {
-        text: lent_of(slice),
-        counts: counts_of(slice),
-    }
-}
+impl<'a> From<RopeSlice<'a>> for Slice<'a> {
+    ghost use Rattle.rope_slice.specs.Slice.{content_of};
+    ghost use Rattle.ropey_c.specs.Slices.{shown, shown_as};
 
-fn find_line<'a>(rope: &'a Rope, line_idx: usize, slice: &mut Slice<'a>) -> u32
-    ensures { SliceOfLine (Some rope.now) line_idx result slice.old slice.new }
-{
-    if line_idx >= rope.len_lines() {
-        return LINE_INDEX_OUT_OF_BOUNDS;
-    }
-    *slice = slice_of(&rope.line(line_idx));
-    OK
-}
+    ghost from_gives = { λ part slice. shown slice ≡ shown_as (content_of part) };
 
-fn find_chars<'a>(rope: &'a Rope, start: usize, end: usize, slice: &mut Slice<'a>) -> u32
-    ensures { SliceOfChars (Some rope.now) start end result slice.old slice.new }
-{
-    match char_bounds(&(start..end), rope.len_chars()) {
-        Ok((start, end)) => {
-            *slice = slice_of(&rope.slice(start..end));
-            OK
+    #[inline(always)]
+    fn from(part: RopeSlice<'a>) -> Slice<'a>
+        ensures { shown result ≡ shown_as (content_of part.entry) }
+    {
+        Slice {
+            text: lent_of(&part),
+            counts: counts_of(&part),
         }
-        Err(error) => status_of(error),
     }
 }
 
@@ -104,10 +86,10 @@ pub extern "C" fn ropey_char_slice<'a>(
     ensures answer { SliceOfChars rope.now.rope start end result slice.old slice.new }
     ensures kept { HoldsRope rope.now.rope }
 {
-    let Some(held) = rope.held() else {
-        return NO_ROPE_HELD;
-    };
-    find_chars(held, start, end, slice)
+    let held = held!(rope);
+    let (start, end) = ok_or!(char_bounds(&(start..end), held.len_chars()), status_of);
+    *slice = Slice::from(held.slice(start..end));
+    OK
 }
 
 /// Writes the line `line_idx`, counted from 0, including its line break.
@@ -125,44 +107,11 @@ pub extern "C" fn ropey_line_slice<'a>(
     ensures answer { SliceOfLine rope.now.rope line_idx result slice.old slice.new }
     ensures kept { HoldsRope rope.now.rope }
 {
-    let Some(held) = rope.held() else {
-        return NO_ROPE_HELD;
-    };
-    find_line(held, line_idx, slice)
-}
-
-// Writes slices as far as there is room, and returns their number.
-fn fill_slices<'a, I: Iterator<Item = RopeSlice<'a>>>(
-    mut parts: I,
-    slices: &mut [Slice<'a>],
-) -> usize
-    requires { I.can_next parts × IsFinite (I.remaining parts) }
-    ensures { ShowsBy I.next_gives parts slices.old slices.new result }
-{
-    let mut count = 0;
-    while count < slices.len() {
-        let Some(part) = parts.next() else {
-            return count;
-        };
-        slices[count] = slice_of(&part);
-        count += 1;
-    }
-    count
-}
-
-fn find_lines<'a>(
-    rope: &'a Rope,
-    line_idx: usize,
-    lines: &mut [Slice<'a>],
-    count: &mut usize,
-) -> u32
-    ensures { ShowsLinesFrom (Some rope.now)
-        line_idx result lines.old lines.new count.old count.new }
-{
-    if line_idx > rope.len_lines() {
+    let held = held!(rope);
+    if line_idx >= held.len_lines() {
         return LINE_INDEX_OUT_OF_BOUNDS;
     }
-    *count = fill_slices(rope.lines_at(line_idx), lines);
+    *slice = Slice::from(held.line(line_idx));
     OK
 }
 
@@ -183,25 +132,11 @@ pub extern "C" fn ropey_lines_from<'a>(
         count.new }
     ensures kept { HoldsRope rope.now.rope }
 {
-    let Some(held) = rope.held() else {
-        return NO_ROPE_HELD;
-    };
-    find_lines(held, line_idx, lines, count)
-}
-
-fn find_lines_before<'a>(
-    rope: &'a Rope,
-    line_idx: usize,
-    lines: &mut [Slice<'a>],
-    count: &mut usize,
-) -> u32
-    ensures { ShowsLinesBefore (Some rope.now)
-        line_idx result lines.old lines.new count.old count.new }
-{
-    if line_idx > rope.len_lines() {
+    let held = held!(rope);
+    if line_idx > held.len_lines() {
         return LINE_INDEX_OUT_OF_BOUNDS;
     }
-    *count = fill_slices(rope.lines_at(line_idx).reversed(), lines);
+    *count = fill(held.lines_at(line_idx), lines);
     OK
 }
 
@@ -223,10 +158,12 @@ pub extern "C" fn ropey_lines_before<'a>(
         count.new }
     ensures kept { HoldsRope rope.now.rope }
 {
-    let Some(held) = rope.held() else {
-        return NO_ROPE_HELD;
-    };
-    find_lines_before(held, line_idx, lines, count)
+    let held = held!(rope);
+    if line_idx > held.len_lines() {
+        return LINE_INDEX_OUT_OF_BOUNDS;
+    }
+    *count = fill(held.lines_at(line_idx).reversed(), lines);
+    OK
 }
 
 // The counts before a character, after which the text is `rest`.
@@ -270,27 +207,6 @@ fn part_at(rope: &Rope, start: usize, end: usize) -> (RopeSlice<'_>, Counts)
     (rest.slice(..end - start), before)
 }
 
-fn find_chars_at<'a>(
-    rope: &'a Rope,
-    start: usize,
-    end: usize,
-    slice: &mut Slice<'a>,
-    before: &mut Counts,
-) -> u32
-    ensures { SliceOfCharsAt (Some rope.now)
-        start end result slice.old slice.new before.old before.new }
-{
-    match char_bounds(&(start..end), rope.len_chars()) {
-        Ok((start, end)) => {
-            let (part, counts) = part_at(rope, start, end);
-            *slice = slice_of(&part);
-            *before = counts;
-            OK
-        }
-        Err(error) => status_of(error),
-    }
-}
-
 /// Writes the slice of the characters from `start` up to `end`, as `ropey_char_slice` does, and the
 /// counts of the text before them. A line break that ends after `start` is not counted there.
 ///
@@ -310,10 +226,12 @@ pub extern "C" fn ropey_char_slice_with_before<'a>(
         before.new }
     ensures kept { HoldsRope rope.now.rope }
 {
-    let Some(held) = rope.held() else {
-        return NO_ROPE_HELD;
-    };
-    find_chars_at(held, start, end, slice, before)
+    let held = held!(rope);
+    let (start, end) = ok_or!(char_bounds(&(start..end), held.len_chars()), status_of);
+    let (part, counts) = part_at(held, start, end);
+    *slice = Slice::from(part);
+    *before = counts;
+    OK
 }
 
 // The bytes from `start` up to `end`, and the counts before them; none if one of the two is inside
@@ -339,30 +257,8 @@ fn part_at_byte(rope: &Rope, start: usize, end: usize) -> Option<(RopeSlice<'_>,
 fn check_bytes(rope: &Rope, start: usize, end: usize) -> u32
     ensures { SaysOf (byte_range_error rope.now.text (Some start) (Some end)) result }
 {
-    match rope.try_byte_slice(start..end) {
-        Ok(_) => OK,
-        Err(error) => status_of(error),
-    }
-}
-
-fn find_bytes_at<'a>(
-    rope: &'a Rope,
-    start: usize,
-    end: usize,
-    slice: &mut Slice<'a>,
-    before: &mut Counts,
-) -> u32
-    ensures { SliceOfBytesAt (Some rope.now)
-        start end result slice.old slice.new before.old before.new }
-{
-    if start <= end && end <= rope.len_bytes() {
-        if let Some((part, counts)) = part_at_byte(rope, start, end) {
-            *slice = slice_of(&part);
-            *before = counts;
-            return OK;
-        }
-    }
-    check_bytes(rope, start, end)
+    let _ = ok_or!(rope.try_byte_slice(start..end), status_of);
+    OK
 }
 
 /// Writes the slice of the bytes from `start` up to `end`, counted from 0, and the counts of the
@@ -384,31 +280,15 @@ pub extern "C" fn ropey_byte_slice_with_before<'a>(
         before.new }
     ensures kept { HoldsRope rope.now.rope }
 {
-    let Some(held) = rope.held() else {
-        return NO_ROPE_HELD;
-    };
-    find_bytes_at(held, start, end, slice, before)
-}
-
-fn count_chars_at(
-    rope: &Rope,
-    start: usize,
-    end: usize,
-    counts: &mut Counts,
-    before: &mut Counts,
-) -> u32
-    ensures { CountsInCharsAt (Some rope.now)
-        start end result counts.old counts.new before.old before.new }
-{
-    match char_bounds(&(start..end), rope.len_chars()) {
-        Ok((start, end)) => {
-            let (counted, front) = part_at(rope, start, end);
-            *counts = counts_of(&counted);
-            *before = front;
-            OK
+    let held = held!(rope);
+    if start <= end && end <= held.len_bytes() {
+        if let Some((part, counts)) = part_at_byte(held, start, end) {
+            *slice = Slice::from(part);
+            *before = counts;
+            return OK;
         }
-        Err(error) => status_of(error),
     }
+    check_bytes(held, start, end)
 }
 
 /// Writes the counts of the characters from `start` up to `end`, as `ropey_counts_in_chars` does,
@@ -430,28 +310,11 @@ pub extern "C" fn ropey_counts_in_chars_with_before(
         before.new }
     ensures kept { HoldsRope rope.now.rope }
 {
-    match rope.held() {
-        Some(held) => count_chars_at(held, start, end, counts, before),
-        None => NO_ROPE_HELD,
-    }
-}
-
-fn find_lines_at<'a>(
-    rope: &'a Rope,
-    char_idx: usize,
-    lines: &mut [Slice<'a>],
-    count: &mut usize,
-    before: &mut Counts,
-) -> u32
-    ensures { ShowsLinesAt (Some rope.now)
-        char_idx result lines.old lines.new count.old count.new before.old before.new }
-{
-    if char_idx > rope.len_chars() {
-        return CHAR_INDEX_OUT_OF_BOUNDS;
-    }
-    let (rest, counts) = rest_from(rope, char_idx);
-    *before = counts;
-    *count = fill_slices(rest.lines(), lines);
+    let held = held!(rope);
+    let (start, end) = ok_or!(char_bounds(&(start..end), held.len_chars()), status_of);
+    let (counted, front) = part_at(held, start, end);
+    *counts = counts_of(&counted);
+    *before = front;
     OK
 }
 
@@ -476,10 +339,14 @@ pub extern "C" fn ropey_lines_from_char_with_before<'a>(
         count.new before.old before.new }
     ensures kept { HoldsRope rope.now.rope }
 {
-    let Some(held) = rope.held() else {
-        return NO_ROPE_HELD;
-    };
-    find_lines_at(held, char_idx, lines, count, before)
+    let held = held!(rope);
+    if char_idx > held.len_chars() {
+        return CHAR_INDEX_OUT_OF_BOUNDS;
+    }
+    let (rest, counts) = rest_from(held, char_idx);
+    *before = counts;
+    *count = fill(rest.lines(), lines);
+    OK
 }
 
 // The counts of the text before a line, as C sees them.
@@ -500,25 +367,6 @@ fn before_line(rope: &Rope, front: TextInfo, line_idx: usize) -> Counts
     }
 }
 
-fn find_lines_from_at<'a>(
-    rope: &'a Rope,
-    line_idx: usize,
-    lines: &mut [Slice<'a>],
-    count: &mut usize,
-    before: &mut Counts,
-) -> u32
-    ensures { ShowsLinesFromAt (Some rope.now)
-        line_idx result lines.old lines.new count.old count.new before.old before.new }
-{
-    if line_idx > rope.len_lines() {
-        return LINE_INDEX_OUT_OF_BOUNDS;
-    }
-    let (found, front) = rope.lines_and_counts_at(line_idx);
-    *before = before_line(rope, front, line_idx);
-    *count = fill_slices(found, lines);
-    OK
-}
-
 /// Writes the lines from the line `line_idx` on, as `ropey_lines_from` does, and the counts of the
 /// text before the first of them. Costs one lookup, and then a step a line.
 ///
@@ -537,8 +385,12 @@ pub extern "C" fn ropey_lines_from_with_before<'a>(
         count.new before.old before.new }
     ensures kept { HoldsRope rope.now.rope }
 {
-    let Some(held) = rope.held() else {
-        return NO_ROPE_HELD;
-    };
-    find_lines_from_at(held, line_idx, lines, count, before)
+    let held = held!(rope);
+    if line_idx > held.len_lines() {
+        return LINE_INDEX_OUT_OF_BOUNDS;
+    }
+    let (found, front) = held.lines_and_counts_at(line_idx);
+    *before = before_line(held, front, line_idx);
+    *count = fill(found, lines);
+    OK
 }

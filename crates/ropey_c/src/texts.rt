@@ -9,7 +9,8 @@ ghost use Rattle.ropey_c.specs.Counts.{IsCounts, CountsText, AnswersText, Answer
 ghost use Rattle.ropey_c.specs.Status.{given_breaks};
 
 use crate::counts::{Counts, counts_of};
-use crate::status::{INVALID_UTF8, OK, UNKNOWN_BREAK_SET, given_breaks};
+use crate::macros::{breaks_for, utf8_text};
+use crate::status::{OK, given_breaks};
 use rope_text::{LineBreaks, str_utils, utf8};
 use ropey::RopeSlice;
 use std::str;
@@ -38,13 +39,8 @@ fn counts_in(text: &str, breaks: LineBreaks) -> Counts
 pub extern "C" fn ropey_text_counts(text: &[u8], break_set: u32, counts: &mut Counts) -> u32
     ensures { CountsText (given_breaks break_set) text.now result counts.old counts.new }
 {
-    let Some(breaks) = given_breaks(break_set) else {
-        return UNKNOWN_BREAK_SET;
-    };
-    let Some(text) = utf8::text_of(text) else {
-        return INVALID_UTF8;
-    };
-    *counts = counts_in(text, breaks);
+    let breaks = breaks_for!(break_set);
+    *counts = counts_in(utf8_text!(text), breaks);
     OK
 }
 
@@ -63,10 +59,8 @@ pub extern "C" fn ropey_text_counts_unchecked(
     requires { IsUtf8 text.now }
     ensures { CountsText (given_breaks break_set) text.now result counts.old counts.new }
 {
-    let Some(set) = given_breaks(break_set) else {
-        return UNKNOWN_BREAK_SET;
-    };
-    *counts = counts_in(unsafe { str::from_utf8_unchecked(text) }, set);
+    let breaks = breaks_for!(break_set);
+    *counts = counts_in(unsafe { str::from_utf8_unchecked(text) }, breaks);
     OK
 }
 
@@ -79,10 +73,7 @@ pub extern "C" fn ropey_text_counts_unchecked(
 pub extern "C" fn ropey_text_byte_to_char(text: &[u8], byte_idx: usize, char_idx: &mut usize) -> u32
     ensures { AnswersText text.now (λ t. byte_to_char t byte_idx) result char_idx.old char_idx.new }
 {
-    let Some(text) = utf8::text_of(text) else {
-        return INVALID_UTF8;
-    };
-    *char_idx = str_utils::byte_to_char_idx(text, byte_idx);
+    *char_idx = str_utils::byte_to_char_idx(utf8_text!(text), byte_idx);
     OK
 }
 
@@ -101,13 +92,8 @@ pub extern "C" fn ropey_text_byte_to_line(
     ensures { AnswersTextWith (given_breaks break_set) text.now
         (λ breaks t. byte_to_line breaks t byte_idx) result line_idx.old line_idx.new }
 {
-    let Some(breaks) = given_breaks(break_set) else {
-        return UNKNOWN_BREAK_SET;
-    };
-    let Some(text) = utf8::text_of(text) else {
-        return INVALID_UTF8;
-    };
-    *line_idx = str_utils::byte_to_line_with(text, byte_idx, breaks);
+    let breaks = breaks_for!(break_set);
+    *line_idx = str_utils::byte_to_line_with(utf8_text!(text), byte_idx, breaks);
     OK
 }
 
@@ -120,10 +106,7 @@ pub extern "C" fn ropey_text_byte_to_line(
 pub extern "C" fn ropey_text_char_to_byte(text: &[u8], char_idx: usize, byte_idx: &mut usize) -> u32
     ensures { AnswersText text.now (λ t. char_to_byte t char_idx) result byte_idx.old byte_idx.new }
 {
-    let Some(text) = utf8::text_of(text) else {
-        return INVALID_UTF8;
-    };
-    *byte_idx = str_utils::char_to_byte_idx(text, char_idx);
+    *byte_idx = str_utils::char_to_byte_idx(utf8_text!(text), char_idx);
     OK
 }
 
@@ -142,13 +125,8 @@ pub extern "C" fn ropey_text_char_to_line(
     ensures { AnswersTextWith (given_breaks break_set) text.now
         (λ breaks t. char_to_line breaks t char_idx) result line_idx.old line_idx.new }
 {
-    let Some(breaks) = given_breaks(break_set) else {
-        return UNKNOWN_BREAK_SET;
-    };
-    let Some(text) = utf8::text_of(text) else {
-        return INVALID_UTF8;
-    };
-    *line_idx = str_utils::char_to_line_with(text, char_idx, breaks);
+    let breaks = breaks_for!(break_set);
+    *line_idx = str_utils::char_to_line_with(utf8_text!(text), char_idx, breaks);
     OK
 }
 
@@ -166,10 +144,7 @@ pub extern "C" fn ropey_text_char_to_utf16(
     ensures { AnswersText text.now (λ t. char_to_utf16 t char_idx)
         result utf16_idx.old utf16_idx.new }
 {
-    let Some(text) = utf8::text_of(text) else {
-        return INVALID_UTF8;
-    };
-    *utf16_idx = str_utils::char_to_utf16_idx(text, char_idx);
+    *utf16_idx = str_utils::char_to_utf16_idx(utf8_text!(text), char_idx);
     OK
 }
 
@@ -187,10 +162,7 @@ pub extern "C" fn ropey_text_utf16_to_char(
     ensures { AnswersText text.now (λ t. utf16_to_char t utf16_idx)
         result char_idx.old char_idx.new }
 {
-    let Some(text) = utf8::text_of(text) else {
-        return INVALID_UTF8;
-    };
-    *char_idx = str_utils::utf16_to_char_idx(text, utf16_idx);
+    *char_idx = str_utils::utf16_to_char_idx(utf8_text!(text), utf16_idx);
     OK
 }
 
@@ -209,13 +181,8 @@ pub extern "C" fn ropey_text_line_to_byte(
     ensures { AnswersTextWith (given_breaks break_set) text.now
         (λ breaks t. line_to_byte breaks t line_idx) result byte_idx.old byte_idx.new }
 {
-    let Some(breaks) = given_breaks(break_set) else {
-        return UNKNOWN_BREAK_SET;
-    };
-    let Some(text) = utf8::text_of(text) else {
-        return INVALID_UTF8;
-    };
-    *byte_idx = str_utils::line_to_byte_with(text, line_idx, breaks);
+    let breaks = breaks_for!(break_set);
+    *byte_idx = str_utils::line_to_byte_with(utf8_text!(text), line_idx, breaks);
     OK
 }
 
@@ -234,12 +201,7 @@ pub extern "C" fn ropey_text_line_to_char(
     ensures { AnswersTextWith (given_breaks break_set) text.now
         (λ breaks t. line_to_char breaks t line_idx) result char_idx.old char_idx.new }
 {
-    let Some(breaks) = given_breaks(break_set) else {
-        return UNKNOWN_BREAK_SET;
-    };
-    let Some(text) = utf8::text_of(text) else {
-        return INVALID_UTF8;
-    };
-    *char_idx = str_utils::line_to_char_with(text, line_idx, breaks);
+    let breaks = breaks_for!(break_set);
+    *char_idx = str_utils::line_to_char_with(utf8_text!(text), line_idx, breaks);
     OK
 }

@@ -19,9 +19,9 @@ nothing_replaced c start end text none same =
       rest = before c - end;
     })) zero_changed
 
-pub returns-in-Some-clause-empty : goal.returns-in-Some-clause-empty
+pub returns-clause-empty : goal.returns-clause-empty
 unfolding chars
-returns-in-Some-clause-empty c = λ none same order.
+returns-clause-empty c = λ none same order.
     let is_empty = c.in-Some.ensures.0 ∙ nil_from_length c.args.text.now none in
     let no_chars = ap (λ bytes. length (chars bytes)) is_empty in
     let done = c.replace.ensures.empty order same no_chars in (

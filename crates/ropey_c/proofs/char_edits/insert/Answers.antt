@@ -4,9 +4,9 @@ use Rattle.std.specs.Str.{chars}
 use Rattle.rope_text.specs.Edit.{insert_error}
 use Rattle.ropey_c.proofs.char_edits.insert.Goals as goal
 
-pub returns-in-Some-clause-empty : goal.returns-in-Some-clause-empty
+pub returns-clause-empty : goal.returns-clause-empty
 unfolding chars
-returns-in-Some-clause-empty c = λ none fine.
+returns-clause-empty c = λ none fine.
     let is_empty = c.in-Some.ensures.0 ∙ nil_from_length c.args.text.now none in
     let Fine : List ℕ → Type 0 =
     λ bytes. insert_error c.args.rope.now.text c.args.char_idx (chars bytes) ≡ None in

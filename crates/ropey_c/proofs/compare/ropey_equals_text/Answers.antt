@@ -1,4 +1,0 @@
-use Rattle.ropey_c.proofs.compare.ropey_equals_text.Goals as goal
-
-pub returns-clause-answer : goal.returns-clause-answer
-returns-clause-answer c = rw c.in-Some.ensures.found c.equals.ensures

@@ -1,4 +1,0 @@
-use Rattle.ropey_c.proofs.copies.ropey_copy_bytes.Goals as goal
-
-pub returns-clause-answer : goal.returns-clause-answer
-returns-clause-answer c = rw c.in-Some.ensures.found c.copy_bytes.ensures
