@@ -6,3 +6,6 @@ mod sole;
 
 pub use shared::Shared;
 pub use sole::Sole;
+
+#[cfg(test)]
+mod tests;

@@ -1,0 +1,120 @@
+//! Values that count their drops, by owners that are dropped in several orders.
+use crate::Sole;
+use std::alloc::{AllocError, Global};
+use std::cell::Cell;
+use std::test::Fail;
+
+/// A value that counts its drop.
+struct Tracked<'a> {
+    drops: &'a Cell<u64>,
+    number: u64,
+}
+
+impl Drop for Tracked<'_> {
+    fn drop(self) {
+        let Tracked { drops, number: _ } = self;
+        drops.set(drops.get().wrapping_add(1));
+    }
+}
+
+fn make_tracked<'a>(
+    alloc: Global,
+    drops: &'a Cell<u64>,
+    number: u64,
+) -> Result<Sole<Tracked<'a>>, Fail> {
+    match Sole::new(alloc, Tracked { drops, number }) {
+        Ok(sole) => Ok(sole),
+        Err(_) => Err(Fail::from(AllocError)),
+    }
+}
+
+#[test]
+fn the_only_owner_drops_its_value_once(rt: HostRuntime) -> Result<(), Fail> {
+    let drops = Cell::new(0);
+    let mut sole = make_tracked(rt.alloc(), &drops, 3)?;
+    sole.as_mut().number = 4;
+    assert_eq!(rt; (sole.as_ref().number, drops.get()), (4, 0));
+    drop(sole);
+    assert_eq!(rt; drops.get(), 1);
+    Ok(())
+}
+
+#[test]
+fn the_value_outlives_its_owner_where_it_is_taken(rt: HostRuntime) -> Result<(), Fail> {
+    let drops = Cell::new(0);
+    let value = make_tracked(rt.alloc(), &drops, 5)?.into_inner();
+    assert_eq!(rt; (value.number, drops.get()), (5, 0));
+    drop(value);
+    assert_eq!(rt; drops.get(), 1);
+    Ok(())
+}
+
+#[test]
+fn the_last_of_three_owners_drops_the_value(rt: HostRuntime) -> Result<(), Fail> {
+    // Each row is an order in which the three owners are dropped.
+    for order in [
+        [0, 1, 2],
+        [0, 2, 1],
+        [1, 0, 2],
+        [1, 2, 0],
+        [2, 0, 1],
+        [2, 1, 0],
+    ] {
+        let drops = Cell::new(0);
+        let first = make_tracked(rt.alloc(), &drops, 7)?.share();
+        let second = first.try_clone()?;
+        let third = second.try_clone()?;
+        let mut owners = [Some(first), Some(second), Some(third)];
+        for at in order {
+            assert_eq!(rt; drops.get(), 0, "before owner {at} of {order:?}");
+            if let Some(owner) = owners[at].take() {
+                assert_eq!(rt; owner.as_ref().number, 7, "at owner {at} of {order:?}");
+                drop(owner);
+            }
+        }
+        assert_eq!(rt; drops.get(), 1, "after {order:?}");
+    }
+    Ok(())
+}
+
+#[test]
+fn one_of_two_owners_is_not_the_only_one(rt: HostRuntime) -> Result<(), Fail> {
+    let drops = Cell::new(0);
+    let mut first = make_tracked(rt.alloc(), &drops, 1)?.share();
+    let second = first.try_clone()?;
+    assert!(rt; first.get_mut().is_none());
+    match first.into_sole() {
+        Ok(_) => assert!(rt; false, "two owners, and one is the only one"),
+        Err(first) => drop(first),
+    }
+    assert_eq!(rt; (second.as_ref().number, drops.get()), (1, 0));
+    match second.into_sole() {
+        Ok(mut sole) => {
+            sole.as_mut().number = 2;
+            assert_eq!(rt; sole.as_ref().number, 2);
+            drop(sole.share());
+        }
+        Err(_) => assert!(rt; false, "one owner, and it is not the only one"),
+    }
+    assert_eq!(rt; drops.get(), 1);
+    Ok(())
+}
+
+#[test]
+fn the_only_owner_of_several_writes_to_the_value(rt: HostRuntime) -> Result<(), Fail> {
+    let drops = Cell::new(0);
+    let mut first = make_tracked(rt.alloc(), &drops, 1)?.share();
+    let second = first.try_clone()?;
+    drop(second);
+    match first.get_mut() {
+        Some(value) => value.number = 9,
+        None => assert!(rt; false, "the other owner was dropped"),
+    }
+    assert_eq!(rt; first.as_ref().number, 9);
+    let second = first.try_clone()?;
+    drop(first);
+    assert_eq!(rt; (second.as_ref().number, drops.get()), (9, 0));
+    drop(second);
+    assert_eq!(rt; drops.get(), 1);
+    Ok(())
+}
