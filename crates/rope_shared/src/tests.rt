@@ -1,5 +1,5 @@
 //! Values that count their drops, by owners that are dropped in several orders.
-use crate::Sole;
+use crate::{Shared, Sole};
 use std::alloc::{AllocError, Global};
 use std::cell::Cell;
 use std::test::Fail;
@@ -14,6 +14,36 @@ impl Drop for Tracked<'_> {
     fn drop(self) {
         let Tracked { drops, number: _ } = self;
         drops.set(drops.get().wrapping_add(1));
+    }
+}
+
+/// A tree whose nodes several trees share.
+#[cycle(tree)]
+#[derive(Drop)]
+enum Node {
+    Empty,
+    Leaf(Shared<u64>),
+    List(Shared<List>),
+}
+
+#[cycle(tree)]
+#[derive(Drop)]
+struct List {
+    nodes: [Node; 3],
+}
+
+fn make_list(alloc: Global, nodes: [Node; 3]) -> Result<Shared<List>, Fail> {
+    match Sole::new(alloc, List { nodes }) {
+        Ok(sole) => Ok(sole.share()),
+        Err(_) => Err(Fail::from(AllocError)),
+    }
+}
+
+fn number_of(node: &Node) -> u64 {
+    match node {
+        Node::Empty => 0,
+        Node::Leaf(leaf) => *leaf.as_ref(),
+        Node::List(_) => 1,
     }
 }
 
@@ -116,5 +146,31 @@ fn the_only_owner_of_several_writes_to_the_value(rt: HostRuntime) -> Result<(), 
     assert_eq!(rt; (second.as_ref().number, drops.get()), (9, 0));
     drop(second);
     assert_eq!(rt; drops.get(), 1);
+    Ok(())
+}
+
+#[test]
+fn two_trees_share_a_leaf(rt: HostRuntime) -> Result<(), Fail> {
+    let leaf = match Sole::new(rt.alloc(), 6) {
+        Ok(sole) => sole.share(),
+        Err(_) => return Err(Fail::from(AllocError)),
+    };
+    let nodes = [Node::Leaf(leaf.try_clone()?), Node::Empty, Node::Empty];
+    let low = make_list(rt.alloc(), nodes)?;
+    let nodes = [Node::Leaf(leaf), Node::List(low.try_clone()?), Node::Empty];
+    let high = make_list(rt.alloc(), nodes)?;
+    let [first, second, third] = &high.as_ref().nodes;
+    assert_eq!(rt;
+        (number_of(first), number_of(second), number_of(third)),
+        (6, 1, 0)
+    );
+    assert!(rt; low.into_sole().is_err());
+    match high.into_sole() {
+        Ok(mut sole) => {
+            sole.as_mut().nodes[1] = Node::Empty;
+            assert_eq!(rt; number_of(&sole.as_ref().nodes[0]), 6);
+        }
+        Err(_) => assert!(rt; false, "one owner, and it is not the only one"),
+    }
     Ok(())
 }
