@@ -1,8 +1,40 @@
 //! Values that count their drops, by owners that are dropped in several orders.
+ghost use Rattle.std.specs.Prelude.{◌≡◌, true, false, MatchResult};
+ghost use Rattle.rope_shared.specs.Shared.{shared_value};
+
 use crate::{Shared, Sole};
 use std::alloc::{AllocError, Global};
 use std::cell::Cell;
 use std::test::Fail;
+
+fn write(sole: &mut Sole<u64>, number: u64)
+    ensures { sole.new.value ≡ number }
+{
+    *sole.as_mut() = number;
+}
+
+/// Writes to the value where this is its only owner.
+fn write_alone(shared: &mut Shared<u64>, number: u64) -> bool
+    ensures written { result ≡ true → shared_value shared.new ≡ number }
+    ensures kept { result ≡ false → shared.new ≡ shared.old }
+{
+    match shared.get_mut() {
+        Some(value) => {
+            *value = number;
+            true
+        }
+        None => false,
+    }
+}
+
+/// Writes to the value, by its only owner for that time.
+fn write_by_sole(shared: Shared<u64>, number: u64) -> Result<Shared<u64>, Shared<u64>>
+    ensures { MatchResult result (λ s. shared_value s ≡ number) (λ s. shared_value s ≡ shared_value shared) }
+{
+    let mut sole = shared.into_sole()?;
+    write(&mut sole, number);
+    Ok(sole.share())
+}
 
 /// A value that counts its drop.
 struct Tracked<'a> {
@@ -170,6 +202,29 @@ fn two_trees_share_a_leaf(rt: HostRuntime) -> Result<(), Fail> {
             sole.as_mut().nodes[1] = Node::Empty;
             assert_eq!(rt; number_of(&sole.as_ref().nodes[0]), 6);
         }
+        Err(_) => assert!(rt; false, "one owner, and it is not the only one"),
+    }
+    Ok(())
+}
+
+#[test]
+fn a_number_is_written_in_place(rt: HostRuntime) -> Result<(), Fail> {
+    let mut sole = match Sole::new(rt.alloc(), 1) {
+        Ok(sole) => sole,
+        Err(_) => return Err(Fail::from(AllocError)),
+    };
+    write(&mut sole, 2);
+    *sole = *sole + 1;
+    let mut first = sole.share();
+    assert!(rt; write_alone(&mut first, 4));
+    let second = first.try_clone()?;
+    assert!(rt; !write_alone(&mut first, 5));
+    match write_by_sole(first, 6) {
+        Ok(_) => assert!(rt; false, "two owners, and one is the only one"),
+        Err(first) => drop(first),
+    }
+    match write_by_sole(second, 7) {
+        Ok(second) => assert_eq!(rt; *second, 7),
         Err(_) => assert!(rt; false, "one owner, and it is not the only one"),
     }
     Ok(())
