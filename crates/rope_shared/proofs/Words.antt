@@ -62,7 +62,8 @@ module _ (R : RattleType) {M : Type 1} {𝓤 : Ura M} {𝓛 : Logic 𝓤} {K : T
   sole_in t p x = step (λ s. let d : (Soles R).Denot = record { ptr = p; value = x } in
       nothing t $ feq_i t (List Val) (ptr_val p ∷ []) (ptr_val p ∷ []) refl $ fjoin t $
       feq_i t (List Val) (word p ∷ []) (word p ∷ []) refl $ fjoin t $
-      fpack t (Valss (RawPtr ∷ [])) (within (shape (sole.the_type R)) (to (sole.the_type R) d) (word p ∷ []))
+      fpack t (Valss (RawPtr ∷ [])) (within (shape (sole.the_type R)) (to (sole.the_type R) d) (word
+      p ∷ []))
       (ptr_val p ∷ [], tt) $ fjoin t $ s)
 
   pub arc_out : K → (d : (Arcs R).Denot) (vs : List Val)
@@ -78,12 +79,16 @@ module _ (R : RattleType) {M : Type 1} {𝓤 : Ura M} {𝓛 : Logic 𝓤} {K : T
   arc_in t p x = step (λ s. let d : (Arcs R).Denot = record { ptr = p; value = x } in
       nothing t $ feq_i t (List Val) (ptr_val p ∷ []) (ptr_val p ∷ []) refl $ fjoin t $
       feq_i t (List Val) (word p ∷ []) (word p ∷ []) refl $ fjoin t $
-      fpack t (Valss (RawPtr ∷ [])) (within (shape (arc.the_type R Z ghosts)) (to (arc.the_type R Z ghosts) d) (word p ∷ []))
+      fpack t (Valss (RawPtr ∷ [])) (within (shape (arc.the_type R Z ghosts)) (to (arc.the_type R Z
+      ghosts) d) (word p ∷ []))
       (ptr_val p ∷ [], tt) $ fjoin t $ s)
 
 module _ (R : RattleType) {M : Type 1} {𝓤 : Ura M} (𝓛 : Logic 𝓤) (p : Ptr) (x : R.Denot) where
-  pub of_sole : ent 𝓤 (sep 𝓤 (sem 𝓛 (ptr_in_block p)) (sem 𝓛 (sole_owns Z ghosts.dealloc_token R p x))) (sem 𝓛 (arc_owns Z ghosts.dealloc_token R p x))
-  of_sole = mono_r 𝓤 (sem 𝓛 (ptr_in_block p)) (ex_i 𝓤 (λ (y : Bool). sem 𝓛 (either_owner (sole_owns Z ghosts.dealloc_token R p x) (counted_owns Z ghosts.dealloc_token R p x) y)) true)
+  pub of_sole : ent 𝓤 (sep 𝓤 (sem 𝓛 (ptr_in_block p)) (sem 𝓛 (sole_owns Z ghosts.dealloc_token R p
+      x))) (sem 𝓛 (arc_owns Z ghosts.dealloc_token R p x))
+  of_sole = mono_r 𝓤 (sem 𝓛 (ptr_in_block p)) (ex_i 𝓤
+      (λ (y : Bool). sem 𝓛 (either_owner (sole_owns Z ghosts.dealloc_token R p x) (counted_owns Z
+      ghosts.dealloc_token R p x) y)) true)
 
 -- the pointer of a `Sole`, read through a `&`
 module _ (R : RattleType) where
@@ -93,32 +98,47 @@ module _ (R : RattleType) where
   abbrev sole_ty : Ty
   sole_ty = word_ty (sole.the_type R).name
 
-module _ (R : RattleType) (p : Ptr) {M : Type 1} {𝓤 : Ura M} {𝓛 : Logic 𝓤} {K : Type 0} {Γ : List (Item 𝓤)}
+module _ (R : RattleType) (p : Ptr) {M : Type 1} {𝓤 : Ura M} {𝓛 : Logic 𝓤} {K : Type 0} {Γ : List
+    (Item 𝓤)}
     {G : Goal 𝓤 𝓛.H} where
   -- [the pointer; the way back]
   pub pointer_out : K → Soaks G → {κ : Lft} {q : Share} (b o : ℕ)
-      → ((q' : Share) → Seq K 𝓛 (‵ (fat q' (sole_ty R) b o (word p)) ∷ Shut 𝓛 κ q (part_at (Fields R) q' (p, tt) b o) ∷ Γ) G)
+      → ((q' : Share) → Seq K 𝓛 (‵ (fat q' (sole_ty R) b o (word p)) ∷ Shut 𝓛 κ q (part_at (Fields
+      R) q' (p, tt) b o) ∷ Γ) G)
       → Seq K 𝓛 (‵ (hidden_shr (Fields R) κ (p, tt) b o) ∷ ‵ (flft κ q) ∷ Γ) G
   pointer_out t z b o k =
-      looks t z (Fields R) (Struct-Copied 𝓛 (shape (sole.the_type R)) (refl, tt) (RawPtr-copy.copied M 𝓤 𝓛, tt)).opens (p, tt) b o (λ q' vs.
-      move t (3 ∷ []) $ drop t $ move t (1 ∷ []) $ fpick t (λ vss. fsplit t $ feq_l t (λ whole. fsplit t $ feq_l t (λ first. drop t $
+      looks t z (Fields R) (Struct-Copied 𝓛 (shape (sole.the_type R)) (refl, tt) (
+        RawPtr-copy.copied
+            M 𝓤 𝓛,
+        tt,
+      )).opens (p, tt) b o (λ q' vs.
+      move t (3 ∷ []) $ drop t $ move t (1 ∷ []) $ fpick t (λ vss. fsplit t $
+      feq_l t (λ whole. fsplit t $ feq_l t (λ first. drop t $
       rewrite t 0 (λ (us : List Val). ‵ (cell_at q' ((sole_ty R) ∷ []) us b o))
       (subst (λ (ps : List Val). vs ≡ vstruct (of_list (ps ++ [])) ∷ []) first whole) refl $
-      use1 𝓛 (‵ (fat q' (sole_ty R) b o (word p))) (𝓛.laws.raw_at q' (sole_ty R) b o (word p)) $ k q'))))
+      use1 𝓛 (‵ (fat q' (sole_ty R) b o (word p))) (𝓛.laws.raw_at q' (sole_ty R) b o (word p)) $
+      k q'))))
 
   pub pointer_back : K → Soaks G → {κ : Lft} {q : Share} (b o : ℕ) (q' : Share)
-      → Step K 𝓛 (‵ (flft κ q) ∷ Γ) G (‵ (fat q' (sole_ty R) b o (word p)) ∷ Shut 𝓛 κ q (part_at (Fields R) q' (p, tt) b o) ∷ Γ) G
+      → Step K 𝓛 (‵ (flft κ q) ∷ Γ) G (‵ (fat q' (sole_ty R) b o (word p)) ∷ Shut 𝓛 κ q (part_at
+      (Fields R) q' (p, tt) b o) ∷ Γ) G
   pointer_back t z b o q' = step (λ s.
-      use1 𝓛 (‵ (fat q' (bare (sole_ty R)) b o (word p))) (𝓛.laws.at_raw q' (sole_ty R) b o (word p)) $
+      use1 𝓛 (‵ (fat q' (bare (sole_ty R)) b o (word p))) (𝓛.laws.at_raw q' (sole_ty R) b o (word
+      p)) $
       nothing t $ feq_i t (List Val) (ptr_val p ∷ []) (ptr_val p ∷ []) refl $ fjoin t $
       feq_i t (List Val) (word p ∷ []) (word p ∷ []) refl $ fjoin t $
       fpack t (Valss (RawPtr ∷ [])) (within (shape (sole.the_type R)) (p, tt) (word p ∷ []))
-      (ptr_val p ∷ [], tt) $ move t (1 ∷ 0 ∷ []) $ shuts t z (Fields R) q' (p, tt) (word p ∷ []) b o $ s)
+      (ptr_val p ∷ [], tt) $ move t (1 ∷ 0 ∷ []) $
+      shuts t z (Fields R) q' (p, tt) (word p ∷ []) b o $ s)
 
 -- a struct of one pointer, read as another one
-module _ {M : Type 1} {𝓤 : Ura M} {𝓛 : Logic 𝓤} {K : Type 0} {Γ : List (Item 𝓤)} {G : Goal 𝓤 𝓛.H} where
-  pub renamed : K → (ν μ : Sym) (b o : ℕ) (v : Val)
-      → Step K 𝓛 (‵ (fat full_share (word_ty μ) b o v) ∷ Γ) G (‵ (fat full_share (word_ty ν) b o v) ∷ Γ) G
-  renamed t ν μ b o v = step (λ s.
-      use1 𝓛 (‵ (fat full_share (bare (word_ty ν)) b o v)) (𝓛.laws.at_raw full_share (word_ty ν) b o v) $
-      use1 𝓛 (‵ (fat full_share (word_ty μ) b o v)) (𝓛.laws.raw_at full_share (word_ty μ) b o v) $ s)
+module _ {M : Type 1} {𝓤 : Ura M} {𝓛 : Logic 𝓤} {K : Type 0} {Γ : List (Item 𝓤)} {G : Goal 𝓤 𝓛.H}
+  where
+    pub renamed : K → (ν μ : Sym) (b o : ℕ) (v : Val)
+        → Step K 𝓛 (‵ (fat full_share (word_ty μ) b o v) ∷ Γ) G
+        (‵ (fat full_share (word_ty ν) b o v) ∷ Γ) G
+    renamed t ν μ b o v = step (λ s.
+        use1 𝓛 (‵ (fat full_share (bare (word_ty ν)) b o v))
+        (𝓛.laws.at_raw full_share (word_ty ν) b o v) $
+        use1 𝓛 (‵ (fat full_share (word_ty μ) b o v)) (𝓛.laws.raw_at full_share (word_ty μ) b o v) $
+        s)

@@ -21,7 +21,8 @@ frees_block R p = arc_inner_dealloc heap.the_row ghosts.dealloc_token R p
 
 -- the block of an `Arc` that has one owner: the value x, the count 1, and the right to free it
 abbrev pub sole_memory : (R : RattleType) → Ptr → R.Denot → Fml
-sole_memory R p x = fsep (ptr_in_block p) (fsep (lies_at R full_share (value_of R p) x) (fsep (word_at (block_of p) (count_of p + 0) 1) (frees_block R p)))
+sole_memory R p x = fsep (ptr_in_block p) (fsep (lies_at R full_share (value_of R p) x) (fsep
+    (word_at (block_of p) (count_of p + 0) 1) (frees_block R p)))
 
 -- the value x, lent
 abbrev pub sole_lent : (R : RattleType) → Ptr → R.Denot → Lft → Fml

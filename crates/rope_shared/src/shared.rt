@@ -34,7 +34,8 @@ impl<T> Shared<T> {
 
     /// Returns the only owner, if there is one, and this owner otherwise. Moves nothing.
     pub fn into_sole(self) -> Result<Sole<T>, Shared<T>>
-        ensures { MatchResult result (λ s. s.value ≡ shared_value self) (λ c. shared_value c ≡ shared_value self) }
+        ensures { MatchResult result (λ s. s.value ≡ shared_value self)
+            (λ c. shared_value c ≡ shared_value self) }
     {
         let Shared { arc } = self;
         match Sole::claim(arc) {

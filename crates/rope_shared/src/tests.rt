@@ -29,7 +29,8 @@ fn write_alone(shared: &mut Shared<u64>, number: u64) -> bool
 
 /// Writes to the value, by its only owner for that time.
 fn write_by_sole(shared: Shared<u64>, number: u64) -> Result<Shared<u64>, Shared<u64>>
-    ensures { MatchResult result (λ s. shared_value s ≡ number) (λ s. shared_value s ≡ shared_value shared) }
+    ensures { MatchResult result (λ s. shared_value s ≡ number)
+        (λ s. shared_value s ≡ shared_value shared) }
 {
     let mut sole = shared.into_sole()?;
     write(&mut sole, number);

@@ -22,11 +22,15 @@ use Rattle.rope_shared.proofs.sole.Sole.TheLaw.Statement.{statement}
 pub shares : (T : RattleType) (L : Laws T) → statement T L
 shares T L = of_Lends (S.struct T) (S.the_codes T.Denot T.coded) (S.the_heap T) (S.the_lent T)
     (λ d p. beside_shr_laws (said (ptr_in_block d.ptr)) (lent_at T (value_of T d.ptr) d.value)
-    (said_shr_laws (ptr_in_block d.ptr) (λ _. tt)) (lent_at_shr_laws T L.shr_laws (value_of T d.ptr) d.value))
+    (said_shr_laws (ptr_in_block d.ptr) (λ _. tt)) (lent_at_shr_laws T L.shr_laws (value_of T d.ptr)
+    d.value))
     (copy_shared RawPtr-field RawPtr-copy, tt) (λ M 𝓤 𝓛 d p.
-    let l = (S.the_row T).lives in let at = value_of T d.ptr in let value = lies_at T full_share at d.value in
+    let l = (S.the_row T).lives in let at = value_of T d.ptr in
+    let value = lies_at T full_share at d.value in
     let rest = fsep (word_at (block_of d.ptr) (count_of d.ptr + 0) 1) (frees_block T d.ptr) in
-    Lends-both 𝓛 (ptr_in_block d.ptr) (fsep value rest) (said (ptr_in_block d.ptr)) (lent_at T at d.value) l
+    Lends-both 𝓛 (ptr_in_block d.ptr) (fsep value rest) (said (ptr_in_block d.ptr)) (lent_at T at
+    d.value) l
     (Lends-said 𝓛 (ptr_in_block d.ptr) (λ _. tt) l)
     (Lends-first 𝓛 value rest (lent_at T at d.value) l
-    (Lends-lies 𝓛 T l at d.value (Shares-less 𝓛 T T.lives l (Incl-trans (meet_⊑_left (T.lives ++ []) _) (meet_⊑_left T.lives [])) (L.shares 𝓛) d.value))))
+    (Lends-lies 𝓛 T l at d.value (Shares-less 𝓛 T T.lives l (Incl-trans (meet_⊑_left (T.lives ++ [])
+    _) (meet_⊑_left T.lives [])) (L.shares 𝓛) d.value))))

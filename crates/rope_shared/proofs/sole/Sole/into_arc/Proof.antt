@@ -40,7 +40,8 @@ into_arc_spec 𝓤 𝓛 𝓜 𝓡 wired T L =
     let hs : Stays En.signature.params En.kept = (stay_dropped (plain (λ _. Me)) no, tt) in
     proved_at 𝓛 En hs c 𝓜 𝓡 (Goes-dropped 𝓛 1 (plain (λ _. Me)) no (λ κs x f. refl), tt)
     (#self at_type) fn (code.unfolded 𝓤 𝓛.H 𝓜 𝓡 wired (T, tt)) (λ z are.
-    let κs = z.0.0 in let κ = κs.0 in let q = z.0.1.0 in let d = z.0.3.0 in let p = d.ptr in let x = d.value in
+    let κs = z.0.0 in let κ = κs.0 in let q = z.0.1.0 in let d = z.0.3.0 in let p = d.ptr in
+    let x = d.value in
     let ν = (arc.the_type R Z ghosts).name in let w : Val = word p in
     let Post : Val → SProp 𝓤 = (walk_of 𝓛 En hs c).post z in
     let Run : List Val → SProp 𝓤 = λ ws. WpFn 𝓤 𝓛.H 𝓣.C 𝓣.Λ fn ws Post in
@@ -48,8 +49,10 @@ into_arc_spec 𝓤 𝓛 𝓜 𝓡 wired T L =
     ∷ raw ((c κs z.0.3).requires z.1) ∷ []) ∵ split ! $ split ! $ move ! (3 ∷ []) $ drop ! $
     -- [the token; nothing; the owner]
     move ! (2 ∷ []) $ fsplit ! $ sole_out R ! d z.0.4.0 (λ is.
-    suffices ! (Run (w ∷ [])) (subst (λ (us : List Val). ent 𝓤 (Run (w ∷ [])) (Run us)) (sym (λ i. is i ++ [])) (id⊢ 𝓤 (Run (w ∷ [])))) $
-    enter ! 𝓣.C 𝓣.Λ fn (w ∷ []) Post $ alloc_all ! (λ l. pass_all ! refl (word-Good (sole.the_type R).name p, tt) $
+    suffices ! (Run (w ∷ [])) (subst (λ (us : List Val). ent 𝓤 (Run (w ∷ [])) (Run us)) (sym
+    (λ i. is i ++ [])) (id⊢ 𝓤 (Run (w ∷ [])))) $
+    enter ! 𝓣.C 𝓣.Λ fn (w ∷ []) Post $ alloc_all !
+    (λ l. pass_all ! refl (word-Good (sole.the_type R).name p, tt) $
     let Ev = env fn.locals l in
     sets ! (of_opd ! (get_in ! (fld ! refl (stop !)) (sub ! 0 refl (whole !)))) refl (Ptr-Good p) $
     sets ! (agg ! (and_then ! (get ! refl) (no_more !))) refl (word-Good (held.the_type).name p) $
@@ -61,7 +64,8 @@ into_arc_spec 𝓤 𝓛 𝓜 𝓡 wired T L =
     sets ! (of_opd ! (get ! refl)) refl (word-Good ν p) $
     -- [the owner; nothing; the token; nothing]
     fsplit ! $ move ! (1 ∷ []) $ fsplit3 ! $ move ! (1 ∷ 0 ∷ 2 ∷ []) $ fjoin3 ! $
-    move ! (1 ∷ 0 ∷ []) $ join ! $ use1 𝓛 (‵ (arc_owns Z ghosts.dealloc_token R p x)) (of_sole R 𝓛 p x) $ arc_in R ! p x $
+    move ! (1 ∷ 0 ∷ []) $ join ! $ use1 𝓛 (‵ (arc_owns Z ghosts.dealloc_token R p x)) (of_sole R 𝓛 p
+    x) $ arc_in R ! p x $
     move ! (2 ∷ 3 ∷ []) $ join ! $ use0 𝓛 (raw (fact 𝓤 (x ≡ x))) (fact_i 𝓤 (x ≡ x) (emp 𝓤) refl) $
     nothing ! $ nothing ! $ fjoin ! $
     returns ! (look_at ! 0 refl) $ free_all ! refl $ keep ! (2 ∷ 0 ∷ 3 ∷ 1 ∷ []) $
