@@ -1,0 +1,3 @@
+pub mod Owning
+pub mod Sole
+pub mod Shared

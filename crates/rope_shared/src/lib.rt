@@ -1,0 +1,11 @@
+//! Owners of values on the heap: the only one, and one of several in any threads.
+#![tactic(auto)]
+
+mod shared;
+mod sole;
+
+pub use shared::Shared;
+pub use sole::Sole;
+
+#[cfg(test)]
+mod tests;

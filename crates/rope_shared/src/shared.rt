@@ -1,0 +1,97 @@
+//! One of several owners of a value.
+ghost use Rattle.std.specs.Prelude.{◌≡◌, IfOk, IfSome, MatchResult};
+ghost use Rattle.std.specs.Borrow.{sem};
+ghost use Rattle.rope_shared.specs.Shared.{shared_value, LendsValue};
+
+use crate::sole::Sole;
+use std::alloc::{AllocError, Global};
+use std::ops::Deref;
+use std::sync::Arc;
+
+/// One of several owners of a value on the heap, in any threads.
+pub struct Shared<T> {
+    arc: Arc<T, Global>,
+}
+
+impl<T> Sole<T> {
+    /// Makes this the first of several owners. Takes no memory, and moves nothing.
+    pub fn share(self) -> Shared<T>
+        ensures { shared_value result ≡ self.value }
+    {
+        let arc = self.into_arc();
+        Shared { arc }
+    }
+}
+
+impl<T> Shared<T> {
+    /// Adds an owner. Takes no memory, and fails only where the count is full.
+    pub fn try_clone(&self) -> Result<Shared<T>, AllocError>
+        ensures { IfOk result (λ c. shared_value c ≡ shared_value self.now) }
+    {
+        let arc = Arc::try_clone(&self.arc)?;
+        Ok(Shared { arc })
+    }
+
+    /// Returns the only owner, if there is one, and this owner otherwise. Moves nothing.
+    pub fn into_sole(self) -> Result<Sole<T>, Shared<T>>
+        ensures { MatchResult result (λ s. s.value ≡ shared_value self)
+            (λ c. shared_value c ≡ shared_value self) }
+    {
+        let Shared { arc } = self;
+        match Sole::claim(arc) {
+            Ok(sole) => Ok(sole),
+            Err(arc) => Err(Shared { arc }),
+        }
+    }
+
+    /// Returns a mutable borrow of the value, if this is its only owner.
+    pub fn get_mut(&mut self) -> Option<&mut T>
+        ensures* writes_back { sem 𝓛 (LendsValue T.row self.entry result) }
+        ensures value { IfSome result (λ x. x.now ≡ shared_value self.old) }
+    {
+        Arc::get_mut(&mut self.arc)
+    }
+
+    /// Returns a borrow of the value.
+    pub fn as_ref(&self) -> &T
+        ensures { result.now ≡ shared_value self.now }
+    {
+        self.arc.deref()
+    }
+}
+
+impl<T: Drop> Drop for Shared<T> {
+    #[inline]
+    fn drop(self) {
+        let Shared { arc } = self;
+        match Sole::release(arc) {
+            Some(last) => drop_last(last),
+            None => {}
+        }
+    }
+}
+
+// Out of line, so that the drop of any other owner is inlined and has no room for the value in its
+// frame.
+#[inline(never)]
+fn drop_last<T: Drop>(last: Sole<T>) {
+    drop(last);
+}
+
+impl<T: Drop> Clone for Shared<T> {
+    ghost is_clone = { λ s copy. shared_value copy ≡ shared_value s };
+
+    fn clone(&self) -> Result<Shared<T>, AllocError> {
+        self.try_clone()
+    }
+}
+
+impl<T> Deref for Shared<T> {
+    type Target = T;
+
+    ghost deref_gives = { λ s x. x ≡ shared_value s };
+
+    fn deref(&self) -> &T {
+        self.as_ref()
+    }
+}
