@@ -28,13 +28,13 @@
 //! *Where to look.* `makers` makes, clones and frees ropes; `char_edits`, `byte_edits` and
 //! `replace` edit them; `lengths`, `counts`, `conversions`, `positions` and `lookups` look up an
 //! index or a range; `chunks`, `pieces` and `slices` return where bytes are, and the counts before
-//! them; `copies` copies text; `compare` compares texts; `texts` looks up in plain texts;
-//! `builders` takes bytes in pieces, over `intake`; `file_reading` and `file_writing` convert
-//! files, over `encodings`; `changes` makes changes as values and applies them, `change_edits`
-//! makes them of lists and reads them back, `change_sets` composes and rebases them; `handle`,
-//! `lent`, `builder_handle`, `changes_handle`, `lent_changes` and `unboxed` own or lend the values
-//! of handles; `status` and `change_status` have the numbers of errors, and `macros` the steps by
-//! which calls return them.
+//! them, and `fill` fills arrays of these; `copies` copies text; `compare` compares texts; `texts`
+//! looks up in plain texts; `builders` takes bytes in pieces, over `intake`; `file_reading` and
+//! `file_writing` convert files, over `encodings`; `changes` makes changes as values and applies
+//! them, `change_edits` makes them of lists and reads them back, `change_sets` composes and rebases
+//! them; `handle`, `lent`, `builder_handle`, `changes_handle`, `lent_changes` and `unboxed` own or
+//! lend the values of handles; `status` and `change_status` have the numbers of errors, and
+//! `macros` the steps that return them.
 #![tactic(auto)]
 
 pub mod builder_handle;
