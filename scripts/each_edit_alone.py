@@ -3,12 +3,17 @@
 
     scripts/each_edit_alone.py CRATE[/EDIT]..             # tries the mutants of these crates or edits
     scripts/each_edit_alone.py --changed CRATE[/EDIT]..   # only those that have changed since their row was written
+    scripts/each_edit_alone.py --together [--changed] ..  # the mutants of different functions in one check, much sooner
     scripts/each_edit_alone.py --stale                    # proves nothing: lists the rows that are out of date
 
 An edit may have several mutants, and `rt ci` checks only that one of them is refused. This script writes each mutant to an
 edit of its own, in a scratch folder whose crates are links to the repository's, and runs `rt must-fail` there once. That tries
-RT_JOBS mutants at a time, by default four, over the proofs of `rt check`: run `rt check` in the crates' folders before. `rt`
-caches the results, so a later run tries only changed mutants. The status is 0 if every mutant is refused.
+RT_JOBS mutants at a time, if the kit can, by default four, over the proofs of `rt check`: run `rt check` in the crates' folders
+before. The status is 0 if every mutant is refused.
+
+With --together a check has one mutant of each function. A function is proved against its own contract and those of its callees,
+so no other mutant changes its goals. A mutant counts as refused if the check names a goal of its own function; the others are
+tried in the next check, without those that were refused, and at last alone.
 
 A row of docs/refusals.tsv has the mutant, as the name of its edit and its number there; its crate; its function; the goal that
 the prover could not show, as its function and its name; the reason; and a checksum of the mutant and of its function with its
@@ -21,6 +26,7 @@ import hashlib
 import os
 import pathlib
 import re
+import shutil
 import signal
 import subprocess
 import sys
@@ -37,6 +43,9 @@ HEADS = ["mutant", "crate", "function", "goal", "refused by", "checksum"]
 REFUSED = re.compile(r"rt: must-fail (?P<crate>\w+)/(?P<edit>\S+)\.(?P<number>\d+)\.edit: refused, as it must be"
                      r"(?: \(only (?P<only>because|by)[^)]*\))?(?:: (?P<said>.*))?")
 KINDS = {None: "value", "because": "name", "by": "limit"}
+# A line of `rt check` that names a goal; and one that only says that a written proof cites a name that the mutant removed.
+GOAL = re.compile(r"(note: )?\S+:\d+:\d+:")
+NAME_ONLY = re.compile(r"(\./)?proofs/.*(has no field|is not in scope|has no `|was not admitted)")
 
 
 def contract_at(lines, number):
@@ -122,11 +131,12 @@ def goal_of(crate, said):
     return f"{path} {name[1] if name else rest}"
 
 
-def output_of(words, folder):
-    """The output of a command run in the scratch folder. Ending this script ends the command and removes temporary files."""
+def output_of(words, folder, part=""):
+    """The output of a command run in a part of the scratch folder. Ending this script ends the command and removes temporary
+    files."""
     (folder / "made").mkdir()
     environment = {"RT_JOBS": "4", **os.environ, "TMPDIR": str(folder / "made")}
-    with subprocess.Popen(words, cwd=folder / "tree", env=environment, text=True, errors="replace", stdin=subprocess.DEVNULL,
+    with subprocess.Popen(words, cwd=folder / "tree" / part, env=environment, text=True, errors="replace", stdin=subprocess.DEVNULL,
                           stdout=subprocess.PIPE, stderr=subprocess.STDOUT) as command:
         try:
             return command.communicate()[0].splitlines()
@@ -170,6 +180,65 @@ def try_all(edits, mutants):
     return not lost
 
 
+def one_of_each(mutants):
+    """The first mutant of each function."""
+    firsts = {function: key for key, (function, _) in reversed(mutants.items())}
+    return {key: mutants[key] for key in mutants if firsts[mutants[key][0]] == key}
+
+
+def checked_together(crate, texts):
+    """The lines of `rt check` for a copy of a crate with these texts in place of its own. Other crates are links."""
+    with tempfile.TemporaryDirectory(prefix="each-edit-together-") as name:
+        folder = pathlib.Path(name)
+        scratch([], {}, folder / "tree")
+        copy = folder / "tree" / "crates" / crate
+        for part in list(copy.iterdir()):
+            part.unlink()
+            shutil.copytree(CRATES / crate / part.name, part)
+        for file, text in texts.items():
+            (copy / file.relative_to(CRATES / crate)).write_text(text, encoding="utf-8")
+        return output_of(["rt", "check", "--jobs", "2"], folder, f"crates/{crate}")
+
+
+def with_mutants(changed):
+    """The texts of the files that these changes change, with all of them applied."""
+    texts = {}
+    for file, pairs in changed:
+        for old, new in pairs:
+            texts[file] = texts.get(file, file.read_text(encoding="utf-8")).replace(old, new, 1)
+    return texts
+
+
+def refused_together(crate, mutants, lines):
+    """The goal and the reason of each mutant of a crate of whose function a check names a goal."""
+    told = [line for line in lines if GOAL.match(line) and (": error" in line or line.startswith("note: "))]
+    goals = [(goal_of(crate, line), NAME_ONLY.match(line) is not None) for line in told]
+    for key, (function, _) in mutants.items():
+        own = [it for it in goals if it[0].split(" ")[0].split("::")[-2:] == function.split("::")[-2:]]
+        if own:
+            goal, is_name = next((it for it in own if not it[1]), own[0])
+            yield key, (goal, "name" if is_name else "value")
+
+
+def try_together(edits, mutants):
+    """Tries these mutants of these edits, those of different functions in one check, and writes the rows of the refused ones.
+    Returns the mutants that are to be tried alone."""
+    every = {(f"{edit.stem} {number}", crate_of(edit)): change for edit in edits for number, change in enumerate(changes(edit), 1)}
+    alone = {}
+    for crate in sorted({key[1] for key in mutants}):
+        left = {key: mutant for key, mutant in mutants.items() if key[1] == crate}
+        while batch := one_of_each(left):
+            lines = checked_together(crate, with_mutants([every[key] for key in batch]))
+            found = dict(refused_together(crate, batch, lines))
+            print(f"{crate}: {len(found)} of {len(batch)} were refused in one check", flush=True)
+            existing = mutants_of(CRATES.glob("*/must-fail/*.edit"))
+            kept = [row for key, row in table().items() if key in existing and key not in found]
+            write([*kept, *([*key, batch[key][0], *found[key], batch[key][1]] for key in found)])
+            left = {key: mutant for key, mutant in left.items() if key not in (batch if not found else found)}
+            alone |= {key: batch[key] for key in batch if not found}
+    return alone
+
+
 def is_of_another(function, goal):
     """Whether a goal belongs to another function than the one that a mutant changes.
 
@@ -198,7 +267,7 @@ def main(words):
         found = list(stale())
         print("\n".join(found) if found else f"{len(table())} mutants have the row of their refusal")
         return 1 if found else 0
-    names = [word for word in words if word != "--changed"]
+    names = [word for word in words if word not in ("--changed", "--together")]
     edits = edits_of(names)
     if not edits:
         print("no such edit" if names else __doc__, file=sys.stderr)
@@ -210,7 +279,9 @@ def main(words):
     if not mutants:
         print("none has changed")
         return 0
-    return 0 if try_all(edits, mutants) else 1
+    if "--together" in words:
+        mutants = try_together(edits, mutants)
+    return 0 if not mutants or try_all(edits, mutants) else 1
 
 
 if __name__ == "__main__":
