@@ -37,6 +37,21 @@ fn write_by_sole(shared: Shared<u64>, number: u64) -> Result<Shared<u64>, Shared
     Ok(sole.share())
 }
 
+/// Takes only what may go to another thread, and be read there.
+fn sent<T: Send + Sync>(value: T) -> T
+    ensures { result ≡ value }
+{
+    value
+}
+
+fn send_sole(sole: Sole<u64>) -> Sole<u64> {
+    sent(sole)
+}
+
+fn send_shared(shared: Shared<u64>) -> Shared<u64> {
+    sent(shared)
+}
+
 /// A value that counts its drop.
 struct Tracked<'a> {
     drops: &'a Cell<u64>,
@@ -216,7 +231,7 @@ fn a_number_is_written_in_place(rt: HostRuntime) -> Result<(), Fail> {
     };
     write(&mut sole, 2);
     *sole = *sole + 1;
-    let mut first = sole.share();
+    let mut first = send_shared(send_sole(sole).share());
     assert!(rt; write_alone(&mut first, 4));
     let second = first.try_clone()?;
     assert!(rt; !write_alone(&mut first, 5));
