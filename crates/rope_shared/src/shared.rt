@@ -64,9 +64,13 @@ impl<T: Drop> Drop for Shared<T> {
     #[inline]
     fn drop(self) {
         let Shared { arc } = self;
-        match Sole::release(arc) {
-            Some(last) => drop_last(last),
-            None => {}
+        // A load finds the only owner, so a tree that isn't shared is freed without a locked step.
+        match Sole::claim(arc) {
+            Ok(last) => drop_last(last),
+            Err(arc) => match Sole::release(arc) {
+                Some(last) => drop_last(last),
+                None => {}
+            },
         }
     }
 }
