@@ -72,6 +72,7 @@ enum Node {
     Empty,
     Leaf(Shared<u64>),
     List(Shared<List>),
+    Own(Sole<List>),
 }
 
 #[cycle(tree)]
@@ -92,6 +93,7 @@ fn number_of(node: &Node) -> u64 {
         Node::Empty => 0,
         Node::Leaf(leaf) => *leaf.as_ref(),
         Node::List(_) => 1,
+        Node::Own(list) => list.nodes.len() as u64,
     }
 }
 
@@ -217,6 +219,7 @@ fn two_trees_share_a_leaf(rt: HostRuntime) -> Result<(), Fail> {
         Ok(mut sole) => {
             sole.as_mut().nodes[1] = Node::Empty;
             assert_eq!(rt; number_of(&sole.as_ref().nodes[0]), 6);
+            assert_eq!(rt; number_of(&Node::Own(sole)), 3);
         }
         Err(_) => assert!(rt; false, "one owner, and it is not the only one"),
     }
