@@ -1,3 +1,4 @@
 pub mod Words
 pub mod Counts
 pub mod Blocks
+pub mod Crossing

@@ -1,10 +1,10 @@
 //! One of several owners of a value.
-ghost use Rattle.std.specs.Prelude.{◌≡◌, IfOk, IfSome, MatchResult};
+ghost use Rattle.std.specs.Prelude.{◌≡◌, ◌<◌, IfOk, IfErr, IfSome, MatchResult};
 ghost use Rattle.std.specs.Borrow.{sem};
 ghost use Rattle.rope_shared.specs.Shared.{shared_value, LendsValue};
 
 use crate::sole::Sole;
-use std::alloc::{AllocError, Global};
+use std::alloc::{AllocError, AllocFailed, Global};
 use std::ops::Deref;
 use std::sync::Arc;
 
@@ -24,6 +24,22 @@ impl<T> Sole<T> {
 }
 
 impl<T> Shared<T> {
+    /// Allocates a block for the value, whose first owner this is.
+    pub fn new(alloc: Global, value: T) -> Result<Shared<T>, AllocFailed<T>>
+        ensures ok { IfOk result (λ s. shared_value s ≡ value) }
+        ensures value_returned { IfErr result (λ e. e.value ≡ value) }
+    {
+        let sole = Sole::new(alloc, value)?;
+        Ok(sole.share())
+    }
+
+    /// Returns the number of owners, which other threads may change at any time.
+    pub fn strong_count(&self) -> usize
+        ensures { 0 < result }
+    {
+        Arc::strong_count(&self.arc)
+    }
+
     /// Adds an owner. Takes no memory, and fails only where the count is full.
     pub fn try_clone(&self) -> Result<Shared<T>, AllocError>
         ensures { IfOk result (λ c. shared_value c ≡ shared_value self.now) }
@@ -64,9 +80,13 @@ impl<T: Drop> Drop for Shared<T> {
     #[inline]
     fn drop(self) {
         let Shared { arc } = self;
-        match Sole::release(arc) {
-            Some(last) => drop_last(last),
-            None => {}
+        // A load finds the only owner, so a tree that isn't shared is freed without a locked step.
+        match Sole::claim(arc) {
+            Ok(last) => drop_last(last),
+            Err(arc) => match Sole::release(arc) {
+                Some(last) => drop_last(last),
+                None => {}
+            },
         }
     }
 }

@@ -37,6 +37,21 @@ fn write_by_sole(shared: Shared<u64>, number: u64) -> Result<Shared<u64>, Shared
     Ok(sole.share())
 }
 
+/// Takes only what may go to another thread, and be read there.
+fn sent<T: Send + Sync>(value: T) -> T
+    ensures { result ≡ value }
+{
+    value
+}
+
+fn send_sole(sole: Sole<u64>) -> Sole<u64> {
+    sent(sole)
+}
+
+fn send_shared(shared: Shared<u64>) -> Shared<u64> {
+    sent(shared)
+}
+
 /// A value that counts its drop.
 struct Tracked<'a> {
     drops: &'a Cell<u64>,
@@ -57,6 +72,7 @@ enum Node {
     Empty,
     Leaf(Shared<u64>),
     List(Shared<List>),
+    Own(Sole<List>),
 }
 
 #[cycle(tree)]
@@ -77,6 +93,7 @@ fn number_of(node: &Node) -> u64 {
         Node::Empty => 0,
         Node::Leaf(leaf) => *leaf.as_ref(),
         Node::List(_) => 1,
+        Node::Own(list) => list.nodes.len() as u64,
     }
 }
 
@@ -202,6 +219,7 @@ fn two_trees_share_a_leaf(rt: HostRuntime) -> Result<(), Fail> {
         Ok(mut sole) => {
             sole.as_mut().nodes[1] = Node::Empty;
             assert_eq!(rt; number_of(&sole.as_ref().nodes[0]), 6);
+            assert_eq!(rt; number_of(&Node::Own(sole)), 3);
         }
         Err(_) => assert!(rt; false, "one owner, and it is not the only one"),
     }
@@ -216,7 +234,7 @@ fn a_number_is_written_in_place(rt: HostRuntime) -> Result<(), Fail> {
     };
     write(&mut sole, 2);
     *sole = *sole + 1;
-    let mut first = sole.share();
+    let mut first = send_shared(send_sole(sole).share());
     assert!(rt; write_alone(&mut first, 4));
     let second = first.try_clone()?;
     assert!(rt; !write_alone(&mut first, 5));
