@@ -186,17 +186,27 @@ def one_of_each(mutants):
     return {key: mutants[key] for key in mutants if firsts[mutants[key][0]] == key}
 
 
+def link_or_copy(source, target):
+    """Makes another name for a file; on another file system, a copy."""
+    try:
+        os.link(source, target)
+    except OSError:
+        shutil.copy2(source, target)
+
+
 def checked_together(crate, texts):
-    """The lines of `rt check` for a copy of a crate with these texts in place of its own. Other crates are links."""
+    """The lines of `rt check` for a copy of a crate with these texts in place of its own. It keeps its work in the copy, and uses
+    the libraries that were built from the other crates, by links to their files."""
     with tempfile.TemporaryDirectory(prefix="each-edit-together-") as name:
         folder = pathlib.Path(name)
-        scratch([], {}, folder / "tree")
-        copy = folder / "tree" / "crates" / crate
-        for part in list(copy.iterdir()):
-            part.unlink()
-            shutil.copytree(CRATES / crate / part.name, part)
+        (folder / "tree").mkdir()
+        shutil.copy(TOP / "crates.txt", folder / "tree")
+        for each in filter(pathlib.Path.is_dir, CRATES.iterdir()):
+            ignored = shutil.ignore_patterns("must-fail", *([] if each.name == crate else ["incremental"]))
+            copy = shutil.copy2 if each.name == crate else link_or_copy
+            shutil.copytree(each, folder / "tree" / "crates" / each.name, ignore=ignored, copy_function=copy)
         for file, text in texts.items():
-            (copy / file.relative_to(CRATES / crate)).write_text(text, encoding="utf-8")
+            (folder / "tree" / file.relative_to(TOP)).write_text(text, encoding="utf-8")
         return output_of(["rt", "check", "--jobs", "2"], folder, f"crates/{crate}")
 
 
