@@ -37,7 +37,8 @@ fn line_start_at(node: &Node, line_idx: usize) -> (TextInfo, &str)
     line_start_in(node, line_idx, found)
 }
 
-// Returns what `line_start_at` does, given the leaf in which the break before the line ends.
+// Returns the counts of the text before a line that is not the first, and the rest of the given
+// leaf, in which the break before that line ends.
 #[inline(always)]
 fn line_start_in<'a>(node: &Node, line_idx: usize, found: Found<'a>) -> (TextInfo, &'a str)
     requires later { 0 < line_idx }
@@ -355,7 +356,7 @@ impl<'a> Excerpt<'a> {
     }
 
     /// Returns the counts of the slice's text before a line that is not the first, given the leaf
-    /// in which the break before it ends. Takes no lookup.
+    /// in which the break before it ends. Makes no lookup.
     #[inline(always)]
     pub(crate) fn before_line_in(&self, line_idx: usize, found: Found<'_>) -> TextInfo
         requires later { 0 < line_idx }
