@@ -232,7 +232,7 @@ module _ (X : RattleType) (b o : ℕ) where
 
 module _ (X : RattleType) (L : Laws X) {M : Type 1} {𝓤 : Ura M} {𝓛 : Logic 𝓤} {K : Type 0} {Γ : List
     (Item 𝓤)} {G : Goal 𝓤 𝓛.H} (b o : ℕ) where
-  pub parted : K → (x : X.Denot)
+  pub split_pair : K → (x : X.Denot)
       → ((h : Z.Denot) (v : Val) → Good X v → Seq K 𝓛 (‵ (value_cell X b o v)
       ∷ ‵ (heap_cell X b o heap_val) ∷ ‵ (word_at b (o + 0) 1)
       ∷ ‵ (fields_rejoin Z (R X) (block_ptr b o))
@@ -240,7 +240,7 @@ module _ (X : RattleType) (L : Laws X) {M : Type 1} {𝓤 : Ura M} {𝓛 : Logic
       ∷ ‵ ((R X).own_val x (v ∷ [])) ∷ Γ) G)
       → Seq K 𝓛 (‵ (fsep (lies_at (R X) full_share (value_of (R X) (block_ptr b o)) x) (fsep
       (word_at b (o + 0) 1) (frees_block (R X) (block_ptr b o)))) ∷ Γ) G
-  parted t x k = fsplit3 t $
+  split_pair t x k = fsplit3 t $
       use1 𝓛 (some (λ (u : Val). ‵ (value_cell X b o u) ⊛ ‵ ((R X).own_val x (u ∷ [])))) (part_out 𝓛
       (R X) refl full_share x b (o + value_offset Z (R X))) $ pick t (λ u. split t $
       move t (1 ∷ []) $

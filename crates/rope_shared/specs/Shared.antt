@@ -15,6 +15,6 @@ shared_value s = s.arc.value
 abbrev pub with_shared_value : {X : Type 0} → Shared X → X → Shared X
 with_shared_value s w = record { arc = arc_with_value s.arc w }
 
--- s ends with the last value behind r, and unchanged if r is `None`
+-- s ends with the last value that r refers to, and unchanged if r is `None`
 abbrev pub LendsValue : (R : RattleType) → MutBor (Shared R.Denot) → Option (MutBor R.Denot) → Fml
 LendsValue R s r = LendsIf (the_row R) R s r (with_shared_value s.now) s.now

@@ -10,6 +10,6 @@ use Rattle.rope_shared.specs.contracts.sole.Sole.{the_row}
 abbrev pub with_value : {X : Type 0} → Sole X → X → Sole X
 with_value s w = record { ptr = s.ptr; value = w }
 
--- once the borrow r ends, the `Sole<R>` behind s holds the last value written through r
+-- once the borrow r ends, the `Sole<R>` that s refers to holds the last value written through r
 abbrev pub sole_follows : (R : RattleType) → MutBor (Sole R.Denot) → MutBor R.Denot → Fml
 sole_follows R s r = follows (the_row R) R s.ghost_name r.ghost_name (with_value s.now)

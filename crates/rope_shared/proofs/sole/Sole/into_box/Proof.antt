@@ -33,7 +33,7 @@ use Rattle.rope_shared.specs.contracts.sole.Parts as held
 use Rattle.rope_shared.specs.contracts.sole.Inner as inner
 use Rattle.rope_shared.specs.contracts.sole.Sole as sole
 use Rattle.rope_shared.proofs.Words.{Z, Soles, sole_out}
-use Rattle.rope_shared.proofs.Blocks.{Inner, pair, heap_Good, pair_Good, inner_Good, pair_renamed, box_in, parted, roomed, rebuilt}
+use Rattle.rope_shared.proofs.Blocks.{Inner, pair, heap_Good, pair_Good, inner_Good, pair_renamed, box_in, split_pair, roomed, rebuilt}
 use Rattle.rope_shared.specs.contracts.sole.Sole.into_box.{ended, clauses}
 use Rattle.rope_shared.specs.contracts.sole.Sole.into_box.Key.{name as #self}
 use Rattle.rope_shared.proofs.sole.Sole.into_box.Statement.{statement}
@@ -61,7 +61,7 @@ into_box_spec 𝓤 𝓛 𝓜 𝓡 wired T L =
     move ! (2 ∷ []) $ fsplit ! $ sole_out R ! d z.0.4.0 (λ same. fsplit ! $ fpick ! (λ inb. drop ! $
     rewrite ! 0 (λ (r : Ptr). ‵ (fsep (lies_at R full_share (value_of R r) x) (fsep (word_at
     (block_of r) (count_of r + 0) 1) (frees_block R r)))) (at_block p inb) refl $
-    parted T L b o ! x (λ h v good.
+    split_pair T L b o ! x (λ h v good.
     suffices ! (Run (w ∷ [])) (subst (λ (us : List Val). ent 𝓤 (Run (w ∷ [])) (Run us)) (sym
     (λ i. same i ++ [])) (id⊢ 𝓤 (Run (w ∷ [])))) $
     enter ! 𝓣.C 𝓣.Λ fn (w ∷ []) Post $ alloc_all !
