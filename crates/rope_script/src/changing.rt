@@ -1,12 +1,10 @@
 //! Edits of one of the ropes.
 ghost use Rattle.std.specs.Prelude.{◌≡◌, ◌∷◌, [], map};
 ghost use Rattle.std.specs.Str.{chars};
-ghost use Rattle.rope_text.specs.Edit.{append_error};
-ghost use Rattle.ropey.specs.View.{content, IsRope};
+ghost use Rattle.ropey.specs.View.{content};
 ghost use Rattle.rope_script.specs.Step.{edit_reply, Inserts, Removes, Joins, Shrinks};
 
 use crate::script::Reply;
-use rope_text::MAX_TEXT_BYTES;
 use ropey::{Error, IndexRange, Result, Rope};
 
 /// Inserts a text into a rope.
@@ -76,31 +74,13 @@ pub(crate) fn join(ropes: &mut Vec<Rope>, rope: usize, other: usize) -> Reply
     if rope >= ropes.len() || other >= ropes.len() {
         return Reply::NoRope;
     }
-    if let Some(error) = join_error(&ropes[rope], &ropes[other]) {
+    if let Some(error) = ropes[rope].append_error(&ropes[other]) {
         return Reply::Refused(error);
     }
     match ropes[other].clone() {
         Ok(clone) => reply_to_edit(ropes[rope].append(clone)),
         Err(_) => Reply::Refused(Error::OutOfMemory),
     }
-}
-
-/// Returns the error of an append of the second rope to the first, except `OutOfMemory`.
-fn join_error(rope: &Rope, other: &Rope) -> Option<Error>
-    ensures error { result
-        ≡ append_error rope.now.breaks other.now.breaks rope.now.text other.now.text }
-    ensures rope { IsRope rope.now }
-    ensures other { IsRope other.now }
-{
-    let bytes = rope.len_bytes();
-    let more = other.len_bytes();
-    if rope.line_breaks() != other.line_breaks() {
-        return Some(Error::LineBreaksDiffer);
-    }
-    if more > MAX_TEXT_BYTES - bytes {
-        return Some(Error::TooLong);
-    }
-    None
 }
 
 /// Re-chunks the text of a rope.

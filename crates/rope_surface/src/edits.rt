@@ -1,10 +1,10 @@
 //! Edits of ropes, with the calls that refuse any index and those that count their steps.
 ghost use Rattle.std.specs.Prelude.{◌≡◌, ◌≤◌, ◌++◌, ◌∷◌, [], drop, length, IfOk, OnOk};
 ghost use Rattle.std.specs.Str.{chars};
-ghost use Rattle.rope_text.specs.Edit.{inserted, range_end, range_start, removed};
+ghost use Rattle.rope_text.specs.Edit.{append_error, inserted, range_end, range_start, removed};
 ghost use Rattle.rope_slice.specs.Sliced.{HasCharRange};
 
-use ropey::{IndexRange, Result, Rope, Steps};
+use ropey::{Error, IndexRange, Result, Rope, Steps};
 
 /// Inserts a text at an index in bounds.
 pub fn insert(rope: &mut Rope, char_idx: usize, text: &str) -> Result<()>
@@ -114,6 +114,13 @@ pub fn append(rope: &mut Rope, other: Rope) -> Result<()>
     ensures { OnOk result (rope.new.text ≡ rope.old.text ++ other.text) }
 {
     rope.append(other)
+}
+
+/// Returns the error of an append, memory aside.
+pub fn append_error(rope: &Rope, other: &Rope) -> Option<Error>
+    ensures { result ≡ append_error rope.now.breaks other.now.breaks rope.now.text other.now.text }
+{
+    rope.append_error(other)
 }
 
 /// Appends a rope, counting the steps.

@@ -1,11 +1,12 @@
 -- When an insert is refused, but for memory.
-use Rattle.std.proofs.Common.{◌≡◌, ℕ, ◌+◌, ◌^◌, ◌<◌, ◌≤◌, List, [], ◌++◌, length, take, drop, ap, ◌∙◌, sym, Some, None, true, refl, arith, take-append-drop}
-use Rattle.std.proofs.lemmas.Bool.{cond-true, cond-false, le-leb, lt-ltb, le-ltb}
+use Rattle.std.proofs.Common.{◌≡◌, ℕ, ◌+◌, ◌^◌, ◌<◌, ◌≤◌, List, [], ◌++◌, length, take, drop, ap, ◌∙◌, sym, Some, None, true, inl, inr, refl, arith, take-append-drop}
+use Rattle.std.proofs.lemmas.Bool.{cond-true, cond-false, le-leb, lt-ltb, le-ltb, cases_lt}
 use Rattle.std.proofs.lemmas.List.{append-nil, nil_from_length}
+use Rattle.std.proofs.lemmas.Option.{none-some}
 use Rattle.std.proofs.lemmas.Str.{length-le-encodes}
 use Rattle.rope_text.specs.declared.line_breaks.LineBreaks.{LineBreaks}
 use Rattle.rope_text.specs.declared.line_breaks.LineBreaks.TheVariants.{Lf, CrLf, Unicode}
-use Rattle.rope_text.specs.declared.error.Error.TheVariants.{TooLong}
+use Rattle.rope_text.specs.declared.error.Error.TheVariants.{TooLong, LineBreaksDiffer}
 use Rattle.rope_text.specs.Text.{byte_len}
 use Rattle.rope_text.specs.Edit.{inserted, insert_error, append_error, same_breaks, or_else, size_error}
 
@@ -47,3 +48,20 @@ append_error-none breaks other text new same fits =
 -- a text of no bytes
 pub no_text : (text : List ℕ) → byte_len text ≡ 0 → text ≡ []
 no_text text none = nil_from_length text (omega (arith, length-le-encodes text))
+
+fits_of : (n : ℕ) → size_error n ≡ None → n < 2 ^ 63
+fits_of n none = elim (cases_lt n (2 ^ 63)) [
+  | inl lt ↦ lt
+  | inr ge ↦
+      let over : size_error n ≡ Some TooLong = cond-false _ _ _ (le-ltb n (2 ^ 63) ge) in
+      absurd (none-some TooLong (sym none ∙ over))
+]
+
+-- an append that memory alone may refuse
+pub append_error-fits : (breaks other : LineBreaks) (text new : List ℕ)
+    → append_error breaks other text new ≡ None
+    → (other ≡ breaks) × (byte_len text + byte_len new < 2 ^ 63)
+append_error-fits Lf Lf text new none = (refl, fits_of _ none)
+append_error-fits CrLf CrLf text new none = (refl, fits_of _ none)
+append_error-fits Unicode Unicode text new none = (refl, fits_of _ none)
+append_error-fits breaks other text new none = absurd (none-some LineBreaksDiffer (sym none))

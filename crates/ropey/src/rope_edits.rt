@@ -11,6 +11,7 @@ ghost use Rattle.rope_text.specs.Text.{byte_len};
 ghost use Rattle.rope_text.specs.Edit.{IsRefusal, char_index_error, append_error};
 ghost use Rattle.rope_slice.specs.Sliced.{HasCharRange, IsEmptyRange};
 ghost use Rattle.rope_tree.specs.Searched.{HasSearched};
+ghost use Rattle.ropey.specs.View.{IsRope};
 ghost use Rattle.ropey.specs.Counted.{IsEditCount, IsLongInsertCount, no_steps, insert_nodes, long_insert_nodes, removal_nodes, split_nodes, append_nodes};
 ghost use Rattle.ropey.specs.Edited.{IsEdit, IsIdle, CanInsert, IsInsert, IsInsertRefusal, IsRemoval, IsRemovalRefusal, CanAppend, CannotAppend, IsAppend, IsAppendRefusal, IsCutAt};
 ghost use Rattle.rope_text.specs.declared.error.Error.TheVariants.{OutOfMemory};
@@ -391,7 +392,28 @@ impl Rope {
         removed
     }
 
-    // Refuses a rope with another set of line breaks, or one that would make the text too long.
+    /// Returns the error with which [`append`](Rope::append) refuses the other rope, however much
+    /// memory there is: `LineBreaksDiffer` if the two have different sets of line breaks, empty or
+    /// not; else `TooLong` if the text would have more than `isize::MAX` bytes; else `None`.
+    ///
+    /// With ropes of `"a"` and `"bc"` that have one set of line breaks, it is `None`.
+    pub fn append_error(&self, other: &Rope) -> Option<Error>
+        ensures error { result ≡ append_error self.now.breaks other.now.breaks
+            self.now.text other.now.text }
+        ensures kept { IsRope self.now }
+        ensures other { IsRope other.now }
+    {
+        let (bytes, more) = (self.len_bytes(), other.len_bytes());
+        if self.line_breaks() != other.line_breaks() {
+            return Some(Error::LineBreaksDiffer);
+        }
+        if more > MAX_TEXT_BYTES - bytes {
+            return Some(Error::TooLong);
+        }
+        None
+    }
+
+    // Refuses a rope that can't be appended, however much memory there is.
     #[inline(always)]
     fn may_append(&self, other: &Rope) -> Result<()>
         ensures same { OnOk result (other.now.breaks ≡ self.now.breaks) }
@@ -399,13 +421,10 @@ impl Rope {
         ensures refused { IfErr result (λ e. append_error self.now.breaks other.now.breaks
             self.now.text other.now.text ≡ Some e) }
     {
-        if self.root.line_breaks() != other.root.line_breaks() {
-            return Err(Error::LineBreaksDiffer);
+        match self.append_error(other) {
+            Some(error) => Err(error),
+            None => Ok(()),
         }
-        if other.len_bytes() > MAX_TEXT_BYTES - self.len_bytes() {
-            return Err(Error::TooLong);
-        }
-        Ok(())
     }
 
     /// Appends the text of another rope. The rope shares nodes of the other's tree.

@@ -1,5 +1,5 @@
 //! Ropes edited at the index of a character, split and appended.
-ghost use Rattle.std.specs.Prelude.{◌≡◌, ◌≢◌, ◌<◌, ◌⊎◌, ◌++◌, [], ◌∷◌, length, take, drop, None, Some, IfSome, IfErr, OnOk, IsSomeAnd, MatchOption};
+ghost use Rattle.std.specs.Prelude.{◌≡◌, ◌≢◌, ◌<◌, ◌⊎◌, ◌++◌, [], ◌∷◌, length, take, drop, None, Some, IfSome, IsSomeAnd, MatchOption};
 ghost use Rattle.std.specs.Str.{chars};
 ghost use Rattle.rope_text.specs.Edit.{inserted, insert_error, removed, char_range_error, char_index_error, append_error};
 ghost use Rattle.ropey_c.specs.Handles.{text_at, breaks_at, HoldsRope};
@@ -12,8 +12,7 @@ use crate::macros::{allocated, edit, some_or, utf8_text};
 use crate::status::{
     CHAR_INDEX_OUT_OF_BOUNDS, NO_ROPE_HELD, NOT_A_CHARACTER, OK, status, status_of,
 };
-use rope_text::MAX_TEXT_BYTES;
-use ropey::{Error, Result, Rope};
+use ropey::Rope;
 use std::alloc::Global;
 
 fn insert(rope: &mut Rope, char_idx: usize, text: &[u8]) -> u32
@@ -161,22 +160,6 @@ pub extern "C" fn ropey_split_off(
     edit!(rope, alloc, held => split_off(alloc, &mut held, char_idx, tail))
 }
 
-// Whether another rope can be appended to one, memory aside.
-fn may_append(rope: &Rope, other: &Rope) -> Result<()>
-    ensures ok { OnOk result
-        (append_error rope.now.breaks other.now.breaks rope.now.text other.now.text ≡ None) }
-    ensures err { IfErr result
-        (λ e. append_error rope.now.breaks other.now.breaks rope.now.text other.now.text ≡ Some e) }
-{
-    if rope.line_breaks() != other.line_breaks() {
-        return Err(Error::LineBreaksDiffer);
-    }
-    if other.len_bytes() > MAX_TEXT_BYTES - rope.len_bytes() {
-        return Err(Error::TooLong);
-    }
-    Ok(())
-}
-
 /// Appends the text of `other`, and reuses the nodes of its tree off the seam. Afterwards `other`
 /// holds no rope, also after `OUT_OF_MEMORY`; every other error leaves it as it was. No text is
 /// scanned.
@@ -218,9 +201,9 @@ pub extern "C" fn ropey_append(alloc: Global, rope: &mut Handle, other: &mut Han
         rope.put(held);
         return NO_ROPE_HELD;
     };
-    let status = match may_append(&held, &end) {
-        Ok(()) => status(held.append(Box::into_inner(end))),
-        Err(error) => {
+    let status = match held.append_error(&end) {
+        None => status(held.append(Box::into_inner(end))),
+        Some(error) => {
             other.put(end);
             status_of(error)
         }

@@ -10,7 +10,7 @@ returns-in-Some c =
     c.index-2.result.now (Some c.in-Some.error) c.in-Some.error
     (omega (arith, c.args.ropes.now.ok.0)) c.index.ensures (omega (arith, c.args.ropes.now.ok.0))
     c.index-2.ensures
-    (sym c.in-Some.is ∙ c.join_error.ensures.error) refl
+    (sym c.in-Some.is ∙ c.append_error.ensures.error) refl
 
 pub returns-in-Ok : goal.returns-in-Ok
 returns-in-Ok c =
@@ -28,9 +28,9 @@ returns-in-Ok c =
     c.append.ensures.ok c.append.ensures.refused c.append.ensures.kept.0
     c.append.ensures.empty_other c.append.ensures.empty_self
     (subst IsRope (same_place old c.args.rope c.index.result.now rope at_rope c.index.ensures
-    c.index_mut.ensures.value) c.join_error.ensures.rope)
+    c.index_mut.ensures.value) c.append_error.ensures.kept)
     (subst IsRope (same_place old c.args.other c.index-2.result.now clone at_other c.index-2.ensures
-    read) c.join_error.ensures.other)
+    read) c.append_error.ensures.other)
     c.append.ensures.kept.1 c.append.ensures.kept.2)
 
 pub returns-in-Err : goal.returns-in-Err
@@ -39,4 +39,4 @@ returns-in-Err c =
     c.index-2.result.now None OutOfMemory
     (omega (arith, c.args.ropes.now.ok.0)) c.index.ensures (omega (arith, c.args.ropes.now.ok.0))
     c.index-2.ensures
-    (sym c.in_default.is ∙ c.join_error.ensures.error) refl
+    (sym c.in_default.is ∙ c.append_error.ensures.error) refl
