@@ -1,6 +1,6 @@
 //! Texts read to the reader's end.
-ghost use Rattle.std.specs.Prelude.{◌≡◌, ◌+◌, ◌-◌, ◌^◌, ◌<◌, ◌≤◌, ◌/◌, ◌++◌, false, [], length, take, None, IsOk, OnOk, IfOk, IfErr};
-ghost use Rattle.std.specs.Str.{IsUtf8, chars, encode_utf8_all};
+ghost use Rattle.std.specs.Prelude.{◌≡◌, ◌+◌, ◌-◌, ◌^◌, ◌<◌, ◌≤◌, ◌/◌, ◌++◌, false, [], length, take, OnOk, IfOk, IfErr};
+ghost use Rattle.std.specs.Str.{IsUtf8, encode_utf8_all};
 ghost use Rattle.rope_text.specs.declared.TheConstants.{MIN_CUT_BYTES};
 ghost use Rattle.rope_text.specs.Text.{byte_len};
 ghost use Rattle.rope_text.specs.Edit.{size_error, IsRefusal};
@@ -11,31 +11,9 @@ ghost use Rattle.rope_io.specs.Reading.{Reads};
 
 use crate::device::Source;
 use crate::error::{ReadError, ReadResult};
-use rope_text::{BUFFER_BYTES, Error, LineBreaks, MAX_TEXT_BYTES, Result, utf8};
+use rope_text::{BUFFER_BYTES, LineBreaks, Result, utf8};
 use rope_tree::{Builder, Maker, Node};
 use std::alloc::Global;
-
-/// Appends a text to those passed in before. Takes no memory for an empty text.
-///
-/// # Errors
-///
-/// First `TooLong`, if all texts would have more than `isize::MAX` bytes; then `OutOfMemory`.
-pub fn append(builder: &mut Builder, text: &str) -> Result<()>
-    ensures ok { OnOk result ((size_error (byte_len builder.old.text + length text.now) ≡ None)
-        × (builder.new.text ≡ builder.old.text ++ chars text.now)) }
-    ensures text { OnOk result
-        (encode_utf8_all builder.new.text ≡ encode_utf8_all builder.old.text ++ text.now) }
-    ensures empty { length text.now ≡ 0 → IsOk result }
-    ensures fits { OnOk result (byte_len builder.new.text < 2 ^ 63) }
-    ensures breaks { builder.new.breaks ≡ builder.old.breaks }
-    ensures refused { IfErr result
-        (IsRefusal (size_error (byte_len builder.old.text + length text.now))) }
-{
-    if text.len() > MAX_TEXT_BYTES - builder.len_bytes() {
-        return Err(Error::TooLong);
-    }
-    Ok(builder.append(text)?)
-}
 
 // Moves the text at the front of the first `filled` bytes to the builder, and the rest to the
 // front. Returns the number of bytes of the rest.
@@ -52,7 +30,7 @@ fn settle(builder: &mut Builder, buffer: &mut [u8], filled: usize) -> Result<usi
 {
     let text = utf8::front(&buffer[..filled]);
     let decoded = text.len();
-    append(builder, text)?;
+    builder.try_append(text)?;
     buffer.copy_within(decoded..filled, 0);
     Ok(filled - decoded)
 }

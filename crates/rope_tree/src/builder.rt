@@ -1,9 +1,10 @@
 //! Trees of texts that are passed in one after another.
-ghost use Rattle.std.specs.Prelude.{◌≡◌, ◌+◌, ◌-◌, ◌*◌, ◌/◌, ◌<◌, ◌≤◌, ◌^◌, ◌++◌, [], false, length, drop, IsOk, IfOk, IfSome, IfNone, OnOk, OnErr};
-ghost use Rattle.std.specs.Str.{chars, IsCharBoundary};
+ghost use Rattle.std.specs.Prelude.{◌≡◌, ◌+◌, ◌-◌, ◌*◌, ◌/◌, ◌<◌, ◌≤◌, ◌^◌, ◌++◌, [], false, length, drop, None, IsOk, IfOk, IfErr, IfSome, IfNone, OnOk, OnErr};
+ghost use Rattle.std.specs.Str.{chars, encode_utf8_all, IsCharBoundary};
 ghost use Rattle.rope_text.specs.declared.TheConstants.{MAX_BYTES, MIN_CUT_BYTES};
 ghost use Rattle.rope_text.specs.Text.{byte_len};
 ghost use Rattle.rope_text.specs.Cutting.{parts_crlf};
+ghost use Rattle.rope_text.specs.Edit.{size_error, IsRefusal};
 ghost use Rattle.rope_tree.specs.Tree.{text, joined, leaf_tree, leaves_of, IsTree};
 ghost use Rattle.rope_tree.specs.Fronts.{AreFrontNodes};
 
@@ -11,7 +12,7 @@ use crate::build::root_over;
 use crate::node_text::{first_leaf_len, text_of_parts};
 use crate::{Made, Maker, Node, NodeText, leaf_of};
 use rope_text::crlf::{prev_break, seam_is_break};
-use rope_text::{LineBreaks, MAX_BYTES, MIN_CUT_BYTES};
+use rope_text::{Error, LineBreaks, MAX_BYTES, MAX_TEXT_BYTES, MIN_CUT_BYTES, Result};
 use std::alloc::{AllocError, Global};
 use std::marker::Model;
 
@@ -210,6 +211,29 @@ impl Builder {
         }
         self.bytes += text.len();
         Ok(())
+    }
+
+    /// Appends a text of any length. An empty text allocates nothing.
+    ///
+    /// # Errors
+    ///
+    /// First `TooLong`, if all texts would have more than `isize::MAX` bytes; then `OutOfMemory`,
+    /// as for [`append`](Builder::append).
+    pub fn try_append(&mut self, text: &str) -> Result<()>
+        ensures ok { OnOk result ((size_error (byte_len self.old.text + length text.now) ≡ None)
+            × (self.new.text ≡ self.old.text ++ chars text.now)) }
+        ensures text { OnOk result
+            (encode_utf8_all self.new.text ≡ encode_utf8_all self.old.text ++ text.now) }
+        ensures empty { length text.now ≡ 0 → IsOk result }
+        ensures fits { OnOk result (byte_len self.new.text < 2 ^ 63) }
+        ensures breaks { self.new.breaks ≡ self.old.breaks }
+        ensures refused { IfErr result
+            (IsRefusal (size_error (byte_len self.old.text + length text.now))) }
+    {
+        if text.len() > MAX_TEXT_BYTES - self.len_bytes() {
+            return Err(Error::TooLong);
+        }
+        Ok(self.append(text)?)
     }
 
     /// Returns the tree of the texts passed in, with at most one leaf for each 981 bytes and one

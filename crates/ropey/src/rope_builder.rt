@@ -9,7 +9,6 @@ ghost use Rattle.ropey.specs.Building.{text_error};
 ghost use Rattle.ropey.specs.View.{IsBuilt};
 
 use crate::rope::Rope;
-use rope_io::reading::append;
 use rope_text::{Error, LineBreaks, Result};
 use rope_tree::{Builder, Maker};
 use std::alloc::Global;
@@ -84,7 +83,7 @@ impl RopeBuilder {
         if let Some(error) = self.failed {
             return Err(error);
         }
-        let appended = append(&mut self.builder, text);
+        let appended = self.builder.try_append(text);
         self.failed = appended.err();
         appended
     }

@@ -18,10 +18,10 @@ returns-clause-rest c =
     )) c.requires
     ∙ ap (λ n. drop n held) decoded)
 
-pub returns-in_err-append-clause-refused : goal.returns-in_err-append-clause-refused
-returns-in_err-append-clause-refused c =
+pub returns-in_err-try_append-clause-refused : goal.returns-in_err-try_append-clause-refused
+returns-in_err-try_append-clause-refused c =
     rw (sym c.front-text.ensures)
-    (grind (arith, c.from_residual.ensures, c.in_err-append.ensures.refused))
+    (grind (arith, c.from_residual.ensures, c.in_err-try_append.ensures.refused))
 
 pub returns-clause-text : goal.returns-clause-text
-returns-clause-text c = rw (sym c.front-text.ensures) c.in_ok-append.ensures.text
+returns-clause-text c = rw (sym c.front-text.ensures) c.in_ok-try_append.ensures.text
