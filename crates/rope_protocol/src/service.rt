@@ -58,7 +58,8 @@ pub fn serve<R: Read, W: Write>(alloc: Global, reader: &mut R, writer: &mut W) -
         → WritesReplies (W.contents writer.old) (W.contents writer.new) }
 {
     let mut output = Output::new();
-    let ended = answer_lines(alloc, reader, writer, &mut output);
+    let mut service = Service::new(alloc);
+    let ended = service.answer_lines(reader, writer, &mut output);
     match output.flush(writer) {
         Ok(()) => ended,
         Err(_) => Ended::Failed,
@@ -77,62 +78,57 @@ fn end_of(fault: Fault, number: u64) -> Ended
     }
 }
 
-/// Replies to each line, up to the first fault.
-fn answer_lines<R: Read, W: Write>(
+/// A session, and the input that no command has read yet.
+#[derive(Drop)]
+struct Service {
     alloc: Global,
-    reader: &mut R,
-    writer: &mut W,
-    output: &mut Output,
-) -> Ended
-    ensures done { result ≡ Ended.Done → IsAtEnd (R.remaining reader.new) }
-    ensures put { result ≢ Ended.Failed
-        → (left : List Content)
-        × PutsRun [] left (W.contents writer.old) (W.contents writer.new)
-        output.old output.new }
-{
-    let mut session = Session::new(alloc);
-    let mut input = Input::new();
-    let mut line = Vec::new(alloc);
-    answer_with(
-        alloc,
-        &mut session,
-        &mut input,
-        &mut line,
-        reader,
-        writer,
-        output,
-    )
+    session: Session,
+    input: Input,
+    /// The line that is read or run.
+    line: Vec<u8>,
 }
 
-/// Replies to each line on this session. `line` is a buffer for one.
-fn answer_with<R: Read, W: Write>(
-    alloc: Global,
-    session: &mut Session,
-    input: &mut Input,
-    line: &mut Vec<u8>,
-    reader: &mut R,
-    writer: &mut W,
-    output: &mut Output,
-) -> Ended
-    ensures done { result ≡ Ended.Done → IsAtEnd (R.remaining reader.new) }
-    ensures put { result ≢ Ended.Failed → (left : List Content) × PutsRun session.old left
-        (W.contents writer.old) (W.contents writer.new) output.old output.new }
-{
-    for earlier in 0..u64::MAX {
-        match input.next_line(reader, line, writer, output) {
-            Ok(true) => {}
-            Ok(false) => return Ended::Done,
-            Err(fault) => return end_of(fault, earlier + 1),
-        }
-        if let Err(fault) = answer(alloc, session, line, writer, output) {
-            return end_of(fault, earlier + 1);
+impl Service {
+    /// Creates a service without ropes or input.
+    fn new(alloc: Global) -> Service
+        ensures { result.session ≡ [] }
+    {
+        Service {
+            alloc,
+            session: Session::new(alloc),
+            input: Input::new(),
+            line: Vec::new(alloc),
         }
     }
-    // No input reaches this. The bound shows that the loop ends.
-    match input.next_line(reader, line, writer, output) {
-        Ok(true) => Ended::BadLine(u64::MAX),
-        Ok(false) => Ended::Done,
-        Err(fault) => end_of(fault, u64::MAX),
+
+    /// Replies to each line, up to the first fault.
+    fn answer_lines<R: Read, W: Write>(
+        &mut self,
+        reader: &mut R,
+        writer: &mut W,
+        output: &mut Output,
+    ) -> Ended
+        ensures done { result ≡ Ended.Done → IsAtEnd (R.remaining reader.new) }
+        ensures put { result ≢ Ended.Failed
+            → (left : List Content) × PutsRun self.old.session left (W.contents writer.old)
+            (W.contents writer.new) output.old output.new }
+    {
+        for earlier in 0..u64::MAX {
+            match self.input.next_line(reader, &mut self.line, writer, output) {
+                Ok(true) => {}
+                Ok(false) => return Ended::Done,
+                Err(fault) => return end_of(fault, earlier + 1),
+            }
+            if let Err(fault) = answer(self.alloc, &mut self.session, &self.line, writer, output) {
+                return end_of(fault, earlier + 1);
+            }
+        }
+        // No input reaches this. The bound shows that the loop ends.
+        match self.input.next_line(reader, &mut self.line, writer, output) {
+            Ok(true) => Ended::BadLine(u64::MAX),
+            Ok(false) => Ended::Done,
+            Err(fault) => end_of(fault, u64::MAX),
+        }
     }
 }
 
