@@ -1,4 +1,6 @@
+pub mod Pointers
 pub mod Words
 pub mod Counts
 pub mod Blocks
 pub mod Crossing
+pub mod LocalWords

@@ -1,6 +1,7 @@
 //! Owners of values on the heap: the only one, and one of several in any threads.
 #![tactic(auto)]
 
+pub mod local;
 mod shared;
 mod sole;
 
