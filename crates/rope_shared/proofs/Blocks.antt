@@ -1,4 +1,4 @@
--- A block in a box, and the block of an `Arc` that has one owner. Assumes `Logic`.
+-- A block in a box, as the block of an `Arc` that has one owner. Assumes `Logic`.
 use Rattle.std.proofs.Common.{◌≡◌, ℕ, ◌+◌, ◌^◌, lit<, List, [], ◌∷◌, ◌++◌, refl, ap, ◌∙◌, subst}
 use seplogic.Ra.Ura.{Ura}
 use lib.Dec.{T}
@@ -37,19 +37,7 @@ use Rattle.std.specs.contracts.impls.GlobalAllocator.TheImpl.{ghosts}
 use Rattle.rope_shared.specs.Owning.{sole_memory, frees_block, value_of}
 use Rattle.rope_shared.specs.contracts.sole.Inner as inner
 use Rattle.rope_shared.proofs.Words.{Z}
-
--- the allocator is one value, and owns nothing
-module _ {M : Type 1} {𝓤 : Ura M} (𝓛 : Logic 𝓤) (h : Z.Denot) where
-  pub handle_made : ent 𝓤 (emp 𝓤) (sem 𝓛 (Z.own_val h (heap_val ∷ [])))
-  handle_made = makes_shadow 𝓛 (Z.own_val h (heap_val ∷ []))
-      (λ vss. (tt, ((λ uss. (tt, (tt, tt))), tt)))
-      ((vstruct (vcons vunit vnil) ∷ [], tt), (refl, (((vunit ∷ [], tt), (refl, (refl, tt))), tt)))
-
-module _ {M : Type 1} {𝓤 : Ura M} {𝓛 : Logic 𝓤} {K : Type 0} {Γ : List (Item 𝓤)} {G : Goal 𝓤 𝓛.H}
-  where
-    pub handle_is : K → (h : Z.Denot) (vs : List Val) → (vs ≡ heap_val ∷ [] → Seq K 𝓛 Γ G)
-        → Seq K 𝓛 (‵ (Z.own_val h vs) ∷ Γ) G
-    handle_is t h vs k = peeks t Z (Is Z) (shows 𝓛 Z) h vs (λ is. drop t $ k (heap_Tells h vs is))
+use Rattle.rope_shared.proofs.Boxes.{Good, handle_made, handle_is, heap_Good, value_is}
 
 module _ (X : RattleType) where
   abbrev R : RattleType
@@ -63,22 +51,6 @@ module _ (X : RattleType) where
 
   abbrev pub inner_val : Val → Val
   inner_val v = vstruct (vcons (vint w64 1) (vcons heap_val (vcons v vnil)))
-
-  abbrev pub Good : Val → Type 0
-  Good v = T (has_ty (lone R.mir) v) × WT v
-
-module _ (X : RattleType) (L : Laws X) {M : Type 1} {𝓤 : Ura M} {𝓛 : Logic 𝓤} {K : Type 0} {Γ : List
-    (Item 𝓤)} {G : Goal 𝓤 𝓛.H} where
-  -- what is owned of a value is one machine value, of its type
-  value_is : K → (x : X.Denot) (vs : List Val) → ((v : Val) → vs ≡ v ∷ [] → Good X v
-      → Seq K 𝓛 (‵ ((R X).own_val x (v ∷ [])) ∷ Γ) G) → Seq K 𝓛 (‵ ((R X).own_val x vs) ∷ Γ) G
-  value_is t x vs k = handle_tells (record {
-    row = X;
-    laws = L;
-    g = record { dealloc_token = λ a σ p. ftrue };
-    d = impl [] tnil dnil;
-    drops = impl [] tnil dnil;
-  }) t x vs k
 
 module _ (X : RattleType) (L : Laws X) {M : Type 1} {𝓤 : Ura M} (𝓛 : Logic 𝓤) (b o : ℕ) where
   open 𝓛 use {H}
@@ -153,69 +125,6 @@ module _ (X : RattleType) (L : Laws X) {M : Type 1} {𝓤 : Ura M} (𝓛 : Logic
       rewrite ! 0 (λ (w : Val). ‵ (fat full_share (ty_struct ν (fields X)) b o w)) (ap only whole ∙
       (λ i. vstruct (of_list ((first ∙ ap (λ (n : ℕ). vint w64 n ∷ []) one) i ++ (second i ++ (third
       i ++ [])))))) refl $ by ! (cells h d.value v))))))))
-
--- a box of a block: the machine value of its two fields
-abbrev pub pair : Ptr → Val
-pair p = vstruct (vcons (ptr_val p) (vcons heap_val vnil))
-
-abbrev pub pair_ty : Sym → Ty
-pair_ty μ = ty_struct μ (tcons ty_ptr (tcons (lone Z.mir) tnil))
-
-pub heap_Good : T (has_ty (lone Z.mir) heap_val) × WT heap_val
-heap_Good = (tt, ((tt, tt), tt))
-
-pub pair_Good : (μ : Sym) (p : Ptr) → T (has_ty (pair_ty μ) (pair p)) × WT (pair p)
-pair_Good μ p = as_fields (ty_ptr ∷ lone Z.mir ∷ []) (ptr_val p ∷ heap_val ∷ []) (
-  Ptr-Good p,
-  (heap_Good, tt),
-)
-
-module _ (X : RattleType) where
-  abbrev pub Boxes : RattleType
-  Boxes = box.the_row (Inner X) Z ghosts
-
-module _ (X : RattleType) {M : Type 1} {𝓤 : Ura M} {𝓛 : Logic 𝓤} {K : Type 0} {Γ : List (Item 𝓤)} {G
-    : Goal 𝓤 𝓛.H} where
-  pub box_out : K → (d : (Boxes X).Denot) (vs : List Val)
-      → ((b o : ℕ) → vs ≡ pair (block_ptr b o) ∷ []
-      → Seq K 𝓛 (‵ (box_owns (ghosts.dealloc_token d.alloc) (Inner X) (block_ptr b o) d.value) ∷ Γ)
-      G)
-      → Seq K 𝓛 (‵ ((Boxes X).own_val d vs) ∷ Γ) G
-  box_out t d vs k =
-      fsplit t $ fpick t (λ vss. fsplit t $ feq_l t (λ whole. fsplit t $
-      feq_l t (λ first. fsplit t $
-      handle_is t d.alloc vss.1.0 (λ second. drop t $
-      in_a_block t d.ptr (λ p. box_owns (ghosts.dealloc_token d.alloc) (Inner X) p d.value)
-      (fst∗ 𝓤 (never 𝓤) (sem 𝓛 (ghosts.dealloc_token d.alloc (bare (lone (Inner X).mir)) null_ptr)))
-      (λ b o is.
-      k b o (subst (λ (p : Ptr). vs ≡ pair p ∷ []) is
-      (whole ∙ (λ i. vstruct (of_list (first i ++ (second i ++ []))) ∷ []))))))))
-
-  pub box_in : K → (b o : ℕ) (h : Z.Denot) (x : (Inner X).Denot)
-      → Step K 𝓛 (‵ ((Boxes X).own_val (record { ptr = block_ptr b o; alloc = h; value = x }) (pair
-      (block_ptr b o) ∷ [])) ∷ Γ) G
-      (‵ (box_owns (ghosts.dealloc_token h) (Inner X) (block_ptr b o) x) ∷ Γ) G
-  box_in t b o h x = step (λ s. let p : Ptr = block_ptr b o in
-      nothing t $ use0 𝓛 (‵ (Z.own_val h (heap_val ∷ []))) (handle_made 𝓛 h) $ fjoin t $
-      feq_i t (List Val) (ptr_val p ∷ []) (ptr_val p ∷ []) refl $ fjoin t $
-      feq_i t (List Val) (pair p ∷ []) (pair p ∷ []) refl $ fjoin t $
-      fpack t (Valss (RawPtr ∷ Z ∷ [])) (within (owning.shape (box.the_type (Inner X) Z ghosts)) (
-        p,
-        (h, tt),
-      ) (pair p ∷ []))
-      (ptr_val p ∷ [], (heap_val ∷ [], tt)) $ fjoin t $ s)
-
--- a struct of a pointer and the allocator, read as another one
-module _ {M : Type 1} {𝓤 : Ura M} {𝓛 : Logic 𝓤} {K : Type 0} {Γ : List (Item 𝓤)} {G : Goal 𝓤 𝓛.H}
-  where
-    pub pair_renamed : K → (ν μ : Sym) (b o : ℕ) (v : Val)
-        → Step K 𝓛 (‵ (fat full_share (pair_ty μ) b o v) ∷ Γ) G
-        (‵ (fat full_share (pair_ty ν) b o v) ∷ Γ) G
-    pair_renamed t ν μ b o v = step (λ s.
-        use1 𝓛 (‵ (fat full_share (bare (pair_ty ν)) b o v))
-        (𝓛.laws.at_raw full_share (pair_ty ν) b o v) $
-        use1 𝓛 (‵ (fat full_share (pair_ty μ) b o v)) (𝓛.laws.raw_at full_share (pair_ty μ) b o v) $
-        s)
 
 pub inner_Good : (X : RattleType) (μ : Sym) (v : Val) → Good X v
     → T (has_ty (ty_struct μ (fields X)) (inner_val X v)) × WT (inner_val X v)

@@ -4,10 +4,12 @@ use seplogic.Ra.Ura.{Ura}
 use mir.Syntax.{Sym}
 use mir.Val.{Val}
 use base.Logic.{ent, ex_i}
+use base.Fml.{ftrue}
 use types.Logic.{Logic, sem}
-use types.Kit.{Item, Goal, Seq, Step, step, ‵, ◌$◌, fsplit, fjoin}
+use types.Kit.{Item, Goal, Seq, Step, step, ‵, ◌$◌, ◌∵◌, !, qed, move, drop, fsplit, fsplit3, fjoin, fjoin3, fpack, done}
+use denote.Steps.{nothing}
 use denote.RattleType.{RattleType}
-use denote.RawPtr.{Ptr}
+use denote.RawPtr.{Ptr, InBlock}
 use Rattle.std.proofs.RcSteps.{word}
 use Rattle.std.specs.Rc.Ownership.{rc_owns, sole_owns, counted_owns}
 use Rattle.std.specs.contracts.rc.Rc as rc
@@ -62,3 +64,16 @@ module _ (R : RattleType) {M : Type 1} {𝓤 : Ura M} (𝓛 : Logic 𝓤) (p : P
       ghosts.dealloc_token R p x))
   of_counted = ex_i 𝓤 (λ (y : Bool). sem 𝓛 (either_owner (sole_owns Z ghosts.dealloc_token R p x)
       (counted_owns Z ghosts.dealloc_token R p x) y)) false
+
+module _ (R : RattleType) {M : Type 1} {𝓤 : Ura M} (𝓛 : Logic 𝓤) (p : Ptr) (x : R.Denot) where
+  pub sole_memory_of : InBlock p → ent 𝓤 (sem 𝓛 (sole_owns Z ghosts.dealloc_token R p x)) (sem 𝓛
+      (sole_memory R p x))
+  sole_memory_of inb = qed 𝓛 (‵ (sole_owns Z ghosts.dealloc_token R p x) ∷ []) ∵ fsplit3 ! $
+      move ! (2 ∷ []) $ fsplit ! $ move ! (2 ∷ 3 ∷ []) $ fjoin ! $ move ! (1 ∷ 0 ∷ 2 ∷ []) $ fjoin3
+      ! $ nothing ! $ fpack ! (InBlock p) (λ _. ftrue) inb $ fjoin ! $ done !
+
+  pub of_sole_memory : ent 𝓤 (sem 𝓛 (sole_memory R p x)) (sem 𝓛 (sole_owns Z ghosts.dealloc_token R
+      p x))
+  of_sole_memory = qed 𝓛 (‵ (sole_memory R p x) ∷ []) ∵ fsplit ! $ drop ! $ fsplit3 ! $
+      move ! (0 ∷ 2 ∷ []) $ fjoin ! $ move ! (1 ∷ []) $ fsplit ! $ move ! (0 ∷ 1 ∷ 2 ∷ []) $
+      fjoin3 ! $ done !
