@@ -6,3 +6,4 @@ pub mod Blocks
 pub mod Crossing
 pub mod LocalWords
 pub mod LocalBlocks
+pub mod LocalCounts

@@ -51,7 +51,7 @@ impl Drop for Tracked<'_> {
 }
 
 /// A tree whose nodes several trees share.
-#[cycle(tree)]
+#[cycle(local_tree)]
 #[derive(Drop)]
 enum Node {
     Empty,
@@ -60,7 +60,7 @@ enum Node {
     Own(Sole<List>),
 }
 
-#[cycle(tree)]
+#[cycle(local_tree)]
 #[derive(Drop)]
 struct List {
     nodes: [Node; 3],
