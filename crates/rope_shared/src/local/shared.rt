@@ -1,7 +1,7 @@
 //! One of several owners of a value, in one thread.
 ghost use Rattle.std.specs.Prelude.{◌≡◌, ◌<◌, IfOk, IfErr, IfSome, MatchResult};
 ghost use Rattle.std.specs.Borrow.{sem};
-ghost use Rattle.rope_shared.specs.Local.Shared.{shared_value, LendsValue};
+ghost use Rattle.rope_shared.specs.Local.Shared.{shared_value, LendsValue, HoldsValue};
 
 use super::sole::Sole;
 use std::alloc::{AllocError, AllocFailed, Global};
@@ -75,6 +75,19 @@ impl<T: Drop> Shared<T> {
     {
         let rc = self.rc.clone()?;
         Ok(Shared { rc })
+    }
+}
+
+impl<T: Drop> Shared<T> {
+    /// Makes this the first owner of another value, and returns a mutable borrow of that value.
+    pub fn reset(&mut self, sole: Sole<T>) -> &mut T
+        ensures* writes_back { sem 𝓛 (HoldsValue T.row self.entry sole result) }
+        ensures value { result.now ≡ sole.value }
+    {
+        let mut old = None;
+        let value = Sole::put(&mut self.rc, sole, &mut old);
+        drop(old);
+        value
     }
 }
 

@@ -1,11 +1,13 @@
 // A mutable borrow of the value. Its contract cites `specs/Local/Sole.antt`, which the struct's own file
 // can't import.
-ghost use Rattle.std.specs.Prelude.{◌≡◌};
-ghost use Rattle.rope_shared.specs.Local.Sole.{sole_follows};
+ghost use Rattle.std.specs.Prelude.{◌≡◌, IfSome, IsNone};
+ghost use Rattle.rope_shared.specs.Local.Sole.{sole_follows, rc_holds};
 ghost use types.Logic.{sem};
 
-use super::Sole;
+use super::{Sole, Word};
+use std::alloc::Global;
 use std::ops::DerefMut;
+use std::rc::Rc;
 
 impl<T> Sole<T> {
     /// Returns a mutable borrow of the value.
@@ -25,5 +27,27 @@ impl<T> DerefMut for Sole<T> {
         ensures value { result.now ≡ self.old.value }
     {
         self.as_mut()
+    }
+}
+
+impl<T> Sole<T> {
+    // Puts the block into the place of an `Rc`, which moves to `old`. Returns the value.
+    pub(crate) fn put<'a>(
+        place: &'a mut Rc<T, Global>,
+        sole: Sole<T>,
+        old: &mut Option<Rc<T, Global>>,
+    ) -> &'a mut T
+        requires { IsNone old.old }
+        ensures* writes_back { sem 𝓛 (rc_holds T.row sole place.entry result) }
+        ensures moved { IfSome old.new (λ rc. rc.value ≡ place.old.value) }
+        ensures value { result.now ≡ sole.value }
+    {
+        let Sole { ptr } = sole;
+        let word = Word { ptr: ptr.cast() };
+        unsafe {
+            (&raw mut *old).write(Some((&raw const *place).read()));
+            (&raw mut *place).write((&raw const word).cast::<Rc<T, Global>>().read());
+            &mut (*ptr).value
+        }
     }
 }
