@@ -1,12 +1,12 @@
 -- A block in a box, as the block of an `Arc` that has one owner. Assumes `Logic`.
-use Rattle.std.proofs.Common.{◌≡◌, ℕ, ◌+◌, ◌^◌, lit<, List, [], ◌∷◌, ◌++◌, refl, ap, ◌∙◌, subst}
+use Rattle.std.proofs.Common.{◌≡◌, ℕ, ◌+◌, ◌^◌, lit<, List, [], ◌∷◌, ◌++◌, refl, ap, ◌∙◌}
 use seplogic.Ra.Ura.{Ura}
 use lib.Dec.{T}
-use mir.Syntax.{Ty, Tys, Sym, impl, dnil, w64, ty_int, ty_ptr, ty_struct, tcons, tnil}
-use mir.Val.{Val, Vals, vint, vunit, vstruct, vcons, vnil, of_list, has_ty, WT}
+use mir.Syntax.{Tys, Sym, w64, ty_int, ty_struct, tcons, tnil}
+use mir.Val.{Val, Vals, vint, vstruct, vcons, vnil, of_list, has_ty, WT}
 use mir.Raw.{raw as bare}
 use base.Fraction.{full_share}
-use base.Logic.{SProp, ent, sep, emp, all, wand, via, mono_r, apply∗, never, fst∗}
+use base.Logic.{SProp, ent, sep, all, wand, via, mono_r, apply∗}
 use base.Fml.{Fml, ftrue, fsep, fat, froom}
 use contract.Monad.{conj_r}
 use prog.Model.{fields_at, rooms_at}
@@ -14,21 +14,15 @@ use types.Logic.{Logic, sem}
 use types.Kit.{Item, Goal, Seq, Step, step, ‵, raw, ◌⊛◌, some, ◌$◌, ◌∵◌, !, qed, by, move, drop, use0, use1, use2, pick, group, split, split3, assume, fsplit, fsplit3, fjoin, fjoin3, fpick, fpack, feq_i, feq_l, flt_i, flt_l, rewrite, done}
 use borrow.Table.OneValue.{part_in, part_out}
 use denote.RattleType.{RattleType, Valss}
-use denote.Laws.{Is, shows}
 use denote.Memory.{lone, part_at}
 use denote.Param.{param}
 use denote.Param.Laws.{Laws}
-use denote.Builtin.{RawPtr, u64}
-use denote.RawPtr.{Ptr, InBlock, block_ptr, null_ptr, ptr_val, in_a_block, lies_at}
-use denote.Struct.Owning as owning
-use Rattle.std.proofs.RcSteps.{Ptr-Good}
-use Rattle.std.specs.contracts.boxed.Box as box
-use denote.Shadow.{makes_shadow}
-use denote.Steps.{nothing, only, peeks}
+use denote.Builtin.{u64}
+use denote.RawPtr.{Ptr, InBlock, block_ptr, lies_at}
+use denote.Steps.{nothing, only}
 use denote.Struct.Struct.{within, as_fields}
 use denote.Struct.Declared.{shape}
-use Rattle.std.proofs.alloc.Calls.{handle_tells}
-use Rattle.std.proofs.Handle.{heap_val, heap_Tells}
+use Rattle.std.proofs.Handle.{heap_val}
 use Rattle.std.proofs.RawLayout.{as_raw, as_written}
 use Rattle.std.specs.Box.Ownership.{box_owns}
 use Rattle.std.specs.Thread.Scope.{word_at}

@@ -49,7 +49,8 @@ module _ (X : RattleType) (L : Laws X) {M : Type 1} {𝓤 : Ura M} {𝓛 : Logic
     (Item 𝓤)} {G : Goal 𝓤 𝓛.H} where
   -- what is owned of a value is one machine value, of its type
   pub value_is : K → (x : X.Denot) (vs : List Val) → ((v : Val) → vs ≡ v ∷ [] → Good X v
-      → Seq K 𝓛 (‵ ((param 0 X).own_val x (v ∷ [])) ∷ Γ) G) → Seq K 𝓛 (‵ ((param 0 X).own_val x vs) ∷ Γ) G
+      → Seq K 𝓛 (‵ ((param 0 X).own_val x (v ∷ [])) ∷ Γ) G)
+      → Seq K 𝓛 (‵ ((param 0 X).own_val x vs) ∷ Γ) G
   value_is t x vs k = handle_tells (record {
     row = X;
     laws = L;

@@ -4,10 +4,9 @@ use seplogic.Ra.Ura.{Ura}
 use lib.Dec.{T}
 use mir.Syntax.{Tys, Sym, impl, dnil, w64, ty_int, ty_struct, tcons, tnil}
 use mir.Val.{Val, vint, vstruct, vcons, vnil, of_list, has_ty, WT}
-use mir.Raw.{raw as bare}
 use base.Fraction.{full_share}
 use base.Logic.{ent, sep}
-use base.Fml.{Fml, ftrue, fsep, fat, froom}
+use base.Fml.{Fml, fsep, fat, froom}
 use types.Logic.{Logic, sem}
 use types.Kit.{Item, Goal, Seq, Step, step, ‵, ◌⊛◌, some, ◌$◌, ◌∵◌, !, qed, move, drop, group, use0, use1, use2, pick, split, fsplit, fsplit3, fjoin, fpick, fpack, feq_i, feq_l, flt_i, flt_l, rewrite, done}
 use borrow.Table.OneValue.{part_in, part_out}
@@ -16,7 +15,7 @@ use denote.Memory.{lone, part_at}
 use denote.Param.{param}
 use denote.Param.Laws.{Laws}
 use denote.Builtin.{u64}
-use denote.RawPtr.{Ptr, block_ptr, lies_at}
+use denote.RawPtr.{block_ptr, lies_at}
 use denote.Steps.{nothing, only}
 use denote.Struct.Struct.{within, as_fields}
 use denote.Struct.Declared.{shape}
@@ -139,10 +138,13 @@ module _ (X : RattleType) (L : Laws X) {M : Type 1} {𝓤 : Ura M} {𝓛 : Logic
 pub inner_Good : (X : RattleType) (μ : Sym) (v : Val) → Good X v
     → T (has_ty (ty_struct μ (fields X)) (inner_val X v)) × WT (inner_val X v)
 inner_Good X μ v good = as_fields (ty_int w64 ∷ ty_int w64 ∷ lone Z.mir ∷ lone (R X).mir ∷ [])
-    (vint w64 1 ∷ vint w64 1 ∷ heap_val ∷ v ∷ []) ((tt, record { fits = lit< tt }), (
+    (vint w64 1 ∷ vint w64 1 ∷ heap_val ∷ v ∷ []) (
       (tt, record { fits = lit< tt }),
-      (heap_Good, (good, tt)),
-    ))
+      (
+        (tt, record { fits = lit< tt }),
+        (heap_Good, (good, tt)),
+      ),
+    )
 
 module _ (X : RattleType) {M : Type 1} {𝓤 : Ura M} (𝓛 : Logic 𝓤) (b o : ℕ) where
   pub rebuilt : (h : Z.Denot) (x : X.Denot) (v : Val)

@@ -1,9 +1,9 @@
 -- The counts of an `Rc`, read by one of its owners. Assumes `Logic`.
-use Rattle.std.proofs.Common.{◌≡◌, ℕ, ◌+◌, ◌^◌, ◌<◌, lit<, true, List, [], ◌∷◌, refl, sym, subst}
+use Rattle.std.proofs.Common.{◌≡◌, ℕ, ◌^◌, ◌<◌, lit<, true, List, [], ◌∷◌, refl, sym, subst}
 use mathlib.Core.List.{not-mem-nil}
 use seplogic.Ra.Ura.{Ura}
 use base.Mask.{every}
-use base.Fml.{Lft, Share, Incl, Incl-refl, flft, ftok}
+use base.Fml.{Fml, Lft, Share, Incl, Incl-refl, flft, ftok}
 use types.Logic.{Logic}
 use types.Kit.{Item, Goal, Seq, Soaks, Step, step, ‵, ◌⊛◌, later, ◌$◌, move, drop, group, split, split3, use1, use2, fjoin, fjoin3, fpack, flt_i, rewrite, await}
 use types.RcWeak.{part, part_in}
@@ -13,7 +13,7 @@ use denote.Param.{param}
 use denote.Param.Laws.{Laws, param_laws}
 use Rattle.std.proofs.RcSteps.{Id, cell, counted, handle, value, weaks, box, sees, Closes, rc-Settles, counted_had, opens_strong, shut, alone}
 use Rattle.std.proofs.alloc.Global.TheLaws as heap_laws
-use Rattle.std.specs.Rc.Ownership.{counter_at, rc_owns, sole_owns}
+use Rattle.std.specs.Rc.Ownership.{counter_at, rc_owns}
 use Rattle.std.specs.contracts.impls.GlobalAllocator.TheImpl.{ghosts}
 use Rattle.rope_shared.specs.Local.Owning.{sole_memory}
 use Rattle.rope_shared.proofs.Words.{Z}
@@ -21,7 +21,7 @@ use Rattle.rope_shared.proofs.LocalWords.{of_counted, sole_memory_of}
 use Rattle.rope_shared.proofs.LocalBlocks.{kit}
 
 module _ (X : RattleType) (L : Laws X) (c : Ptr) (x : X.Denot) where
-  abbrev pub Owner : base.Fml.Fml
+  abbrev pub Owner : Fml
   Owner = rc_owns Z ghosts.dealloc_token (param 0 X) c x
 
   -- all of an owner but the counts, which are n and m
@@ -38,8 +38,8 @@ module _ (X : RattleType) (L : Laws X) (c : Ptr) (x : X.Denot) {M : Type 1} {�
       → Seq K 𝓛 (‵ (Owner X L c x) ∷ ‵ (flft κ q) ∷ ‵ (ftok every) ∷ Γ) G
   counts_out t z κ q within k = let E = kit X L in
       use2 𝓛 (later (‵ (counted E c x) ⊛ ‵ (flft κ q))) (rc-Settles Z (param 0 X)
-      ghosts.dealloc_token heap_laws.the_row_laws (param_laws 0 X L) 𝓛 c x κ (λ _ m. absurd (not-mem-nil
-      m)) within κ
+      ghosts.dealloc_token heap_laws.the_row_laws (param_laws 0 X L) 𝓛 c x κ
+      (λ _ m. absurd (not-mem-nil m)) within κ
       q (Incl-refl κ)) $ await t z $ split t $
       counted_had E c x t (λ i. i.0) (λ a s one. move t (1 ∷ 0 ∷ 5 ∷ []) $
       opens_strong E c x a t z s (λ n m b o is small small' _ _.

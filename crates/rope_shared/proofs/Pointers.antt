@@ -39,8 +39,10 @@ module _ (ν : Sym) (Rs : List RattleType) where
     pointer_made t = step (λ s.
         nothing t $ feq_i t (List Val) (ptr_val p ∷ []) (ptr_val p ∷ []) refl $ fjoin t $
         feq_i t (List Val) (word p ∷ []) (word p ∷ []) refl $ fjoin t $
-        fpack t (Valss (RawPtr ∷ [])) (within one_pointer (p, tt) (word p ∷ [])) (ptr_val p ∷ [],
-        tt) $ s)
+        fpack t (Valss (RawPtr ∷ [])) (within one_pointer (p, tt) (word p ∷ [])) (
+          ptr_val p ∷ [],
+          tt,
+        ) $ s)
 
   module _ (p : Ptr) {M : Type 1} {𝓤 : Ura M} {𝓛 : Logic 𝓤} {K : Type 0} {Γ : List (Item 𝓤)}
       {G : Goal 𝓤 𝓛.H} where

@@ -1,5 +1,4 @@
 -- What the only owner of a value in one thread owns and lends, in the words of the kit's `Rc`.
-use Rattle.std.specs.Prelude.{◌+◌}
 use base.Fraction.{full_share}
 use base.Fml.{Lft, Fml, fsep}
 use denote.RattleType.{RattleType}

@@ -26,5 +26,6 @@ abbrev pub shared_of : {X : Type 0} → Sole X → X → Shared X
 shared_of s w = record { rc = rc_of s w }
 
 -- c ends as the first owner of the block of s, with the last value that r refers to
-abbrev pub HoldsValue : (R : RattleType) → MutBor (Shared R.Denot) → Sole R.Denot → MutBor R.Denot → Fml
+abbrev pub HoldsValue : (R : RattleType) → MutBor (Shared R.Denot) → Sole R.Denot → MutBor R.Denot
+    → Fml
 HoldsValue R c s r = Lends (the_row R) R c r (shared_of s)

@@ -23,7 +23,7 @@ sole_follows R s r = follows (the_row R) R s.ghost_name r.ghost_name (with_value
 abbrev pub rc_of : {X : Type 0} → Sole X → X → Rc X Global
 rc_of s w = record { ptr = s.ptr; value = w }
 
--- once the borrow r ends, the `Rc` that c refers to is that of s, with the last value written through
--- r
-abbrev pub rc_holds : (R : RattleType) → Sole R.Denot → MutBor (Rc R.Denot Global) → MutBor R.Denot → Fml
+-- once the borrow r ends, the `Rc` that c refers to is that of s, with the last value of r
+abbrev pub rc_holds : (R : RattleType) → Sole R.Denot → MutBor (Rc R.Denot Global) → MutBor R.Denot
+    → Fml
 rc_holds R s c r = follows (rc.the_row R heap.the_row ghosts) R c.ghost_name r.ghost_name (rc_of s)

@@ -79,15 +79,12 @@ impl<T: Drop> Shared<T> {
 }
 
 impl<T: Drop> Shared<T> {
-    /// Makes this the first owner of another value, and returns a mutable borrow of that value.
+    /// Makes this the first owner of the value of `sole`, and returns a mutable borrow of it.
     pub fn reset(&mut self, sole: Sole<T>) -> &mut T
         ensures* writes_back { sem 𝓛 (HoldsValue T.row self.entry sole result) }
         ensures value { result.now ≡ sole.value }
     {
-        let mut old = None;
-        let value = Sole::put(&mut self.rc, sole, &mut old);
-        drop(old);
-        value
+        Sole::reset(&mut self.rc, sole)
     }
 }
 

@@ -45,8 +45,8 @@ impl<T> Model for Sole<T> {
 }
 
 impl<T> Sole<T> {
-    // The same block, as an `Rc`.
-    pub(crate) fn into_rc(self) -> Rc<T, Global>
+    /// Makes this the first owner of an `Rc`. Takes no memory, and moves nothing.
+    pub fn into_rc(self) -> Rc<T, Global>
         ensures { result.value ≡ self.value }
     {
         let Sole { ptr } = self;
@@ -54,8 +54,9 @@ impl<T> Sole<T> {
         unsafe { (&raw const word).cast::<Rc<T, Global>>().read() }
     }
 
-    // The block, if this is its only owner. Otherwise the `Rc` comes back.
-    pub(crate) fn claim(rc: Rc<T, Global>) -> Result<Sole<T>, Rc<T, Global>>
+    /// Returns the only owner, if the `Rc` is that and has no `Weak`, and the `Rc` otherwise. Moves
+    /// nothing.
+    pub fn claim(rc: Rc<T, Global>) -> Result<Sole<T>, Rc<T, Global>>
         ensures { MatchResult result (λ s. s.value ≡ rc.value) (λ c. c.value ≡ rc.value) }
     {
         let mut word = Word { ptr: null_mut() };

@@ -1,5 +1,5 @@
-// A mutable borrow of the value. Its contract cites `specs/Local/Sole.antt`, which the struct's own file
-// can't import.
+// Mutable borrows of the value. Their contracts cite `specs/Local/Sole.antt`, which the struct's
+// own file can't import.
 ghost use Rattle.std.specs.Prelude.{◌≡◌, IfSome, IsNone};
 ghost use Rattle.rope_shared.specs.Local.Sole.{sole_follows, rc_holds};
 ghost use types.Logic.{sem};
@@ -49,5 +49,18 @@ impl<T> Sole<T> {
             (&raw mut *place).write((&raw const word).cast::<Rc<T, Global>>().read());
             &mut (*ptr).value
         }
+    }
+}
+
+impl<T: Drop> Sole<T> {
+    /// Makes the `Rc` the first owner of the value of `sole`, and returns a mutable borrow of it.
+    pub fn reset(rc: &mut Rc<T, Global>, sole: Sole<T>) -> &mut T
+        ensures* writes_back { sem 𝓛 (rc_holds T.row sole rc.entry result) }
+        ensures value { result.now ≡ sole.value }
+    {
+        let mut old = None;
+        let value = Sole::put(rc, sole, &mut old);
+        drop(old);
+        value
     }
 }

@@ -1,8 +1,8 @@
 -- `claim` reads the counts. The only owner gets the block, and any other keeps its `Rc`.
-use Rattle.std.proofs.Common.{◌≡◌, ℕ, Bool, true, false, ◌&&◌, T as IsTrue, eqb, List, [], ◌∷◌, ◌++◌, refl, sym, ap, subst, lit<}
+use Rattle.std.proofs.Common.{◌≡◌, ℕ, Bool, true, false, ◌&&◌, T as IsTrue, eqb, List, [], ◌∷◌, ◌++◌, refl, sym, ap, subst}
 use lib.Dec.{eqb→eq}
 use seplogic.Ra.Ura.{Ura}
-use mir.Syntax.{Fn, Sym, a_type}
+use mir.Syntax.{Fn, a_type}
 use mir.MapTy.{inst_fn}
 use mir.Val.{Val, vcons, vnil}
 use base.Mask.{every}
@@ -13,7 +13,7 @@ use prog.Routine.{Routine}
 use prog.Wp.{Calls, Loops, Tables, WpFn}
 use sound.WpLaws.{WpFn-mono}
 use types.Logic.{Logic}
-use types.Kit.{⋆, ‵, raw, ◌⊛◌, at_ret, ◌$◌, ◌∵◌, !, qed, by, move, keep, split, join, fsplit, fjoin, suffices, use0, use1, rewrite}
+use types.Kit.{‵, raw, ◌⊛◌, at_ret, ◌$◌, ◌∵◌, !, qed, by, move, keep, split, join, fsplit, fjoin, suffices, use0, use1}
 use types.Run.{stop, fld, lit, load, from, addr, look, store, of_opd, bin, no_more, and_then, assigns_last, first, blocks, branches, skips, exec, returns, returns_within, enter}
 use types.ByLocal.{alloc_all, pass_all, free_all, look_at, get, get_in, through, take_at, give_at, sets, sets_last, is, env}
 use types.Part.{agg, sub, whole}
@@ -28,7 +28,7 @@ use denote.RattleType.{RattleType, owns}
 use denote.Signature.{types_at, plain}
 use denote.Param.{param, layouts}
 use denote.Param.Laws.{Laws}
-use denote.RawPtr.{Ptr, null_ptr, ptr_val}
+use denote.RawPtr.{null_ptr, ptr_val}
 use denote.Steps.{nothing, heard}
 use denote.Triple.Clauses.{Clauses, Ended, closing}
 use denote.Triple.Handed.{holding, hands}
@@ -38,13 +38,13 @@ use denote.Triple.Walked.{Stays, stay_dropped, walk_of, walk_Meets, Goes-dropped
 use Rattle.std.proofs.raw_atomic.Walks.{leaves}
 use Rattle.std.proofs.alloc.Shapes.{after}
 use Rattle.std.proofs.ResultValues.{ok_of, err_of}
-use Rattle.std.proofs.RcSteps.{Ptr-Good, cell, first_Good, some_Good, word, word_ty, word-Good}
+use Rattle.std.proofs.RcSteps.{Ptr-Good, first_Good, some_Good, word, word_ty, word-Good}
 use Rattle.std.specs.Prelude.{Ok, Err}
 use Rattle.std.specs.contracts.result.Result as RS
 use Rattle.rope_shared.specs.contracts.local.sole.Word as held
 use Rattle.rope_shared.proofs.Pointers.{renamed}
 use Rattle.rope_shared.proofs.LocalWords.{Soles, Rcs, sole_name, rc_name, rc_out, rc_in, sole_in}
-use Rattle.rope_shared.proofs.LocalCounts.{Held, counts_out, counts_back, counts_taken}
+use Rattle.rope_shared.proofs.LocalCounts.{counts_out, counts_back, counts_taken}
 use Rattle.rope_shared.specs.contracts.local.sole.Sole.claim as f
 use Rattle.rope_shared.specs.contracts.local.sole.Sole.claim.Key.{name as #self}
 use Rattle.rope_shared.proofs.local.sole.Sole.claim.Statement.{statement}
@@ -114,10 +114,14 @@ module _ (T : RattleType) (L : Laws T) {M : Type 1} {𝓤 : Ura M} (𝓛 : Logic
         sets ! (of_opd ! (get_in ! (fld ! refl (stop !)) (sub ! 0 refl (whole !)))) refl (Ptr-Good
         p) $
         sets ! (is ! (of_opd ! (get ! refl)) (ap ptr_val at)) refl (tt, tt) $ first ! $ blocks ! $
-        sets ! (of_opd ! (load ! (through ! refl (fld ! refl (stop !))) (look ! 0 refl))) refl (tt,
-        record { fits = small }) $ sets ! (bin ! (get ! refl) (lit ! tt) tt) refl (tt, tt) $
-        sets ! (of_opd ! (load ! (through ! refl (fld ! refl (stop !))) (look ! 1 refl))) refl (tt,
-        record { fits = small' }) $ sets ! (bin ! (get ! refl) (lit ! tt) tt) refl (tt, tt) $
+        sets ! (of_opd ! (load ! (through ! refl (fld ! refl (stop !))) (look ! 0 refl))) refl (
+          tt,
+          record { fits = small },
+        ) $ sets ! (bin ! (get ! refl) (lit ! tt) tt) refl (tt, tt) $
+        sets ! (of_opd ! (load ! (through ! refl (fld ! refl (stop !))) (look ! 1 refl))) refl (
+          tt,
+          record { fits = small' },
+        ) $ sets ! (bin ! (get ! refl) (lit ! tt) tt) refl (tt, tt) $
         sets_last ! (bin ! (get ! refl) (get ! refl) tt) refl (tt, tt) $
         exec ! C Λ Ev (rest 5) (at_ret Ev Post) $ sets ! (of_opd ! (get ! refl)) refl (tt, tt) $
         sets ! (of_opd ! (get ! refl)) refl (tt, tt) $ first ! $ branches ! (get ! refl)
@@ -156,8 +160,11 @@ module _ (T : RattleType) (L : Laws T) {M : Type 1} {𝓤 : Ura M} (𝓛 : Logic
 
   meets : (𝓣 : Tables 𝓤 H) → Meets 𝓛 (En T).signature (WpFn 𝓤 H 𝓣.C 𝓣.Λ (fn T)) (closing 𝓛 (En
       T) c)
-  meets 𝓣 = walk_Meets 𝓛 (En T) (hs T) (Goes-dropped 𝓛 1 (plain (λ _. Rcs (R T))) no (λ κs x f.
-      refl), tt) c (WpFn 𝓤 H 𝓣.C 𝓣.Λ (fn T)) (WpFn-mono 𝓤 H 𝓛.laws 𝓣 (fn T)) (λ z. walks 𝓣.C 𝓣.Λ z)
+  meets 𝓣 = walk_Meets 𝓛 (En T) (hs T) (
+    Goes-dropped 𝓛 1 (plain (λ _. Rcs (R T))) no (λ κs x f.
+        refl),
+    tt,
+  ) c (WpFn 𝓤 H 𝓣.C 𝓣.Λ (fn T)) (WpFn-mono 𝓤 H 𝓛.laws 𝓣 (fn T)) (λ z. walks 𝓣.C 𝓣.Λ z)
 
 pub claim_spec : {M : Type 1} → statement M
 unfolding tables_of code

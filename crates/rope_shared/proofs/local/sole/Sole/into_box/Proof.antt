@@ -1,6 +1,6 @@
 -- `into_box` reads the value and the allocator, writes the block anew, and reads its pointer as a
 -- box.
-use Rattle.std.proofs.Common.{◌≡◌, ◌+◌, List, [], ◌∷◌, ◌++◌, refl, sym, ap, subst}
+use Rattle.std.proofs.Common.{◌≡◌, List, [], ◌∷◌, ◌++◌, refl, sym, ap, subst}
 use mir.Syntax.{a_type}
 use mir.MapTy.{inst_fn}
 use mir.Val.{Val}
@@ -74,8 +74,8 @@ into_box_spec 𝓤 𝓛 𝓜 𝓡 wired T L =
     sets ! (of_opd ! (get ! refl)) refl good $
     sets ! (agg ! (and_then ! (lit ! tt) (and_then ! (lit ! tt) (and_then ! (get ! refl) (and_then !
     (get ! refl) (no_more !)))))) refl (inner_Good T ι v good) $
-    roomed T L b o ! x v $ assigns ! (of_opd ! (get ! refl)) (through ! refl (stop !)) (init ! 0 refl
-    (inner_Good T ι v good)) $
+    roomed T L b o ! x v $ assigns ! (of_opd ! (get ! refl)) (through ! refl (stop !)) (init ! 0
+    refl (inner_Good T ι v good)) $
     sets ! (agg ! (and_then ! (get ! refl) (and_then ! (get ! refl) (no_more !)))) refl (pair_Good ω
     p') $
     sets ! (addr ! (from ! (stop !))) refl (tt, tt) $
@@ -86,7 +86,8 @@ into_box_spec 𝓤 𝓛 𝓜 𝓡 wired T L =
     exec ! 𝓣.C 𝓣.Λ Ev (after 2 fn.body) (at_ret Ev Post) $
     sets ! (of_opd ! (get ! refl)) refl (pair_Good ν p') $
     -- [the block; the token of the allocator; the value; nothing; the token; nothing]
-    use3 𝓛 (‵ (box_owns (ghosts.dealloc_token h) (Inner T) p' (inner_one T h x))) (rebuilt T 𝓛 b o h x v) $
+    use3 𝓛 (‵ (box_owns (ghosts.dealloc_token h) (Inner T) p' (inner_one T h x)))
+    (rebuilt T 𝓛 b o h x v) $
     box_in (Inner T) ! b o h (inner_one T h x) $
     move ! (2 ∷ 3 ∷ []) $ join ! $ use0 𝓛 (raw (fact 𝓤 (x ≡ x))) (fact_i 𝓤 (x ≡ x) (emp 𝓤) refl) $
     nothing ! $ nothing ! $ fjoin ! $

@@ -66,8 +66,8 @@ into_rc_spec 𝓤 𝓛 𝓜 𝓡 wired T L =
     sets ! (of_opd ! (get ! refl)) refl (word-Good ν p) $
     -- [the owner; nothing; the token; nothing]
     fsplit ! $ drop ! $ fsplit3 ! $ move ! (0 ∷ 2 ∷ []) $ fjoin ! $ move ! (1 ∷ []) $ fsplit ! $
-    move ! (0 ∷ 1 ∷ 2 ∷ []) $ fjoin3 ! $ use1 𝓛 (‵ (rc_owns Z ghosts.dealloc_token R p x)) (of_sole R 𝓛 p
-    x) $ rc_in R ! p x $
+    move ! (0 ∷ 1 ∷ 2 ∷ []) $ fjoin3 ! $
+    use1 𝓛 (‵ (rc_owns Z ghosts.dealloc_token R p x)) (of_sole R 𝓛 p x) $ rc_in R ! p x $
     move ! (2 ∷ 3 ∷ []) $ join ! $ use0 𝓛 (raw (fact 𝓤 (x ≡ x))) (fact_i 𝓤 (x ≡ x) (emp 𝓤) refl) $
     nothing ! $ nothing ! $ fjoin ! $
     returns ! (look_at ! 0 refl) $ free_all ! refl $ keep ! (2 ∷ 0 ∷ 3 ∷ 1 ∷ []) $

@@ -110,8 +110,8 @@ put_spec 𝓤 𝓛 𝓜 𝓡 wired T L =
     sole_out R ! d vss.1.0 (λ e₁. fsplit ! $ fpick ! (λ inb. drop ! $ fsplit ! $
     move ! (2 ∷ []) $ fsplit ! $ fsplit3 ! $ feq_l ! (λ e₂.
     move ! (5 ∷ []) $ fsplit3 ! $ feq_l ! (λ e₀.
-    -- [the first place; the second; nothing; the value; the counts; the second token; the others; the
-    --  first token]
+    -- [the first place; the second; nothing; the value; the counts; the second token; the others;
+    --  the first token]
     suffices ! (Run ws) (subst (λ (us : List Val). ent 𝓤 (Run ws) (Run us)) (sym
     (λ i. e₀ i ++ (e₁ i ++ (e₂ i ++ [])))) (id⊢ 𝓤 (Run ws))) $
     enter ! 𝓣.C 𝓣.Λ fn ws Post $ alloc_all !
@@ -120,20 +120,21 @@ put_spec 𝓤 𝓛 𝓜 𝓡 wired T L =
     none_out Theirs ! to.now us₂ empty (λ none.
     rewrite ! 0 (λ (us : List Val). ‵ (cell_at full_share Old.mir us b₂ o₂)) none refl $
     move ! (4 ∷ 5 ∷ 10 ∷ []) $ opens ! tt Theirs b o (λ us. move ! (1 ∷ []) $
-    rc_out R ! was us (λ e. rewrite ! 1 (λ (us : List Val). ‵ (cell_at full_share Theirs.mir us b o))
-    e refl $
-    -- [the old owner; its cell and open borrow, in four entries; the same of the second place; nothing;
-    --  the value; the counts; the other tokens]
+    rc_out R ! was us (λ e.
+    rewrite ! 1 (λ (us : List Val). ‵ (cell_at full_share Theirs.mir us b o)) e refl $
+    -- [the old owner; its cell and open borrow, in four entries; the second place, in four entries;
+    --  nothing; the value; the counts; the other tokens]
     move ! (5 ∷ 1 ∷ []) $ use1 𝓛 (‵ (fat full_share τ₂ b₂ o₂ (live 0 vnil))) (𝓛.laws.raw_at
     full_share τ₂ b₂ o₂ (live 0 vnil)) $
     move ! (1 ∷ 0 ∷ []) $ use1 𝓛 (‵ (fat full_share τ b o w₀)) (𝓛.laws.raw_at full_share τ b o w₀) $
     sets ! (is ! (of_opd ! (get_in ! (fld ! refl (stop !)) (sub ! 0 refl (whole !)))) (ap ptr_val
     (at_block p inb))) refl (tt, tt) $
-    sets ! (is ! (agg ! (and_then ! (get ! refl) (no_more !))) (ap word (sym (at_block p inb)))) refl
-    (word-Good ω p) $
+    sets ! (is ! (agg ! (and_then ! (get ! refl) (no_more !))) (ap word (sym (at_block p inb))))
+    refl (word-Good ω p) $
     first ! $ blocks ! $ sets ! (addr ! (through ! refl (stop !))) refl (tt, tt) $
     sets ! (addr ! (through ! refl (stop !))) refl (tt, tt) $
-    sets ! (of_opd ! (load ! (through ! refl (stop !)) (look ! 0 refl))) refl (word-Good ν was.ptr) $
+    sets ! (of_opd ! (load ! (through ! refl (stop !)) (look ! 0 refl))) refl (word-Good ν
+    was.ptr) $
     sets ! (agg ! (and_then ! (lit ! tt) (and_then ! (get ! refl) (no_more !)))) refl good $
     assigns ! (of_opd ! (get ! refl)) (through ! refl (stop !)) (store ! 1 refl good) $
     sets ! (addr ! (through ! refl (stop !))) refl (tt, tt) $
@@ -151,8 +152,8 @@ put_spec 𝓤 𝓛 𝓜 𝓡 wired T L =
     move ! (2 ∷ []) $ rc_in R ! was.ptr was.value $
     use1 𝓛 (‵ (Old.own_val (Some was) (v₂ ∷ []))) (Some-of 𝓛 Theirs was w₀) $
     move ! (1 ∷ 0 ∷ 6 ∷ 7 ∷ 8 ∷ []) $ closes ! tt Old (Some was) (v₂ ∷ []) b₂ o₂ $
-    -- [the second place, in two entries; its token; the cell and the open borrow of the first; nothing;
-    --  the value; the counts; the other tokens]
+    -- [the second place, in two entries; its token; the cell and the open borrow of the first;
+    --  nothing; the value; the counts; the other tokens]
     move ! (9 ∷ 3 ∷ []) $ fjoin ! $ move ! (8 ∷ []) $
     rewrite ! 0 (λ (r : Ptr). ‵ (lies_at R full_share (r +ₚ value_offset Z R) x)) (at_block p inb)
     refl $ move ! (5 ∷ 6 ∷ 7 ∷ 0 ∷ 1 ∷ []) $ group ! 5 $
