@@ -1,6 +1,6 @@
 // Mutable borrows of the value. Their contracts cite `specs/Local/Sole.antt`, which the struct's
 // own file can't import.
-ghost use Rattle.std.specs.Prelude.{◌≡◌, IfSome, IsNone};
+ghost use Rattle.std.specs.Prelude.{◌≡◌, Some, IsNone};
 ghost use Rattle.rope_shared.specs.Local.Sole.{sole_follows, rc_holds};
 ghost use types.Logic.{sem};
 
@@ -39,7 +39,7 @@ impl<T> Sole<T> {
     ) -> &'a mut T
         requires { IsNone old.old }
         ensures* writes_back { sem 𝓛 (rc_holds T.row sole place.entry result) }
-        ensures moved { IfSome old.new (λ rc. rc.value ≡ place.old.value) }
+        ensures moved { old.new ≡ Some place.old }
         ensures value { result.now ≡ sole.value }
     {
         let Sole { ptr } = sole;

@@ -172,7 +172,7 @@ put_spec 𝓤 𝓛 𝓜 𝓡 wired T L =
     feq_i ! (List Val) vss.1.1.0 (vptr b₂ o₂ ∷ []) e₂ $ move ! (0 ∷ 4 ∷ 5 ∷ []) $ fjoin3 ! $
     move ! (0 ∷ 4 ∷ []) $ fjoin ! $ nothing ! $ fjoin ! $ nothing ! $ fjoin ! $
     use0 𝓛 (raw (fact 𝓤 (x ≡ x))) (fact_i 𝓤 (x ≡ x) (emp 𝓤) refl) $
-    use0 𝓛 (raw (fact 𝓤 (was.value ≡ was.value))) (fact_i 𝓤 (was.value ≡ was.value) (emp 𝓤) refl) $
+    use0 𝓛 (raw (fact 𝓤 (Some was ≡ Some was))) (fact_i 𝓤 (Some was ≡ Some was) (emp 𝓤) refl) $
     join ! $ move ! (4 ∷ 0 ∷ []) $ join ! $
     returns ! (look_at ! 0 refl) $ free_all ! refl $ keep ! (2 ∷ 1 ∷ 3 ∷ 0 ∷ []) $
     by ! (leaves 𝓛 En hs c z (vptr b' o') (record { ref_ptr = (b', o'); ghost_name = γ'; now = x })
