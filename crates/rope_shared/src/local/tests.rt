@@ -5,6 +5,7 @@ ghost use Rattle.rope_shared.specs.Local.Shared.{shared_value};
 use super::{Shared, Sole};
 use std::alloc::{AllocError, Global};
 use std::cell::Cell;
+use std::rc::Rc;
 use std::test::Fail;
 
 fn write(sole: &mut Sole<u64>, number: u64)
@@ -46,6 +47,21 @@ fn write_own(alloc: Global, shared: &mut Shared<u64>, number: u64) -> Result<(),
         Some(value) => *value = number,
         None => match Sole::new(alloc, 0) {
             Ok(sole) => *shared.reset(sole) = number,
+            Err(_) => return Err(AllocError),
+        },
+    }
+    Ok(())
+}
+
+/// Writes to the value of an `Rc`, or to a new one if it has other owners.
+fn write_rc(alloc: Global, rc: &mut Rc<u64, Global>, number: u64) -> Result<(), AllocError>
+    ensures written { IfOk result (λ _. rc.new.value ≡ number) }
+    ensures kept { IfErr result (λ _. rc.new ≡ rc.old) }
+{
+    match Rc::get_mut(rc) {
+        Some(value) => *value = number,
+        None => match Sole::new(alloc, 0) {
+            Ok(sole) => *Sole::reset(rc, sole) = number,
             Err(_) => return Err(AllocError),
         },
     }
@@ -276,5 +292,46 @@ fn an_owner_of_another_value_drops_the_old_one(rt: HostRuntime) -> Result<(), Fa
     assert_eq!(rt; drops.get(), 2);
     drop(first);
     assert_eq!(rt; drops.get(), 3);
+    Ok(())
+}
+
+#[test]
+fn an_rc_with_another_handle_is_not_claimed(rt: HostRuntime) -> Result<(), Fail> {
+    let drops = Cell::new(0);
+    let first = make_tracked(rt.alloc(), &drops, 1)?.into_rc();
+    let weak = Rc::downgrade(&first)?;
+    let first = match Sole::claim(first) {
+        Ok(_) => return Err(Fail::from(AllocError)),
+        Err(first) => first,
+    };
+    drop(weak);
+    let second = first.clone()?;
+    let first = match Sole::claim(first) {
+        Ok(_) => return Err(Fail::from(AllocError)),
+        Err(first) => first,
+    };
+    drop(second);
+    match Sole::claim(first) {
+        Ok(sole) => assert_eq!(rt; (sole.as_ref().number, drops.get()), (1, 0)),
+        Err(_) => assert!(rt; false, "one owner, and it is not the only one"),
+    }
+    assert_eq!(rt; drops.get(), 1);
+    Ok(())
+}
+
+#[test]
+fn an_rc_is_left_to_its_other_owners(rt: HostRuntime) -> Result<(), Fail> {
+    let mut first = match Rc::new(rt.alloc(), 1) {
+        Ok(rc) => rc,
+        Err(_) => return Err(Fail::from(AllocError)),
+    };
+    write_rc(rt.alloc(), &mut first, 2)?;
+    let mut second = first.clone()?;
+    write_rc(rt.alloc(), &mut second, 3)?;
+    assert_eq!(rt; (*first, *second), (2, 3));
+    assert_eq!(rt;
+        (Rc::strong_count(&first), Rc::strong_count(&second)),
+        (1, 1)
+    );
     Ok(())
 }
