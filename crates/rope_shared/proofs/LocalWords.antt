@@ -2,10 +2,7 @@
 use Rattle.std.proofs.Common.{◌≡◌, Bool, true, false, true≢false, List, [], ◌∷◌, subst}
 use seplogic.Ra.Ura.{Ura}
 use mir.Syntax.{Sym}
-use mir.Val.{Val, vnil, of_list}
-use types.Match.{live}
-use Rattle.std.specs.Prelude.{Option, None, Some, IsNone}
-use Rattle.std.specs.contracts.option.Option as Opt
+use mir.Val.{Val}
 use base.Logic.{ent, ex_i}
 use base.Fml.{ftrue}
 use types.Logic.{Logic, sem}
@@ -80,13 +77,3 @@ module _ (R : RattleType) {M : Type 1} {𝓤 : Ura M} (𝓛 : Logic 𝓤) (p : P
   of_sole_memory = qed 𝓛 (‵ (sole_memory R p x) ∷ []) ∵ fsplit ! $ drop ! $ fsplit3 ! $
       move ! (0 ∷ 2 ∷ []) $ fjoin ! $ move ! (1 ∷ []) $ fsplit ! $ move ! (0 ∷ 1 ∷ 2 ∷ []) $
       fjoin3 ! $ done !
-
--- an empty `Option`, as the machine sees it
-module _ (X : RattleType) {M : Type 1} {𝓤 : Ura M} {𝓛 : Logic 𝓤} {K : Type 0} {Γ : List (Item 𝓤)}
-    {G : Goal 𝓤 𝓛.H} where
-  pub none_out : K → (m : Option X.Denot) (vs : List Val) → IsNone m
-      → (vs ≡ live 0 vnil ∷ [] → Seq K 𝓛 Γ G) → Seq K 𝓛 (‵ ((Opt.the_row X).own_val m vs) ∷ Γ) G
-  none_out t None vs empty k = fpick t (λ us. fsplit t $ feq_l t (λ whole. fpick t (λ _. fsplit t $
-      feq_l t (λ first. drop t $ k (subst (λ (ws : List Val). vs ≡ live 0 (of_list ws) ∷ []) first
-      whole)))))
-  none_out t (Some x) vs empty k = absurd (true≢false empty)

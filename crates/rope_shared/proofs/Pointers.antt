@@ -1,12 +1,13 @@
--- A struct of one pointer, by value and behind a `&`. Assumes `Logic`.
-use Rattle.std.proofs.Common.{◌≡◌, ℕ, List, [], ◌∷◌, ◌++◌, subst, refl}
+-- A struct of one pointer, by value and behind a `&`, and an empty place for one. Assumes `Logic`.
+use Rattle.std.proofs.Common.{◌≡◌, ℕ, true≢false, List, [], ◌∷◌, ◌++◌, subst, refl}
 use seplogic.Ra.Ura.{Ura}
 use mir.Syntax.{Sym}
-use mir.Val.{Val, vstruct, of_list}
+use mir.Val.{Val, vstruct, vnil, of_list}
 use mir.Raw.{raw as bare}
 use base.Fraction.{full_share}
 use base.Fml.{Lft, Share, fat, flft}
 use types.Logic.{Logic}
+use types.Match.{live}
 use types.Kit.{Item, Goal, Seq, Soaks, Step, step, ‵, ◌$◌, move, drop, fsplit, fjoin, fpick, fpack, feq_i, feq_l, rewrite, use1}
 use denote.RattleType.{RattleType, Valss}
 use denote.Builtin.{RawPtr}
@@ -18,6 +19,8 @@ use denote.Opens.{Shut}
 use denote.Struct.Laws.{RawPtr-copy}
 use denote.Struct.Struct.{Shape, Struct, within}
 use Rattle.std.proofs.RcSteps.{word, word_ty}
+use Rattle.std.specs.Prelude.{Option, None, Some, IsNone}
+use Rattle.std.specs.contracts.option.Option as Opt
 
 -- the struct ν at the types Rs
 module _ (ν : Sym) (Rs : List RattleType) where
@@ -79,3 +82,13 @@ module _ {M : Type 1} {𝓤 : Ura M} {𝓛 : Logic 𝓤} {K : Type 0} {Γ : List
         (𝓛.laws.at_raw full_share (word_ty ν) b o v) $
         use1 𝓛 (‵ (fat full_share (word_ty μ) b o v)) (𝓛.laws.raw_at full_share (word_ty μ) b o v) $
         s)
+
+-- an empty `Option`, as the machine sees it
+module _ (X : RattleType) {M : Type 1} {𝓤 : Ura M} {𝓛 : Logic 𝓤} {K : Type 0} {Γ : List (Item 𝓤)}
+    {G : Goal 𝓤 𝓛.H} where
+  pub none_out : K → (m : Option X.Denot) (vs : List Val) → IsNone m
+      → (vs ≡ live 0 vnil ∷ [] → Seq K 𝓛 Γ G) → Seq K 𝓛 (‵ ((Opt.the_row X).own_val m vs) ∷ Γ) G
+  none_out t None vs empty k = fpick t (λ us. fsplit t $ feq_l t (λ whole. fpick t (λ _. fsplit t $
+      feq_l t (λ first. drop t $ k (subst (λ (ws : List Val). vs ≡ live 0 (of_list ws) ∷ []) first
+      whole)))))
+  none_out t (Some x) vs empty k = absurd (true≢false empty)

@@ -38,8 +38,8 @@ use Rattle.rope_shared.specs.Local.Owning.{counts_one, frees_block}
 use Rattle.rope_shared.specs.Local.Sole.{rc_of}
 use Rattle.rope_shared.specs.contracts.local.sole.Word as held
 use Rattle.rope_shared.proofs.Words.{Z}
-use Rattle.rope_shared.proofs.Pointers.{renamed}
-use Rattle.rope_shared.proofs.LocalWords.{Soles, Rcs, sole_name, rc_name, sole_out, rc_out, rc_in, of_sole, of_sole_memory, none_out}
+use Rattle.rope_shared.proofs.Pointers.{renamed, none_out}
+use Rattle.rope_shared.proofs.LocalWords.{Soles, Rcs, sole_name, rc_name, sole_out, rc_out, rc_in, of_sole, of_sole_memory}
 use Rattle.rope_shared.specs.contracts.local.sole.Sole.put.{ended, clauses}
 use Rattle.rope_shared.specs.contracts.local.sole.Sole.put.Key.{name as #self}
 use Rattle.rope_shared.proofs.local.sole.Sole.put.Statement.{statement}
