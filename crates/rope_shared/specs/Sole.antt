@@ -24,6 +24,7 @@ abbrev pub arc_of : {X : Type 0} → Sole X → X → Arc X Global
 arc_of s w = record { ptr = s.ptr; value = w }
 
 -- once the borrow r ends, the `Arc` that c refers to is that of s, with the last value of r
-abbrev pub arc_holds : (R : RattleType) → Sole R.Denot → MutBor (Arc R.Denot Global) → MutBor R.Denot
-    → Fml
-arc_holds R s c r = follows (arc.the_row R heap.the_row ghosts) R c.ghost_name r.ghost_name (arc_of s)
+abbrev pub arc_holds : (R : RattleType) → Sole R.Denot → MutBor (Arc R.Denot Global)
+    → MutBor R.Denot → Fml
+arc_holds R s c r = follows (arc.the_row R heap.the_row ghosts) R c.ghost_name r.ghost_name (arc_of
+    s)
