@@ -48,8 +48,8 @@ use Rattle.rope_shared.proofs.sole.Sole.put.Code as code
 module _ (R : RattleType) (d : (Soles R).Denot) (b o : ℕ) where
   -- all of the `Arc` but its value
   abbrev Rest : Fml
-  Rest = fsep (fsep (word_at (block_of d.ptr) (count_of d.ptr + 0) 1) (frees_block R d.ptr)) (cell_at
-      full_share (Arcs R).mir (word d.ptr ∷ []) b o)
+  Rest = fsep (fsep (word_at (block_of d.ptr) (count_of d.ptr + 0) 1) (frees_block R d.ptr))
+      (cell_at full_share (Arcs R).mir (word d.ptr ∷ []) b o)
 
   abbrev at : ℕ
   at = count_of d.ptr + value_offset Z R
@@ -68,8 +68,8 @@ module _ (R : RattleType) (d : (Soles R).Denot) (b o : ℕ) where
       fpack ! (InBlock d.ptr) (λ _. ftrue) inb $ join ! $
       use1 𝓛 (‵ (arc_owns Z ghosts.dealloc_token R d.ptr w)) (of_sole R 𝓛 d.ptr w) $
       arc_in R ! d.ptr w $ move ! (1 ∷ 0 ∷ []) $ fjoin ! $
-      fpack ! (List Val) (λ us. fsep (cell_at full_share (Arcs R).mir us b o) ((Arcs R).own_val (arc_of
-      d w) us)) (word d.ptr ∷ []) $ done !
+      fpack ! (List Val) (λ us. fsep (cell_at full_share (Arcs R).mir us b o) ((Arcs R).own_val
+      (arc_of d w) us)) (word d.ptr ∷ []) $ done !
 
 pub put_spec : {M : Type 1} → statement M
 put_spec 𝓤 𝓛 𝓜 𝓡 wired T L =
