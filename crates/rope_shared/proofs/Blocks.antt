@@ -1,12 +1,12 @@
--- A block in a box, and the block of an `Arc` that has one owner. Assumes `Logic`.
-use Rattle.std.proofs.Common.{◌≡◌, ℕ, ◌+◌, ◌^◌, lit<, List, [], ◌∷◌, ◌++◌, refl, ap, ◌∙◌, subst}
+-- A block in a box, as the block of an `Arc` that has one owner. Assumes `Logic`.
+use Rattle.std.proofs.Common.{◌≡◌, ℕ, ◌+◌, ◌^◌, lit<, List, [], ◌∷◌, ◌++◌, refl, ap, ◌∙◌}
 use seplogic.Ra.Ura.{Ura}
 use lib.Dec.{T}
-use mir.Syntax.{Ty, Tys, Sym, impl, dnil, w64, ty_int, ty_ptr, ty_struct, tcons, tnil}
-use mir.Val.{Val, Vals, vint, vunit, vstruct, vcons, vnil, of_list, has_ty, WT}
+use mir.Syntax.{Tys, Sym, w64, ty_int, ty_struct, tcons, tnil}
+use mir.Val.{Val, Vals, vint, vstruct, vcons, vnil, of_list, has_ty, WT}
 use mir.Raw.{raw as bare}
 use base.Fraction.{full_share}
-use base.Logic.{SProp, ent, sep, emp, all, wand, via, mono_r, apply∗, never, fst∗}
+use base.Logic.{SProp, ent, sep, all, wand, via, mono_r, apply∗}
 use base.Fml.{Fml, ftrue, fsep, fat, froom}
 use contract.Monad.{conj_r}
 use prog.Model.{fields_at, rooms_at}
@@ -14,21 +14,15 @@ use types.Logic.{Logic, sem}
 use types.Kit.{Item, Goal, Seq, Step, step, ‵, raw, ◌⊛◌, some, ◌$◌, ◌∵◌, !, qed, by, move, drop, use0, use1, use2, pick, group, split, split3, assume, fsplit, fsplit3, fjoin, fjoin3, fpick, fpack, feq_i, feq_l, flt_i, flt_l, rewrite, done}
 use borrow.Table.OneValue.{part_in, part_out}
 use denote.RattleType.{RattleType, Valss}
-use denote.Laws.{Is, shows}
 use denote.Memory.{lone, part_at}
 use denote.Param.{param}
 use denote.Param.Laws.{Laws}
-use denote.Builtin.{RawPtr, u64}
-use denote.RawPtr.{Ptr, InBlock, block_ptr, null_ptr, ptr_val, in_a_block, lies_at}
-use denote.Struct.Owning as owning
-use Rattle.std.proofs.RcSteps.{Ptr-Good}
-use Rattle.std.specs.contracts.boxed.Box as box
-use denote.Shadow.{makes_shadow}
-use denote.Steps.{nothing, only, peeks}
+use denote.Builtin.{u64}
+use denote.RawPtr.{Ptr, InBlock, block_ptr, lies_at}
+use denote.Steps.{nothing, only}
 use denote.Struct.Struct.{within, as_fields}
 use denote.Struct.Declared.{shape}
-use Rattle.std.proofs.alloc.Calls.{handle_tells}
-use Rattle.std.proofs.Handle.{heap_val, heap_Tells}
+use Rattle.std.proofs.Handle.{heap_val}
 use Rattle.std.proofs.RawLayout.{as_raw, as_written}
 use Rattle.std.specs.Box.Ownership.{box_owns}
 use Rattle.std.specs.Thread.Scope.{word_at}
@@ -37,19 +31,7 @@ use Rattle.std.specs.contracts.impls.GlobalAllocator.TheImpl.{ghosts}
 use Rattle.rope_shared.specs.Owning.{sole_memory, frees_block, value_of}
 use Rattle.rope_shared.specs.contracts.sole.Inner as inner
 use Rattle.rope_shared.proofs.Words.{Z}
-
--- the allocator is one value, and owns nothing
-module _ {M : Type 1} {𝓤 : Ura M} (𝓛 : Logic 𝓤) (h : Z.Denot) where
-  pub handle_made : ent 𝓤 (emp 𝓤) (sem 𝓛 (Z.own_val h (heap_val ∷ [])))
-  handle_made = makes_shadow 𝓛 (Z.own_val h (heap_val ∷ []))
-      (λ vss. (tt, ((λ uss. (tt, (tt, tt))), tt)))
-      ((vstruct (vcons vunit vnil) ∷ [], tt), (refl, (((vunit ∷ [], tt), (refl, (refl, tt))), tt)))
-
-module _ {M : Type 1} {𝓤 : Ura M} {𝓛 : Logic 𝓤} {K : Type 0} {Γ : List (Item 𝓤)} {G : Goal 𝓤 𝓛.H}
-  where
-    pub handle_is : K → (h : Z.Denot) (vs : List Val) → (vs ≡ heap_val ∷ [] → Seq K 𝓛 Γ G)
-        → Seq K 𝓛 (‵ (Z.own_val h vs) ∷ Γ) G
-    handle_is t h vs k = peeks t Z (Is Z) (shows 𝓛 Z) h vs (λ is. drop t $ k (heap_Tells h vs is))
+use Rattle.rope_shared.proofs.Boxes.{Good, handle_made, handle_is, heap_Good, value_is}
 
 module _ (X : RattleType) where
   abbrev R : RattleType
@@ -63,22 +45,6 @@ module _ (X : RattleType) where
 
   abbrev pub inner_val : Val → Val
   inner_val v = vstruct (vcons (vint w64 1) (vcons heap_val (vcons v vnil)))
-
-  abbrev pub Good : Val → Type 0
-  Good v = T (has_ty (lone R.mir) v) × WT v
-
-module _ (X : RattleType) (L : Laws X) {M : Type 1} {𝓤 : Ura M} {𝓛 : Logic 𝓤} {K : Type 0} {Γ : List
-    (Item 𝓤)} {G : Goal 𝓤 𝓛.H} where
-  -- what is owned of a value is one machine value, of its type
-  value_is : K → (x : X.Denot) (vs : List Val) → ((v : Val) → vs ≡ v ∷ [] → Good X v
-      → Seq K 𝓛 (‵ ((R X).own_val x (v ∷ [])) ∷ Γ) G) → Seq K 𝓛 (‵ ((R X).own_val x vs) ∷ Γ) G
-  value_is t x vs k = handle_tells (record {
-    row = X;
-    laws = L;
-    g = record { dealloc_token = λ a σ p. ftrue };
-    d = impl [] tnil dnil;
-    drops = impl [] tnil dnil;
-  }) t x vs k
 
 module _ (X : RattleType) (L : Laws X) {M : Type 1} {𝓤 : Ura M} (𝓛 : Logic 𝓤) (b o : ℕ) where
   open 𝓛 use {H}
@@ -153,69 +119,6 @@ module _ (X : RattleType) (L : Laws X) {M : Type 1} {𝓤 : Ura M} (𝓛 : Logic
       rewrite ! 0 (λ (w : Val). ‵ (fat full_share (ty_struct ν (fields X)) b o w)) (ap only whole ∙
       (λ i. vstruct (of_list ((first ∙ ap (λ (n : ℕ). vint w64 n ∷ []) one) i ++ (second i ++ (third
       i ++ [])))))) refl $ by ! (cells h d.value v))))))))
-
--- a box of a block: the machine value of its two fields
-abbrev pub pair : Ptr → Val
-pair p = vstruct (vcons (ptr_val p) (vcons heap_val vnil))
-
-abbrev pub pair_ty : Sym → Ty
-pair_ty μ = ty_struct μ (tcons ty_ptr (tcons (lone Z.mir) tnil))
-
-pub heap_Good : T (has_ty (lone Z.mir) heap_val) × WT heap_val
-heap_Good = (tt, ((tt, tt), tt))
-
-pub pair_Good : (μ : Sym) (p : Ptr) → T (has_ty (pair_ty μ) (pair p)) × WT (pair p)
-pair_Good μ p = as_fields (ty_ptr ∷ lone Z.mir ∷ []) (ptr_val p ∷ heap_val ∷ []) (
-  Ptr-Good p,
-  (heap_Good, tt),
-)
-
-module _ (X : RattleType) where
-  abbrev pub Boxes : RattleType
-  Boxes = box.the_row (Inner X) Z ghosts
-
-module _ (X : RattleType) {M : Type 1} {𝓤 : Ura M} {𝓛 : Logic 𝓤} {K : Type 0} {Γ : List (Item 𝓤)} {G
-    : Goal 𝓤 𝓛.H} where
-  pub box_out : K → (d : (Boxes X).Denot) (vs : List Val)
-      → ((b o : ℕ) → vs ≡ pair (block_ptr b o) ∷ []
-      → Seq K 𝓛 (‵ (box_owns (ghosts.dealloc_token d.alloc) (Inner X) (block_ptr b o) d.value) ∷ Γ)
-      G)
-      → Seq K 𝓛 (‵ ((Boxes X).own_val d vs) ∷ Γ) G
-  box_out t d vs k =
-      fsplit t $ fpick t (λ vss. fsplit t $ feq_l t (λ whole. fsplit t $
-      feq_l t (λ first. fsplit t $
-      handle_is t d.alloc vss.1.0 (λ second. drop t $
-      in_a_block t d.ptr (λ p. box_owns (ghosts.dealloc_token d.alloc) (Inner X) p d.value)
-      (fst∗ 𝓤 (never 𝓤) (sem 𝓛 (ghosts.dealloc_token d.alloc (bare (lone (Inner X).mir)) null_ptr)))
-      (λ b o is.
-      k b o (subst (λ (p : Ptr). vs ≡ pair p ∷ []) is
-      (whole ∙ (λ i. vstruct (of_list (first i ++ (second i ++ []))) ∷ []))))))))
-
-  pub box_in : K → (b o : ℕ) (h : Z.Denot) (x : (Inner X).Denot)
-      → Step K 𝓛 (‵ ((Boxes X).own_val (record { ptr = block_ptr b o; alloc = h; value = x }) (pair
-      (block_ptr b o) ∷ [])) ∷ Γ) G
-      (‵ (box_owns (ghosts.dealloc_token h) (Inner X) (block_ptr b o) x) ∷ Γ) G
-  box_in t b o h x = step (λ s. let p : Ptr = block_ptr b o in
-      nothing t $ use0 𝓛 (‵ (Z.own_val h (heap_val ∷ []))) (handle_made 𝓛 h) $ fjoin t $
-      feq_i t (List Val) (ptr_val p ∷ []) (ptr_val p ∷ []) refl $ fjoin t $
-      feq_i t (List Val) (pair p ∷ []) (pair p ∷ []) refl $ fjoin t $
-      fpack t (Valss (RawPtr ∷ Z ∷ [])) (within (owning.shape (box.the_type (Inner X) Z ghosts)) (
-        p,
-        (h, tt),
-      ) (pair p ∷ []))
-      (ptr_val p ∷ [], (heap_val ∷ [], tt)) $ fjoin t $ s)
-
--- a struct of a pointer and the allocator, read as another one
-module _ {M : Type 1} {𝓤 : Ura M} {𝓛 : Logic 𝓤} {K : Type 0} {Γ : List (Item 𝓤)} {G : Goal 𝓤 𝓛.H}
-  where
-    pub pair_renamed : K → (ν μ : Sym) (b o : ℕ) (v : Val)
-        → Step K 𝓛 (‵ (fat full_share (pair_ty μ) b o v) ∷ Γ) G
-        (‵ (fat full_share (pair_ty ν) b o v) ∷ Γ) G
-    pair_renamed t ν μ b o v = step (λ s.
-        use1 𝓛 (‵ (fat full_share (bare (pair_ty ν)) b o v))
-        (𝓛.laws.at_raw full_share (pair_ty ν) b o v) $
-        use1 𝓛 (‵ (fat full_share (pair_ty μ) b o v)) (𝓛.laws.raw_at full_share (pair_ty μ) b o v) $
-        s)
 
 pub inner_Good : (X : RattleType) (μ : Sym) (v : Val) → Good X v
     → T (has_ty (ty_struct μ (fields X)) (inner_val X v)) × WT (inner_val X v)

@@ -1,5 +1,4 @@
 -- The memory of a `Sole` says the same to each thread, if its value does.
-use Rattle.std.proofs.Common.{ℕ, ◌+◌}
 use mir.Syntax.{Ty, w64, ty_int}
 use mir.Raw.{raw}
 use base.Fraction.{full_share}
@@ -10,11 +9,10 @@ use denote.RattleType.{RattleType}
 use denote.Memory.{lone}
 use denote.RawPtr.{Ptr, block_ptr, null_ptr, block_of, count_of, lies_at, room_for, in_block, ◌+ₚ◌}
 use denote.Builtin.{RawPtr}
-use denote.Param.Send.{IsSend, IsSync, Quiet, Common, AllSend, AllSync, part_keyless, owning_send, struct_send, struct_sync, sendable}
-use denote.Struct.Lending.{lent_at}
+use denote.Param.Send.{IsSend, IsSync, Quiet, Common, AllSend, part_keyless, owning_send, struct_send, struct_sync, sendable}
 use denote.Struct.Owning.{shape, fields, to}
 use denote.Struct.Struct.{exits_of}
-use Rattle.std.specs.Arc.Ownership.{arc_inner_type, allocator_offset, value_offset}
+use Rattle.std.specs.Arc.Ownership.{arc_inner_type, allocator_offset}
 use Rattle.std.proofs.Crossing.{frees}
 use Rattle.rope_shared.specs.Owning.{sole_memory, sole_lent, value_of}
 use Rattle.rope_shared.specs.contracts.sole.Sole as sole

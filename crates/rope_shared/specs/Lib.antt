@@ -1,3 +1,4 @@
 pub mod Owning
 pub mod Sole
 pub mod Shared
+pub mod Local

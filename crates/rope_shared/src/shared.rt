@@ -1,7 +1,7 @@
 //! One of several owners of a value.
 ghost use Rattle.std.specs.Prelude.{◌≡◌, ◌<◌, IfOk, IfErr, IfSome, MatchResult};
 ghost use Rattle.std.specs.Borrow.{sem};
-ghost use Rattle.rope_shared.specs.Shared.{shared_value, LendsValue};
+ghost use Rattle.rope_shared.specs.Shared.{shared_value, LendsValue, HoldsValue};
 
 use crate::sole::Sole;
 use std::alloc::{AllocError, AllocFailed, Global};
@@ -73,6 +73,16 @@ impl<T> Shared<T> {
         ensures { result.now ≡ shared_value self.now }
     {
         self.arc.deref()
+    }
+}
+
+impl<T: Drop> Shared<T> {
+    /// Makes this the first owner of the value of `sole`, and returns a mutable borrow of it.
+    pub fn reset(&mut self, sole: Sole<T>) -> &mut T
+        ensures* writes_back { sem 𝓛 (HoldsValue T.row self.entry sole result) }
+        ensures value { result.now ≡ sole.value }
+    {
+        Sole::reset(&mut self.arc, sole)
     }
 }
 

@@ -46,8 +46,8 @@ impl<T> Model for Sole<T> {
 }
 
 impl<T> Sole<T> {
-    // The same block, as an `Arc`.
-    pub(crate) fn into_arc(self) -> Arc<T, Global>
+    /// Makes this the first owner of an `Arc`. Takes no memory, and moves nothing.
+    pub fn into_arc(self) -> Arc<T, Global>
         ensures { result.value ≡ self.value }
     {
         let Sole { ptr } = self;
@@ -55,8 +55,8 @@ impl<T> Sole<T> {
         unsafe { (&raw const word).cast::<Arc<T, Global>>().read() }
     }
 
-    // The block, if this is its only owner. Otherwise the `Arc` comes back.
-    pub(crate) fn claim(arc: Arc<T, Global>) -> Result<Sole<T>, Arc<T, Global>>
+    /// Returns the only owner, if the `Arc` is that, and the `Arc` otherwise. Moves nothing.
+    pub fn claim(arc: Arc<T, Global>) -> Result<Sole<T>, Arc<T, Global>>
         ensures { MatchResult result (λ s. s.value ≡ arc.value) (λ c. c.value ≡ arc.value) }
     {
         let mut word = Word { ptr: null_mut() };

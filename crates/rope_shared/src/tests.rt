@@ -1,5 +1,5 @@
 //! Values that count their drops, by owners that are dropped in several orders.
-ghost use Rattle.std.specs.Prelude.{◌≡◌, true, false, MatchResult};
+ghost use Rattle.std.specs.Prelude.{◌≡◌, true, false, IfOk, IfErr, MatchResult};
 ghost use Rattle.rope_shared.specs.Shared.{shared_value};
 
 use crate::{Shared, Sole};
@@ -35,6 +35,21 @@ fn write_by_sole(shared: Shared<u64>, number: u64) -> Result<Shared<u64>, Shared
     let mut sole = shared.into_sole()?;
     write(&mut sole, number);
     Ok(sole.share())
+}
+
+/// Writes to the value, or to a new one if it has other owners. Fails only without memory.
+fn write_own(alloc: Global, shared: &mut Shared<u64>, number: u64) -> Result<(), AllocError>
+    ensures written { IfOk result (λ _. shared_value shared.new ≡ number) }
+    ensures kept { IfErr result (λ _. shared.new ≡ shared.old) }
+{
+    match shared.get_mut() {
+        Some(value) => *value = number,
+        None => match Sole::new(alloc, 0) {
+            Ok(sole) => *shared.reset(sole) = number,
+            Err(_) => return Err(AllocError),
+        },
+    }
+    Ok(())
 }
 
 /// Takes only what may go to another thread, and be read there.
@@ -246,5 +261,35 @@ fn a_number_is_written_in_place(rt: HostRuntime) -> Result<(), Fail> {
         Ok(second) => assert_eq!(rt; *second, 7),
         Err(_) => assert!(rt; false, "one owner, and it is not the only one"),
     }
+    Ok(())
+}
+
+#[test]
+fn a_shared_number_is_left_to_its_other_owners(rt: HostRuntime) -> Result<(), Fail> {
+    let mut first = match Shared::new(rt.alloc(), 1) {
+        Ok(shared) => shared,
+        Err(_) => return Err(Fail::from(AllocError)),
+    };
+    write_own(rt.alloc(), &mut first, 2)?;
+    let mut second = first.try_clone()?;
+    write_own(rt.alloc(), &mut second, 3)?;
+    assert_eq!(rt; (*first, *second), (2, 3));
+    assert_eq!(rt; (first.strong_count(), second.strong_count()), (1, 1));
+    Ok(())
+}
+
+#[test]
+fn an_owner_of_another_value_drops_the_old_one(rt: HostRuntime) -> Result<(), Fail> {
+    let drops = Cell::new(0);
+    let mut first = make_tracked(rt.alloc(), &drops, 1)?.share();
+    first.reset(make_tracked(rt.alloc(), &drops, 2)?).number = 3;
+    assert_eq!(rt; (first.as_ref().number, drops.get()), (3, 1));
+    let second = first.try_clone()?;
+    first.reset(make_tracked(rt.alloc(), &drops, 4)?);
+    assert_eq!(rt; (first.as_ref().number, drops.get()), (4, 1));
+    drop(second);
+    assert_eq!(rt; drops.get(), 2);
+    drop(first);
+    assert_eq!(rt; drops.get(), 3);
     Ok(())
 }

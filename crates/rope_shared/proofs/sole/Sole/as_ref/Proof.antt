@@ -28,8 +28,8 @@ use Rattle.std.proofs.alloc.Shapes.{after}
 use Rattle.std.proofs.RcSteps.{word, word_ty}
 use Rattle.std.specs.Arc.Ownership.{value_offset}
 use Rattle.rope_shared.specs.Owning.{sole_lent}
-use Rattle.rope_shared.specs.contracts.sole.Sole as sole
-use Rattle.rope_shared.proofs.Words.{Z, Soles, Fields, pointer_out, pointer_back}
+use Rattle.rope_shared.proofs.Pointers.{Pointer, pointer_out, pointer_back}
+use Rattle.rope_shared.proofs.Words.{Z, Soles, sole_name}
 use Rattle.rope_shared.specs.contracts.sole.Sole.as_ref.{ended, clauses}
 use Rattle.rope_shared.specs.contracts.sole.Sole.as_ref.Key.{name as #self}
 use Rattle.rope_shared.proofs.sole.Sole.as_ref.Statement.{statement}
@@ -50,25 +50,25 @@ as_ref_spec 𝓤 𝓛 𝓜 𝓡 wired T L =
     let y : (walk_of 𝓛 En hs c).Ghost = ((κs, qs, bounds, a, (vptr b o ∷ [], tt)), g) in
     let Post : Val → SProp 𝓤 = (walk_of 𝓛 En hs c).post y in
     let b' = block_of p in let o' = count_of p + value_offset Z R in
-    let ν = (sole.the_type R).name in
+    let ν = sole_name R in let Rs = R ∷ [] in
     qed 𝓛 (((‵ (flft κ q) ⊛ (‵ (flft κs.1.0 qs.1.0) ⊛ ‵ ftrue)) ⊛ ‵ (owns (types_at
     En.signature.params κs) a y.0.4)) ∷ raw ((c κs a).requires g) ∷ []) ∵
     split ! $ split ! $ move ! (2 ∷ []) $ fsplit ! $ fsplit ! $ keep ! (1 ∷ 3 ∷ 4 ∷ []) $
-    use1 𝓛 (‵ (hidden_shr (Fields R) κ (p, tt) b o) ⊛ ‵ (fhide (sole_lent R p x κ))) (id⊢ 𝓤 _) $
+    use1 𝓛 (‵ (hidden_shr (Pointer ν Rs) κ (p, tt) b o) ⊛ ‵ (fhide (sole_lent R p x κ))) (id⊢ 𝓤 _) $
     split ! $ move ! (1 ∷ []) $ unhide ! $ fsplit ! $ fpick ! (λ inb. drop ! $
     rewrite ! 0 (λ (r : Ptr). ‵ (lent_at R (r +ₚ value_offset Z R) x κ)) (at_block p inb) refl $
     fsplit ! $ drop ! $ hide ! $
     -- [the value, lent; the pointer; the token; the other tokens]
     enter ! 𝓣.C 𝓣.Λ fn (vptr b o ∷ []) Post $ alloc_all ! (λ l. pass_all ! refl ((tt, tt), tt) $
     let Ev = env fn.locals l in
-    move ! (1 ∷ 2 ∷ []) $ pointer_out R p ! tt b o (λ q'.
+    move ! (1 ∷ 2 ∷ []) $ pointer_out ν Rs p ! tt b o (λ q'.
     rewrite ! 0 (λ (r : Ptr). ‵ (base.Fml.fat q' (word_ty ν) b o (word r))) (at_block p inb) refl $
     first ! $ blocks ! $ sets_last ! (addr ! (through ! refl (fld ! refl (hop ! (look_in ! 0 (sub !
     0 refl (whole !))) (fld ! refl (stop !)))))) refl (tt, tt) $
     exec ! 𝓣.C 𝓣.Λ Ev (after 1 fn.body) (at_ret Ev Post) $
     sets ! (of_opd ! (get ! refl)) refl (tt, tt) $
     rewrite ! 0 (λ (r : Ptr). ‵ (base.Fml.fat q' (word_ty ν) b o (word r))) (sym (at_block p inb))
-    refl $ pointer_back R p ! tt b o q' $
+    refl $ pointer_back ν Rs p ! tt b o q' $
     move ! (0 ∷ 2 ∷ []) $ join ! $ use0 𝓛 (raw (fact 𝓤 (x ≡ x))) (fact_i 𝓤 (x ≡ x) (emp 𝓤) refl) $
     move ! (2 ∷ []) $ feq_i ! (List Val) (vptr b' o' ∷ []) (vptr b' o' ∷ []) refl $ fjoin ! $
     nothing ! $ nothing ! $ fjoin ! $

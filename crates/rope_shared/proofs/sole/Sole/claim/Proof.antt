@@ -33,7 +33,8 @@ use Rattle.std.specs.contracts.impls.GlobalAllocator.TheImpl.{ghosts}
 use Rattle.std.specs.contracts.result.Result as RS
 use Rattle.rope_shared.specs.contracts.sole.Word as held
 use Rattle.rope_shared.specs.contracts.sole.Sole as sole
-use Rattle.rope_shared.proofs.Words.{Z, Soles, Arcs, either_owner, arc_out, arc_in, sole_in, renamed}
+use Rattle.rope_shared.proofs.Pointers.{renamed}
+use Rattle.rope_shared.proofs.Words.{Z, Soles, Arcs, either_owner, arc_out, arc_in, sole_in}
 use Rattle.rope_shared.proofs.Counts.{V, Sole, Counted, b, o, last, claimed, last_has, reads, is_true, is_false}
 use Rattle.rope_shared.specs.contracts.sole.Sole.claim.{ended, clauses}
 use Rattle.rope_shared.specs.contracts.sole.Sole.claim.Key.{name as #self}

@@ -31,7 +31,8 @@ use Rattle.rope_shared.specs.Owning.{sole_memory}
 use Rattle.rope_shared.specs.contracts.sole.Parts as held
 use Rattle.rope_shared.specs.contracts.sole.Sole as sole
 use Rattle.rope_shared.proofs.Words.{Z, sole_in}
-use Rattle.rope_shared.proofs.Blocks.{Inner, Boxes, pair, heap_Good, pair_Good, pair_renamed, handle_is, box_out, apart}
+use Rattle.rope_shared.proofs.Boxes.{Boxes, pair, heap_Good, pair_Good, pair_renamed, handle_is, box_out}
+use Rattle.rope_shared.proofs.Blocks.{Inner, apart}
 use Rattle.rope_shared.specs.contracts.sole.Sole.from_box.{ended, clauses}
 use Rattle.rope_shared.specs.contracts.sole.Sole.from_box.Key.{name as #self}
 use Rattle.rope_shared.proofs.sole.Sole.from_box.Statement.{statement}
@@ -41,7 +42,7 @@ pub from_box_spec : {M : Type 1} → statement M
 from_box_spec 𝓤 𝓛 𝓜 𝓡 wired T L =
     let 𝓣 = tables 𝓤 𝓛.H 𝓜 𝓡 𝓡.env in let R : RattleType = param 0 T in let En = ended T in
     let c = clauses T 𝓛 𝓜.mem 𝓡.returns in let at_type = layouts (a_type ∷ []) (T, tt) in
-    let fn = inst_fn at_type code.function in let Theirs = Boxes T in
+    let fn = inst_fn at_type code.function in let Theirs = Boxes (Inner T) in
     let hs : Stays En.signature.params En.kept = (
       stay_dropped (plain
           (λ _. Z)) yes,
@@ -65,7 +66,7 @@ from_box_spec 𝓤 𝓛 𝓜 𝓡 wired T L =
     drop ! $ heard ! (d.value.count ≡ 1) (λ one.
     -- [the token; nothing; the allocator and the box]
     move ! (2 ∷ []) $ fsplit ! $ handle_is ! z.0.3.0 z.0.4.0 (λ e₀. fsplit ! $
-    box_out T ! d z.0.4.1.0 (λ b o e₁.
+    box_out (Inner T) ! d z.0.4.1.0 (λ b o e₁.
     let p = block_ptr b o in let w : Val = pair p in let ws : List Val = heap_val ∷ w ∷ [] in
     suffices ! (Run ws) (subst (λ (us : List Val). ent 𝓤 (Run ws) (Run us)) (sym
     (λ i. e₀ i ++ (e₁ i ++ []))) (id⊢ 𝓤 (Run ws))) $

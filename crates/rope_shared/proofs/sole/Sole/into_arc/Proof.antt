@@ -26,7 +26,8 @@ use Rattle.rope_shared.specs.contracts.sole.Sole as sole
 use Rattle.std.specs.contracts.sync.Arc as arc
 use Rattle.std.specs.contracts.impls.GlobalAllocator.TheImpl.{ghosts}
 use Rattle.rope_shared.specs.contracts.sole.Word as held
-use Rattle.rope_shared.proofs.Words.{Z, Soles, sole_out, arc_in, of_sole, renamed}
+use Rattle.rope_shared.proofs.Pointers.{renamed}
+use Rattle.rope_shared.proofs.Words.{Z, Soles, sole_out, arc_in, of_sole}
 use Rattle.rope_shared.specs.contracts.sole.Sole.into_arc.{ended, clauses}
 use Rattle.rope_shared.specs.contracts.sole.Sole.into_arc.Key.{name as #self}
 use Rattle.rope_shared.proofs.sole.Sole.into_arc.Statement.{statement}

@@ -33,7 +33,8 @@ use Rattle.rope_shared.specs.contracts.sole.Parts as held
 use Rattle.rope_shared.specs.contracts.sole.Inner as inner
 use Rattle.rope_shared.specs.contracts.sole.Sole as sole
 use Rattle.rope_shared.proofs.Words.{Z, Soles, sole_out}
-use Rattle.rope_shared.proofs.Blocks.{Inner, pair, heap_Good, pair_Good, inner_Good, pair_renamed, box_in, split_pair, roomed, rebuilt}
+use Rattle.rope_shared.proofs.Boxes.{pair, heap_Good, pair_Good, pair_renamed, box_in}
+use Rattle.rope_shared.proofs.Blocks.{Inner, inner_Good, split_pair, roomed, rebuilt}
 use Rattle.rope_shared.specs.contracts.sole.Sole.into_box.{ended, clauses}
 use Rattle.rope_shared.specs.contracts.sole.Sole.into_box.Key.{name as #self}
 use Rattle.rope_shared.proofs.sole.Sole.into_box.Statement.{statement}
@@ -93,7 +94,7 @@ into_box_spec 𝓤 𝓛 𝓜 𝓡 wired T L =
       value
           = x;
     }))) (rebuilt T L 𝓛 b o h x v) $
-    box_in T ! b o h (record { count = 1; alloc = h; value = x }) $
+    box_in (Inner T) ! b o h (record { count = 1; alloc = h; value = x }) $
     move ! (2 ∷ 3 ∷ []) $ join ! $ use0 𝓛 (raw (fact 𝓤 (x ≡ x))) (fact_i 𝓤 (x ≡ x) (emp 𝓤) refl) $
     nothing ! $ nothing ! $ fjoin ! $
     returns ! (look_at ! 0 refl) $ free_all ! refl $ keep ! (2 ∷ 0 ∷ 3 ∷ 1 ∷ []) $

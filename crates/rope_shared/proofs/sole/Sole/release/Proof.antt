@@ -32,7 +32,8 @@ use Rattle.std.specs.contracts.impls.GlobalAllocator.TheImpl.{ghosts}
 use Rattle.std.specs.contracts.option.Option as Opt
 use Rattle.rope_shared.specs.contracts.sole.Word as held
 use Rattle.rope_shared.specs.contracts.sole.Sole as sole
-use Rattle.rope_shared.proofs.Words.{Z, Soles, Arcs, arc_out, sole_in, renamed}
+use Rattle.rope_shared.proofs.Pointers.{renamed}
+use Rattle.rope_shared.proofs.Words.{Z, Soles, Arcs, arc_out, sole_in}
 use Rattle.rope_shared.proofs.Counts.{V, b, o, released, last_has, drops}
 use Rattle.rope_shared.specs.contracts.sole.Sole.release.{ended, clauses}
 use Rattle.rope_shared.specs.contracts.sole.Sole.release.Key.{name as #self}
