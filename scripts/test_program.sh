@@ -1,5 +1,6 @@
 #!/usr/bin/env bash
-# Runs the program rope to each of its exit statuses, and compares the status and the line on standard error.
+# Runs the program rope to each of its exit statuses, and compares the status and the line on standard error. Before, it runs
+# 400 random sessions, against the model of random_sessions.py.
 #
 #     scripts/test_program.sh
 #
@@ -17,6 +18,9 @@ wrong=0
 
 (cd "$crate" && rt run < stdin > "$work/printed" 2> "$work/said") || { cat "$work/said" >&2; exit 1; }
 cmp "$work/printed" "$crate/stdout"
+"$top/scripts/random_sessions.py" 2 400 0 "$work/commands" "$work/replies"
+"$program" < "$work/commands" > "$work/printed"
+cmp "$work/printed" "$work/replies"
 
 # Runs a command, and compares its status and its output on standard error with the expected ones.
 expect() {

@@ -1,6 +1,5 @@
 //! Examples: small callers of ropes. Each but the first has a contract, and all are proved from
-//! public contracts alone. docs/CALLING.md shows them. `rope_tests` and `rope_change_tests` run
-//! them.
+//! public contracts alone. docs/CALLING.md shows them. `rope_change_tests` runs them.
 #![tactic(auto)]
 
 pub mod changes;

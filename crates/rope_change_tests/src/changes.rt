@@ -41,8 +41,10 @@ fn expect_next(
     text: &str,
 ) {
     let edit = edits.next().expect(rt, "a replacement is left");
-    assert_eq!(rt; (edit.start, edit.end), range);
-    assert_eq!(rt; (edit.new_start, edit.new_end), new_range);
+    assert_eq!(rt;
+        [edit.start, edit.end, edit.new_start, edit.new_end],
+        [range.0, range.1, new_range.0, new_range.1]
+    );
     assert_eq!(rt; edit.text, text);
 }
 
@@ -55,13 +57,15 @@ fn a_change_is_built_mapped_applied_and_undone(rt: HostRuntime) -> Result<(), Fa
     replace(&rt, &mut change, 4, 4, "and ");
     replace(&rt, &mut change, 4, 7, "2");
     assert!(rt; !change.is_empty());
-    assert_eq!(rt; change.len_before(), 7);
-    assert_eq!(rt; change.len_after(), 7);
-    assert_eq!(rt; moved(&rt, &change, 0, Side::Before), 0);
-    assert_eq!(rt; moved(&rt, &change, 1, Side::Before), 1);
-    assert_eq!(rt; moved(&rt, &change, 3, Side::Before), 1);
-    assert_eq!(rt; moved(&rt, &change, 4, Side::Before), 2);
-    assert_eq!(rt; moved(&rt, &change, 4, Side::After), 7);
+    let places = [
+        moved(&rt, &change, 0, Side::Before),
+        moved(&rt, &change, 1, Side::Before),
+        moved(&rt, &change, 3, Side::Before),
+        moved(&rt, &change, 4, Side::Before),
+        moved(&rt, &change, 4, Side::After),
+    ];
+    assert_eq!(rt; [change.len_before(), change.len_after()], [7, 7]);
+    assert_eq!(rt; places, [0, 1, 1, 2, 7]);
     let back = change.invert(&rope).expect(&rt, "there is memory");
     apply(&rt, &change, &mut rope);
     assert!(rt; rope.eq_str("1 and 2"));
@@ -76,11 +80,11 @@ fn edits_have_their_ranges_in_both_texts(rt: HostRuntime) -> Result<(), Fail> {
     replace(&rt, &mut change, 0, 3, "1");
     replace(&rt, &mut change, 4, 4, "and ");
     let mut edits = change.edits();
-    assert_eq!(rt; edits.len(), 2);
+    let count = edits.len();
     expect_next(&rt, &mut edits, (0, 3), (0, 1), "1");
-    assert_eq!(rt; edits.len(), 1);
+    let left = edits.len();
     expect_next(&rt, &mut edits, (4, 4), (2, 6), "and ");
-    assert_eq!(rt; edits.len(), 0);
+    assert_eq!(rt; [count, left, edits.len()], [2, 1, 0]);
     assert!(rt; edits.next().is_none());
     Ok(())
 }
@@ -89,22 +93,21 @@ fn edits_have_their_ranges_in_both_texts(rt: HostRuntime) -> Result<(), Fail> {
 fn errors_name_both_numbers(rt: HostRuntime) -> Result<(), Fail> {
     let mut change = unchanged(&rt, rt.alloc(), 7);
     replace(&rt, &mut change, 2, 5, "x");
-    assert_eq!(rt;
-        change.replace(6, 5, ""),
-        Err(ChangeError::RangeInvalid(6, 5))
-    );
-    assert_eq!(rt;
-        change.replace(6, 8, ""),
-        Err(ChangeError::RangeOutOfBounds(8, 7))
-    );
-    assert_eq!(rt;
-        change.replace(4, 6, ""),
-        Err(ChangeError::OutOfOrder(4, 5))
-    );
     let mut rope = rope_of(&rt, rt.alloc(), "one");
-    assert_eq!(rt;
+    let refused = [
+        change.replace(6, 5, ""),
+        change.replace(6, 8, ""),
+        change.replace(4, 6, ""),
         change.apply(&mut rope),
-        Err(ChangeError::LengthDiffers(7, 3))
+    ];
+    assert_eq!(rt;
+        refused,
+        [
+            Err(ChangeError::RangeInvalid(6, 5)),
+            Err(ChangeError::RangeOutOfBounds(8, 7)),
+            Err(ChangeError::OutOfOrder(4, 5)),
+            Err(ChangeError::LengthDiffers(7, 3)),
+        ]
     );
     assert!(rt; rope.eq_str("one"));
     Ok(())

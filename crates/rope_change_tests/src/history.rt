@@ -1,6 +1,6 @@
 //! Each public call of histories and marks once, against texts and numbers by hand.
 use rope_changes::{ChangeError, ChangeSet, Side};
-use rope_history::{History, Marks};
+use rope_history::{History, Mark, Marks};
 use ropey::Rope;
 use std::alloc::Global;
 use std::process::Abort;
@@ -21,16 +21,53 @@ fn replacing(
     change
 }
 
-fn commit(rt: &impl Abort, history: &mut History, rope: &mut Rope, change: ChangeSet) {
+// Replaces one range of the current text, and fails unless that gives this text.
+fn commit(
+    rt: &impl Abort,
+    alloc: Global,
+    history: &mut History,
+    rope: &mut Rope,
+    range: (usize, usize),
+    text: &str,
+    after: &str,
+) {
+    let change = replacing(rt, alloc, history.len_chars(), range, text);
     history.commit(rope, change).expect(rt, "there is memory");
+    assert!(rt; rope.eq_str(after));
 }
 
-fn undo(rt: &impl Abort, history: &mut History, rope: &mut Rope) -> Option<usize> {
-    history.undo(rope).expect(rt, "there is memory")
+// Fails unless this version is left, and the text before it is this one.
+fn undo(
+    rt: &impl Abort,
+    history: &mut History,
+    rope: &mut Rope,
+    version: Option<usize>,
+    text: &str,
+) {
+    let left = history.undo(rope).expect(rt, "there is memory");
+    assert_eq!(rt; left, version);
+    assert!(rt; rope.eq_str(text));
 }
 
-fn redo(rt: &impl Abort, history: &mut History, rope: &mut Rope) -> Option<usize> {
-    history.redo(rope).expect(rt, "there is memory")
+// Fails unless this version is reached, and its text is this one.
+fn redo(
+    rt: &impl Abort,
+    history: &mut History,
+    rope: &mut Rope,
+    version: Option<usize>,
+    text: &str,
+) {
+    let reached = history.redo(rope).expect(rt, "there is memory");
+    assert_eq!(rt; reached, version);
+    assert!(rt; rope.eq_str(text));
+}
+
+// Fails unless a version exists, and its text is this one.
+fn go_to(rt: &impl Abort, history: &mut History, rope: &mut Rope, version: usize, text: &str) {
+    assert!(rt; version < history.len_versions());
+    history.go_to(rope, version).expect(rt, "there is memory");
+    assert_eq!(rt; history.current(), version);
+    assert!(rt; rope.eq_str(text));
 }
 
 #[test]
@@ -38,50 +75,28 @@ fn versions_are_committed_undone_and_redone(rt: HostRuntime) -> Result<(), Fail>
     let alloc = rt.alloc();
     let mut rope = Rope::from_str(alloc, "one\r\ntwo").expect(&rt, "there is memory");
     let mut history = History::new(alloc, 8).expect(&rt, "there is memory");
-    let spaced = replacing(&rt, alloc, 8, (3, 5), " ");
-    commit(&rt, &mut history, &mut rope, spaced);
-    assert!(rt; rope.eq_str("one two"));
-    let counted = replacing(&rt, alloc, 7, (0, 3), "three");
-    commit(&rt, &mut history, &mut rope, counted);
-    assert!(rt; rope.eq_str("three two"));
-    assert_eq!(rt; history.current(), 2);
-    assert_eq!(rt; history.len_chars(), 9);
-    assert_eq!(rt; undo(&rt, &mut history, &mut rope), Some(2));
-    assert!(rt; rope.eq_str("one two"));
-    assert_eq!(rt; undo(&rt, &mut history, &mut rope), Some(1));
-    assert!(rt; rope.eq_str("one\r\ntwo"));
-    assert_eq!(rt; undo(&rt, &mut history, &mut rope), None);
-    assert!(rt; rope.eq_str("one\r\ntwo"));
-    assert_eq!(rt; redo(&rt, &mut history, &mut rope), Some(1));
-    assert_eq!(rt; redo(&rt, &mut history, &mut rope), Some(2));
-    assert_eq!(rt; redo(&rt, &mut history, &mut rope), None);
-    assert!(rt; rope.eq_str("three two"));
-    assert_eq!(rt; history.len_versions(), 3);
-    Ok(())
-}
-
-#[test]
-fn branches_are_kept(rt: HostRuntime) -> Result<(), Fail> {
-    let alloc = rt.alloc();
-    let mut rope = Rope::from_str(alloc, "a").expect(&rt, "there is memory");
-    let mut history = History::new(alloc, 1).expect(&rt, "there is memory");
-    let appended = replacing(&rt, alloc, 1, (1, 1), "b");
-    commit(&rt, &mut history, &mut rope, appended);
-    undo(&rt, &mut history, &mut rope);
-    assert_eq!(rt; history.redo_version(), Some(1));
-    let other = replacing(&rt, alloc, 1, (1, 1), "c");
-    commit(&rt, &mut history, &mut rope, other);
-    assert!(rt; rope.eq_str("ac"));
-    assert_eq!(rt; history.len_versions(), 3);
-    assert_eq!(rt; history.redo_version(), None);
-    undo(&rt, &mut history, &mut rope);
-    assert_eq!(rt; redo(&rt, &mut history, &mut rope), Some(2));
-    assert!(rt; rope.eq_str("ac"));
-    assert!(rt; 2 < history.len_versions());
-    assert_eq!(rt; history.parent(2), Some(0));
-    assert_eq!(rt; history.parent(0), None);
-    assert_eq!(rt; moved_end(&rt, history.change(1)), 2);
-    assert_eq!(rt; history.inverse(1).len_after(), 1);
+    commit(&rt, alloc, &mut history, &mut rope, (3, 5), " ", "one two");
+    commit(
+        &rt,
+        alloc,
+        &mut history,
+        &mut rope,
+        (0, 3),
+        "three",
+        "three two",
+    );
+    let counts = [
+        history.current(),
+        history.len_chars(),
+        history.len_versions(),
+    ];
+    assert_eq!(rt; counts, [2, 9, 3]);
+    undo(&rt, &mut history, &mut rope, Some(2), "one two");
+    undo(&rt, &mut history, &mut rope, Some(1), "one\r\ntwo");
+    undo(&rt, &mut history, &mut rope, None, "one\r\ntwo");
+    redo(&rt, &mut history, &mut rope, Some(1), "one two");
+    redo(&rt, &mut history, &mut rope, Some(2), "three two");
+    redo(&rt, &mut history, &mut rope, None, "three two");
     Ok(())
 }
 
@@ -91,38 +106,51 @@ fn moved_end(rt: &impl Abort, change: &ChangeSet) -> usize {
     change.map(1, Side::After)
 }
 
+// Fails unless three versions, two of them of one parent, have their parents and changes.
+fn expect_branches(rt: &impl Abort, history: &History) {
+    assert_eq!(rt; history.len_versions(), 3);
+    assert_eq!(rt; [history.parent(2), history.parent(0)], [Some(0), None]);
+    let moved = moved_end(rt, history.change(1));
+    assert_eq!(rt; [moved, history.inverse(1).len_after()], [2, 1]);
+}
+
+#[test]
+fn branches_are_kept(rt: HostRuntime) -> Result<(), Fail> {
+    let alloc = rt.alloc();
+    let mut rope = Rope::from_str(alloc, "a").expect(&rt, "there is memory");
+    let mut history = History::new(alloc, 1).expect(&rt, "there is memory");
+    commit(&rt, alloc, &mut history, &mut rope, (1, 1), "b", "ab");
+    undo(&rt, &mut history, &mut rope, Some(1), "a");
+    let before = history.redo_version();
+    commit(&rt, alloc, &mut history, &mut rope, (1, 1), "c", "ac");
+    assert_eq!(rt; [before, history.redo_version()], [Some(1), None]);
+    undo(&rt, &mut history, &mut rope, Some(2), "a");
+    redo(&rt, &mut history, &mut rope, Some(2), "ac");
+    expect_branches(&rt, &history);
+    Ok(())
+}
+
 #[test]
 fn every_version_can_be_reached(rt: HostRuntime) -> Result<(), Fail> {
     let alloc = rt.alloc();
     let mut rope = Rope::from_str(alloc, "a").expect(&rt, "there is memory");
     let mut history = History::new(alloc, 1).expect(&rt, "there is memory");
-    let appended = replacing(&rt, alloc, 1, (1, 1), "b");
-    commit(&rt, &mut history, &mut rope, appended);
-    let replaced = replacing(&rt, alloc, 2, (0, 1), "c");
-    commit(&rt, &mut history, &mut rope, replaced);
-    go_to(&rt, &mut history, &mut rope, 0);
-    assert!(rt; rope.eq_str("a"));
-    let prepended = replacing(&rt, alloc, 1, (0, 0), "d");
-    commit(&rt, &mut history, &mut rope, prepended);
-    assert!(rt; rope.eq_str("da"));
-    assert_eq!(rt; history.len_versions(), 4);
-    go_to(&rt, &mut history, &mut rope, 2);
-    assert!(rt; rope.eq_str("cb"));
-    assert_eq!(rt; history.current(), 2);
-    undo(&rt, &mut history, &mut rope);
-    undo(&rt, &mut history, &mut rope);
-    assert_eq!(rt; redo(&rt, &mut history, &mut rope), Some(1));
-    assert_eq!(rt; redo(&rt, &mut history, &mut rope), Some(2));
-    go_to(&rt, &mut history, &mut rope, 3);
-    assert!(rt; rope.eq_str("da"));
-    undo(&rt, &mut history, &mut rope);
-    assert_eq!(rt; history.redo_version(), Some(3));
+    commit(&rt, alloc, &mut history, &mut rope, (1, 1), "b", "ab");
+    commit(&rt, alloc, &mut history, &mut rope, (0, 1), "c", "cb");
+    go_to(&rt, &mut history, &mut rope, 0, "a");
+    commit(&rt, alloc, &mut history, &mut rope, (0, 0), "d", "da");
+    go_to(&rt, &mut history, &mut rope, 2, "cb");
+    undo(&rt, &mut history, &mut rope, Some(2), "ab");
+    undo(&rt, &mut history, &mut rope, Some(1), "a");
+    redo(&rt, &mut history, &mut rope, Some(1), "ab");
+    redo(&rt, &mut history, &mut rope, Some(2), "cb");
+    go_to(&rt, &mut history, &mut rope, 3, "da");
+    undo(&rt, &mut history, &mut rope, Some(3), "a");
+    assert_eq!(rt;
+        [history.redo_version(), Some(history.len_versions())],
+        [Some(3), Some(4)]
+    );
     Ok(())
-}
-
-fn go_to(rt: &impl Abort, history: &mut History, rope: &mut Rope, version: usize) {
-    assert!(rt; version < history.len_versions());
-    history.go_to(rope, version).expect(rt, "there is memory");
 }
 
 #[test]
@@ -131,22 +159,35 @@ fn lengths_that_differ_are_refused(rt: HostRuntime) -> Result<(), Fail> {
     let mut rope = Rope::from_str(alloc, "one").expect(&rt, "there is memory");
     let mut other = Rope::from_str(alloc, "four").expect(&rt, "there is memory");
     let mut history = History::new(alloc, 3).expect(&rt, "there is memory");
-    let differs = Err(ChangeError::LengthDiffers(3, 4));
-    assert_eq!(rt; history.undo(&mut other), differs);
-    assert_eq!(rt; history.redo(&mut other), differs);
-    let change = ChangeSet::new(alloc, 4).expect(&rt, "the text fits");
+    let first = ChangeSet::new(alloc, 4).expect(&rt, "the text fits");
+    let second = ChangeSet::new(alloc, 4).expect(&rt, "the text fits");
+    let moves = [history.undo(&mut other), history.redo(&mut other)];
+    let commits = [
+        history.commit(&mut other, first),
+        history.commit(&mut rope, second),
+    ];
+    let differs = ChangeError::LengthDiffers(3, 4);
+    assert_eq!(rt; moves, [Err(differs), Err(differs)]);
     assert_eq!(rt;
-        history.commit(&mut other, change),
-        Err(ChangeError::LengthDiffers(3, 4))
+        commits,
+        [Err(differs), Err(ChangeError::LengthDiffers(4, 3))]
     );
-    let change = ChangeSet::new(alloc, 4).expect(&rt, "the text fits");
-    assert_eq!(rt;
-        history.commit(&mut rope, change),
-        Err(ChangeError::LengthDiffers(4, 3))
-    );
-    assert!(rt; rope.eq_str("one"));
-    assert_eq!(rt; history.len_versions(), 1);
+    assert!(rt; rope.eq_str("one") && history.len_versions() == 1);
     Ok(())
+}
+
+// Returns the ends of a mark.
+fn ends_of(rt: &impl Abort, marks: &Marks, id: usize) -> [usize; 2] {
+    let mark = marks.get(id).expect(rt, "there is such a mark");
+    [mark.start, mark.end]
+}
+
+// Returns the number of a mark, if there is one.
+fn id_of(mark: Option<Mark>) -> Option<usize> {
+    match mark {
+        Some(mark) => Some(mark.id),
+        None => None,
+    }
 }
 
 #[test]
@@ -154,31 +195,32 @@ fn marks_move_with_changes(rt: HostRuntime) -> Result<(), Fail> {
     let alloc = rt.alloc();
     let mut marks = Marks::new(alloc, 7);
     assert!(rt; marks.is_empty());
-    let word = marks
-        .add(4, 7, Side::After, Side::Before)
-        .expect(&rt, "there is memory");
-    let caret = marks
-        .add(3, 3, Side::After, Side::Before)
-        .expect(&rt, "there is memory");
-    let all = marks
-        .add(0, 7, Side::Before, Side::After)
-        .expect(&rt, "there is memory");
-    assert_eq!(rt; [word, caret, all], [0, 1, 2]);
-    assert_eq!(rt; marks.len(), 3);
+    let ids = [
+        marks.add(4, 7, Side::After, Side::Before),
+        marks.add(3, 3, Side::After, Side::Before),
+        marks.add(0, 7, Side::Before, Side::After),
+    ];
+    assert_eq!(rt; ids, [Ok(0), Ok(1), Ok(2)]);
     let mut touching = marks.within(3, 3);
-    assert_eq!(rt; touching.next().map(|mark| mark.id), Some(all));
-    assert_eq!(rt; touching.next().map(|mark| mark.id), Some(caret));
-    assert!(rt; touching.next().is_none());
+    let touched = [
+        id_of(touching.next()),
+        id_of(touching.next()),
+        id_of(touching.next()),
+    ];
+    assert_eq!(rt; touched, [Some(2), Some(1), None]);
     let change = replacing(&rt, alloc, 7, (3, 4), " - ");
     marks.apply(&change).expect(&rt, "the lengths agree");
-    assert_eq!(rt; marks.len_chars(), 9);
-    let moved = marks.get(word).expect(&rt, "the word is marked");
-    assert_eq!(rt; [moved.start, moved.end], [6, 9]);
-    let moved = marks.get(caret).expect(&rt, "the caret is marked");
-    assert_eq!(rt; [moved.start, moved.end], [6, 6]);
-    assert_eq!(rt; marks.remove(caret), Some(moved));
-    assert_eq!(rt; marks.get(caret), None);
-    assert_eq!(rt; marks.remove(caret), None);
+    assert_eq!(rt; [marks.len(), marks.len_chars()], [3, 9]);
+    assert_eq!(rt;
+        [ends_of(&rt, &marks, 0), ends_of(&rt, &marks, 1)],
+        [[6, 9], [6, 6]]
+    );
+    let removed = [
+        id_of(marks.remove(1)),
+        id_of(marks.get(1)),
+        id_of(marks.remove(1)),
+    ];
+    assert_eq!(rt; removed, [Some(1), None, None]);
     Ok(())
 }
 
@@ -186,15 +228,18 @@ fn marks_move_with_changes(rt: HostRuntime) -> Result<(), Fail> {
 fn marks_outside_the_text_are_refused(rt: HostRuntime) -> Result<(), Fail> {
     let alloc = rt.alloc();
     let mut marks = Marks::new(alloc, 7);
-    assert_eq!(rt;
-        marks.add(5, 4, Side::Before, Side::After),
-        Err(ChangeError::RangeInvalid(5, 4))
-    );
-    assert_eq!(rt;
-        marks.add(4, 8, Side::Before, Side::After),
-        Err(ChangeError::RangeOutOfBounds(8, 7))
-    );
     let change = ChangeSet::new(alloc, 8).expect(&rt, "the text fits");
+    let refused = [
+        marks.add(5, 4, Side::Before, Side::After),
+        marks.add(4, 8, Side::Before, Side::After),
+    ];
+    assert_eq!(rt;
+        refused,
+        [
+            Err(ChangeError::RangeInvalid(5, 4)),
+            Err(ChangeError::RangeOutOfBounds(8, 7)),
+        ]
+    );
     assert_eq!(rt; marks.apply(&change), Err(ChangeError::LengthDiffers(8, 7)));
     Ok(())
 }

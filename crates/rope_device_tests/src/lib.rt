@@ -1,37 +1,29 @@
-//! Tests of devices, and of sessions and the line language.
+//! Tests of devices, and of lines that are served.
 //!
 //! No contract shows these:
 //! - a device that failed is not called again, and its error is returned;
-//! - the command of a line, and the line and outcome with which a run ends;
+//! - a bad line ends a run, and the line and outcome with which a run ends;
 //! - a run of commands runs all of them if memory is ample;
 //! - replies are flushed before the next read.
 //!
-//! The proofs show these too, and they are run to test the compiler: 500 random sessions of 60
-//! commands against lists of characters, and texts that are read and written in any pieces.
+//! The proofs show this too, and it is run to test the compiler: texts that are read and written in
+//! any pieces.
+//!
+//! Dialogues and random sessions are in crates/rope/stdin, which needs no proof.
 #![tactic(auto)]
 
 #[cfg(test)]
-mod answers;
-#[cfg(test)]
 mod bad_lines;
-#[cfg(test)]
-mod commands;
 #[cfg(test)]
 mod devices;
 #[cfg(test)]
 mod devices_errors;
-#[cfg(test)]
-mod draw;
 #[cfg(test)]
 mod ends;
 #[cfg(test)]
 mod example;
 #[cfg(test)]
 mod reading;
-#[cfg(test)]
-mod replies;
-#[cfg(test)]
-mod rows;
 #[cfg(test)]
 mod runs;
 #[cfg(test)]
@@ -41,14 +33,8 @@ mod served;
 #[cfg(test)]
 mod serving;
 #[cfg(test)]
-mod sessions;
-#[cfg(test)]
-mod shown;
-#[cfg(test)]
 mod stumbles;
 #[cfg(test)]
 mod talks;
-#[cfg(test)]
-mod walking;
 #[cfg(test)]
 mod writing;

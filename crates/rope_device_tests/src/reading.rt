@@ -50,23 +50,6 @@ fn expect_invalid(alloc: Global, bytes: &[u8]) -> Result<(), Failure> {
     expect_no_text(Rope::from_reader(alloc, Parts::new(bytes, SINGLY, NEVER)))
 }
 
-/// Fails unless both calls return the reader's error if the read after a number of bytes fails, and
-/// set the mark.
-fn expect_failed(alloc: Global, bytes: &[u8], ends: u64, fails_at: usize) -> Result<(), Failure> {
-    let mut source = Watched::new(Parts::new(bytes, ends, fails_at));
-    let reader = Parts::new(bytes, ends, fails_at);
-    let kinds = [
-        read_kind(Rope::from_watched(alloc, &mut source)),
-        read_kind(Rope::from_reader(alloc, reader)),
-    ];
-    same!(
-        kinds,
-        [Some(ErrorKind::Interrupted), Some(ErrorKind::Interrupted)]
-    );
-    holds!(source.failed());
-    Ok(())
-}
-
 /// Characters of one to four bytes, and a pair, in 12 bytes.
 const TEXT: &str = "aé\r\nこ🐸";
 
@@ -76,9 +59,7 @@ fn one_byte_a_read_makes_the_same_rope(rt: HostRuntime) -> Result<(), Failure> {
     expect_read(alloc, b"\xe3\x81\x93", SINGLY, "こ")?;
     expect_read(alloc, b"", SINGLY, "")?;
     expect_invalid(alloc, b"\xe3\x81")?;
-    expect_invalid(alloc, b"\x61\xff")?;
-    expect_failed(alloc, b"\x61", SINGLY, 1)?;
-    expect_failed(alloc, b"\xff", SINGLY, 1)
+    expect_invalid(alloc, b"\x61\xff")
 }
 
 #[test]
@@ -107,25 +88,6 @@ fn expect_cut_off(alloc: Global, len: usize) -> Result<(), Failure> {
 fn a_text_cut_off_within_a_character_is_no_utf8(rt: HostRuntime) -> Result<(), Failure> {
     for len in 0..13usize {
         within(format_args!("len {len}"), expect_cut_off(rt.alloc(), len))?;
-    }
-    Ok(())
-}
-
-/// Fails unless a failure after a number of bytes is returned, for single bytes a read, and for
-/// such reads.
-fn expect_failed_past(alloc: Global, fails_at: usize, ends: u64) -> Result<(), Failure> {
-    expect_failed(alloc, TEXT.as_bytes(), SINGLY, fails_at)?;
-    expect_failed(alloc, TEXT.as_bytes(), ends, fails_at)
-}
-
-#[test]
-fn a_failed_read_is_returned_and_marked(rt: HostRuntime) -> Result<(), Failure> {
-    for fails_at in 0..13usize {
-        let at_once = 1u64.checked_shl(fails_at as u32).unwrap_or(0) >> 1;
-        within(
-            format_args!("fails_at {fails_at}"),
-            expect_failed_past(rt.alloc(), fails_at, at_once),
-        )?;
     }
     Ok(())
 }

@@ -1,6 +1,5 @@
 //! Texts with long characters and breaks at the cut of a leaf, read and written one byte at a time.
 use crate::devices::{NEVER, Narrow, Parts, SINGLY};
-use crate::stumbles::read_kind;
 use rope_plain::compare::{expect_few_chunks, expect_plain_unicode};
 use rope_plain::failure::{Failure, within};
 use rope_plain::sums::plus;
@@ -9,7 +8,6 @@ use rope_plain::{holds, same};
 use ropey::Rope;
 use ropey::io::ReadError;
 use std::alloc::{AllocError, Global};
-use std::io::ErrorKind;
 
 /// Line breaks of two and three bytes, and characters of two to four.
 const LETTERS: [&str; 7] = ["\r\n", "\u{85}", "\u{2028}", "\u{2029}", "é", "こ", "🐸"];
@@ -45,45 +43,27 @@ fn expect_front_read(alloc: Global, text: &str, len: usize) -> Result<(), Failur
     }
 }
 
-/// Fails unless a read that fails after the first bytes returns the failure.
-fn expect_failed(alloc: Global, text: &str, len: usize) -> Result<(), Failure> {
-    let failed = Rope::from_reader(alloc, Parts::new(text.as_bytes(), SINGLY, len));
-    same!(read_kind(failed), Some(ErrorKind::Interrupted));
-    Ok(())
-}
-
-/// Fails unless a writer that keeps one byte a write has the first bytes, and the write fails only
-/// if there is no room.
-fn expect_written(rt: &HostRuntime, rope: &Rope, text: &str, room: usize) -> Result<(), Failure> {
-    let mut writer = Narrow::new(rt, 1, room);
-    let written = rope.write_to(&mut writer);
-    let (front, _) = text.as_bytes().split_at(room.min(text.len()));
-    same!(written.is_ok(), room >= text.len());
-    same!(writer.kept.as_slice(), front);
-    Ok(())
-}
-
-/// Fails unless reads and writes stop correctly at each of the bytes from one on.
-fn expect_stops(rt: &HostRuntime, rope: &Rope, text: &str, before: usize) -> Result<(), Failure> {
+/// Fails unless reads end correctly after each of the bytes from one on.
+fn expect_ends(alloc: Global, text: &str, before: usize) -> Result<(), Failure> {
     for more in 0..10usize {
         let len = plus(before, more);
         within(
             format_args!("byte {len}"),
-            expect_front_read(rt.alloc(), text, len),
-        )?;
-        within(
-            format_args!("byte {len}"),
-            expect_failed(rt.alloc(), text, len),
-        )?;
-        within(
-            format_args!("byte {len}"),
-            expect_written(rt, rope, text, len),
+            expect_front_read(alloc, text, len),
         )?;
     }
-    expect_written(rt, rope, text, text.len())
+    Ok(())
 }
 
-/// Fails unless a text read one byte a read is complete, and reading and writing it stop correctly.
+/// Fails unless a writer that keeps one byte a write has the text.
+fn expect_written(rt: &HostRuntime, rope: &Rope, text: &str) -> Result<(), Failure> {
+    let mut writer = Narrow::new(rt, 1, text.len());
+    rope.write_to(&mut writer)?;
+    same!(writer.kept.as_slice(), text.as_bytes());
+    Ok(())
+}
+
+/// Fails unless a text read one byte a read is complete, and its fronts are read and it is written.
 fn expect_read_and_written(
     rt: &HostRuntime,
     answer: Result<Rope, ReadError>,
@@ -92,7 +72,8 @@ fn expect_read_and_written(
 ) -> Result<(), Failure> {
     let rope = answer?;
     expect_text_in_few_chunks(rt.alloc(), &rope, text)?;
-    expect_stops(rt, &rope, text, before)
+    expect_ends(rt.alloc(), text, before)?;
+    expect_written(rt, &rope, text)
 }
 
 /// Fails unless a text with a letter after `before` others is read and written correctly.

@@ -1,10 +1,10 @@
 //! Lines that come in several reads, devices that fail, and outcomes of runs.
 use crate::served::expect_served;
-use crate::talks::{Asking, Dripping, Halting, Narrow, Stumbling, Telling};
+use crate::talks::{Asking, Halting, Narrow, Stumbling, Telling};
 use rope_plain::failure::{Failure, within};
+use rope_plain::same;
 use rope_plain::sums::plus;
 use rope_plain::texts::repeated;
-use rope_plain::{holds, same};
 use rope_protocol::{Ended, serve};
 use std::alloc::{AllocError, Global};
 use std::cell::Cell;
@@ -83,24 +83,6 @@ fn a_run_ends_as_its_input_does(rt: HostRuntime) -> Result<(), Failure> {
     Ok(())
 }
 
-/// Fails unless the run over an input succeeds, with these replies.
-fn expect_done(
-    alloc: Global,
-    input: Result<String, AllocError>,
-    replies: Result<String, AllocError>,
-) -> Result<(), Failure> {
-    match (input, replies) {
-        (Ok(input), Ok(replies)) => expect_served(
-            alloc,
-            input.as_str().as_bytes(),
-            4096,
-            Ended::Done,
-            replies.as_str(),
-        ),
-        _ => Err(Failure::new("no memory for the input")),
-    }
-}
-
 /// Returns good lines, and then a bad one.
 fn bad_after(alloc: Global, count: usize) -> Result<String, AllocError> {
     let good = repeated(alloc, "len 0\n", count)?;
@@ -130,48 +112,6 @@ fn a_bad_line_is_reported_by_its_number(rt: HostRuntime) -> Result<(), Failure> 
         )?;
     }
     Ok(())
-}
-
-/// Returns a text that is joined to itself until it may not grow.
-fn doublings(alloc: Global) -> Result<String, AllocError> {
-    let joins = repeated(alloc, "join 0 0\n", 62)?;
-    format!(in alloc; "text a\n{}len 0\njoin 0 0\nlen 0\n", joins.as_str())
-}
-
-/// The lengths of the resulting text.
-const LONGEST: &str = "4611686018427387904 4611686018427387904 1 4611686018427387904\n";
-
-/// Returns the replies.
-fn replies_to_doublings(alloc: Global) -> Result<String, AllocError> {
-    let joined = repeated(alloc, "ok\n", 62)?;
-    let refused = "error: Text would be longer than isize::MAX bytes\n";
-    format!(in alloc; "rope 0\n{}{LONGEST}{refused}{LONGEST}", joined.as_str())
-}
-
-#[test]
-fn the_longest_text_is_served(rt: HostRuntime) -> Result<(), Failure> {
-    let input = doublings(rt.alloc());
-    let replies = replies_to_doublings(rt.alloc());
-    expect_done(rt.alloc(), input, replies)
-}
-
-/// Fails unless a run ends at the reader's failure, with the replies to the two complete lines
-/// before it flushed.
-fn expect_stopped_by_its_reader(alloc: Global) -> Result<(), Failure> {
-    let mut reader = Dripping {
-        rest: b"text \nlen 0\nlen 0",
-        step: 4,
-        fails: true,
-    };
-    let mut writer = Narrow::new(alloc, 1000);
-    same!(serve(alloc, &mut reader, &mut writer), Ended::Failed);
-    holds!(writer.is_flushed);
-    writer.expect_flushed("rope 0\n0 0 1 0\n")
-}
-
-#[test]
-fn a_failed_read_ends_the_run_after_its_replies(rt: HostRuntime) -> Result<(), Failure> {
-    expect_stopped_by_its_reader(rt.alloc())
 }
 
 /// Fails unless a run fails at such a writer, which then has these bytes.
@@ -237,25 +177,6 @@ fn expect_all_served(alloc: Global, input: &[u8]) -> Result<(), Failure> {
 fn long_lines_and_replies_are_served(rt: HostRuntime) -> Result<(), Failure> {
     let input = long_lines(rt.alloc())?;
     expect_all_served(rt.alloc(), input.as_str().as_bytes())
-}
-
-/// Returns a text of 9,000 letters that is shown.
-fn shown(alloc: Global) -> Result<String, AllocError> {
-    let letters = repeated(alloc, "a", 9000)?;
-    format!(in alloc; "text {}\nshow 0\nlen 0\n", letters.as_str())
-}
-
-/// Returns the replies.
-fn replies_to_shown(alloc: Global) -> Result<String, AllocError> {
-    let letters = repeated(alloc, "a", 9000)?;
-    format!(in alloc; "rope 0\n\"{}\"\n9000 9000 1 9000\n", letters.as_str())
-}
-
-#[test]
-fn a_reply_longer_than_the_buffer_is_written(rt: HostRuntime) -> Result<(), Failure> {
-    let input = shown(rt.alloc());
-    let replies = replies_to_shown(rt.alloc());
-    expect_done(rt.alloc(), input, replies)
 }
 
 const LONG: &str = "text a\nlen 0\n";

@@ -4,20 +4,16 @@ use std::alloc::Global;
 use std::cell::Cell;
 use std::io::{self, ErrorKind, Read, Write};
 
-/// Gives a few bytes a read. At their end it fails, or returns the end.
+/// Gives a few bytes a read.
 #[derive(Drop)]
 pub struct Dripping<'a> {
     pub rest: &'a [u8],
     pub step: usize,
-    pub fails: bool,
 }
 
 impl Read for Dripping<'_> {
     fn read(&mut self, buf: &mut [u8]) -> io::Result<usize> {
         let count = self.step.min(self.rest.len()).min(buf.len());
-        if count == 0 && self.fails {
-            return Err(io::Error::from(ErrorKind::Other));
-        }
         let (given, rest) = self.rest.split_at(count);
         buf[..count].copy_from_slice(given);
         self.rest = rest;

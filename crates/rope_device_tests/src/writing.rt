@@ -9,20 +9,8 @@ use ropey::io::{Mark, Watched};
 use std::alloc::Global;
 use std::io::ErrorKind;
 
-/// Fails unless a write has an error of this kind, or none, and leaves these bytes.
-fn expect_written(
-    rope: &Rope,
-    device: Narrow,
-    kind: Option<ErrorKind>,
-    bytes: &[u8],
-) -> Result<(), Failure> {
-    let mut writer = device;
-    same!(write_kind(rope.write_to(&mut writer)), kind);
-    same!(writer.kept.as_slice(), bytes);
-    Ok(())
-}
-
-/// Fails unless a write to a watched device does so too, and sets the mark only if it fails.
+/// Fails unless a write to a watched device has an error of this kind, or none, leaves these bytes,
+/// and sets the mark only if it fails.
 fn expect_written_and_marked(
     rope: &Rope,
     device: Narrow,
@@ -36,22 +24,6 @@ fn expect_written_and_marked(
     same!(is_marked, kind.is_some());
     same!(writer.kept.as_slice(), bytes);
     Ok(())
-}
-
-#[test]
-fn a_failed_write_is_returned_and_marked(rt: HostRuntime) -> Result<(), Failure> {
-    let rope = Rope::from_str(rt.alloc(), "Hello!")?;
-    let kind = Some(ErrorKind::Interrupted);
-    expect_written_and_marked(&rope, Narrow::new(&rt, 3, 3), kind, b"Hel")?;
-    expect_written(&rope, Narrow::new(&rt, 3, 3), kind, b"Hel")
-}
-
-#[test]
-fn a_write_of_no_bytes_is_an_error_and_marked(rt: HostRuntime) -> Result<(), Failure> {
-    let rope = Rope::from_str(rt.alloc(), "Hello!")?;
-    let kind = Some(ErrorKind::WriteZero);
-    expect_written_and_marked(&rope, Narrow::full(&rt), kind, b"")?;
-    expect_written(&rope, Narrow::full(&rt), kind, b"")
 }
 
 /// Fails unless a rope is written without a mark, and once more after its bytes.

@@ -1,49 +1,11 @@
 //! Long texts of CR and LF alone, against rows worked by hand and plain lists of characters.
 use crate::texts::add_letters;
-use rope_plain::compare::{expect_plain_unicode, expect_text, lens};
+use rope_plain::compare::{expect_text, lens};
 use rope_plain::failure::{Failure, within};
-use rope_plain::texts::{chars_of, repeated, rope_of};
+use rope_plain::texts::{repeated, rope_of};
 use rope_plain::{holds, same};
 use ropey::Rope;
 use std::alloc::{AllocError, Global};
-
-/// Fails unless a clone without its first break is this text.
-fn expect_without_first(whole: &Rope, rest: &[char]) -> Result<(), Failure> {
-    let mut rope = whole.clone()?;
-    expect_first_removed(&mut rope, rest)
-}
-
-fn expect_first_removed(rope: &mut Rope, rest: &[char]) -> Result<(), Failure> {
-    rope.try_remove(0..1)?;
-    same!(lens(rope), [3_999, 3_999, 2_001, 3_999]);
-    expect_plain_unicode(rope, rest)
-}
-
-/// Fails unless a clone with a CR before its first break is this text.
-fn expect_with_cr_first(whole: &Rope, all: &[char]) -> Result<(), Failure> {
-    let mut rope = whole.clone()?;
-    expect_cr_inserted(&mut rope, all)
-}
-
-fn expect_cr_inserted(rope: &mut Rope, all: &[char]) -> Result<(), Failure> {
-    rope.try_insert(0, "\r")?;
-    same!(lens(rope), [4_001, 4_001, 2_002, 4_001]);
-    expect_plain_unicode(rope, all)
-}
-
-/// Fails unless clones are edited, and the rope, which is all but a CR before it, doesn't change.
-fn expect_clones_edited(whole: &Rope, all: &[char]) -> Result<(), Failure> {
-    let [_, plain @ ..] = all else {
-        return Err(Failure::new("an empty list"));
-    };
-    let [_, rest @ ..] = plain else {
-        return Err(Failure::new("a list of one"));
-    };
-    same!(lens(whole), [4_000, 4_000, 2_002, 4_000]);
-    expect_without_first(whole, rest)?;
-    expect_with_cr_first(whole, all)?;
-    expect_plain_unicode(whole, plain)
-}
 
 /// Appends a text `times` times, and then another.
 fn add_both(
@@ -68,19 +30,6 @@ fn text_of(
     let mut text = String::new(alloc);
     add_both(&mut text, first, count, second, more)?;
     Ok(text)
-}
-
-/// Returns a CR, and 2,000 times an LF and a CR.
-fn cr_and_pairs(alloc: Global) -> Result<Vec<char>, AllocError> {
-    let text = text_of(alloc, "\r", 1, "\n\r", 2_000)?;
-    chars_of(alloc, text.as_str())
-}
-
-#[test]
-fn a_break_at_the_start_shifts_all_pairs(rt: HostRuntime) -> Result<(), Failure> {
-    let all = cr_and_pairs(rt.alloc())?;
-    let whole = rope_of(rt.alloc(), "\n\r", 2_000)?;
-    expect_clones_edited(&whole, &all)
 }
 
 /// The number of edits between two comparisons of the whole text.

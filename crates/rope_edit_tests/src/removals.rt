@@ -4,9 +4,8 @@ use rope_plain::compare::{expect_plain_unicode, expect_text, expect_together, le
 use rope_plain::failure::{Failure, within};
 use rope_plain::texts::{padded, rope_of};
 use rope_plain::{holds, same};
-use ropey::{Rope, Steps};
+use ropey::Rope;
 use std::alloc::{AllocError, Global};
-use std::str;
 
 fn expect_ends_left(rope: &mut Rope) -> Result<(), Failure> {
     holds!(rope.len_chars() == 2_000);
@@ -35,14 +34,9 @@ enum Step {
     LeaveTwenty,
     /// Splits at a character, with that many characters after it, and joins again.
     Split(usize, usize),
-    CountInsert,
-    CountLongInsert,
-    CountRemoval,
-    CountSplit,
-    CountAppend,
 }
 
-const STEPS: [Step; 13] = [
+const STEPS: [Step; 8] = [
     Step::LeaveOne,
     Step::LeaveTwenty,
     Step::Split(1, 999_999),
@@ -51,11 +45,6 @@ const STEPS: [Step; 13] = [
     Step::Split(985, 999_015),
     Step::Split(500_000, 500_000),
     Step::Split(999_999, 1),
-    Step::CountInsert,
-    Step::CountLongInsert,
-    Step::CountRemoval,
-    Step::CountSplit,
-    Step::CountAppend,
 ];
 
 fn expect_one_left(rope: &mut Rope) -> Result<(), Failure> {
@@ -83,69 +72,11 @@ fn expect_split(front: &mut Rope, char_idx: usize, rest: usize) -> Result<(), Fa
     Ok(())
 }
 
-fn expect_insert_counted(rope: &mut Rope) -> Result<(), Failure> {
-    let mut steps = Steps::new();
-    holds!(rope.len_chars() == 1_000_000);
-    rope.insert_char_counted(500_000, 'x', &mut steps)?;
-    holds!((4..=40).contains(&steps.made));
-    same!(rope.len_bytes(), 1_000_001);
-    same!(rope.get_char(500_000), Some('x'));
-    Ok(())
-}
-
-/// A text of three leaves.
-const LONG_TEXT: [u8; 2_000] = [b'y'; 2_000];
-
-fn expect_long_insert_counted(rope: &mut Rope) -> Result<(), Failure> {
-    let mut steps = Steps::new();
-    holds!(rope.len_chars() == 1_000_000);
-    let Ok(text) = str::from_utf8(&LONG_TEXT) else {
-        return Err(Failure::new("letters are no text"));
-    };
-    rope.insert_counted(500_000, text, &mut steps)?;
-    holds!((3..=1_501).contains(&steps.made));
-    same!(rope.len_bytes(), 1_002_000);
-    same!(rope.get_char(501_999), Some('y'));
-    Ok(())
-}
-
-fn expect_removal_counted(rope: &mut Rope) -> Result<(), Failure> {
-    let mut steps = Steps::new();
-    holds!(rope.len_chars() == 1_000_000);
-    rope.remove_counted(10..999_990, &mut steps)?;
-    same!(rope.len_bytes(), 20);
-    holds!((1..=80).contains(&steps.made));
-    Ok(())
-}
-
-fn expect_split_counted(front: &mut Rope) -> Result<(), Failure> {
-    holds!(front.len_chars() == 1_000_000);
-    let mut steps = Steps::new();
-    let rest = front.split_off_counted(500_000, &mut steps)?.len_bytes();
-    same!([front.len_bytes(), rest], [500_000, 500_000]);
-    holds!((2..=80).contains(&steps.made));
-    Ok(())
-}
-
-fn expect_append_counted(front: &mut Rope) -> Result<(), Failure> {
-    let mut steps = Steps::new();
-    let back = front.try_split_off(500_000)?;
-    front.append_counted(back, &mut steps)?;
-    holds!((1..=80).contains(&steps.made));
-    same!(front.len_bytes(), 1_000_000);
-    Ok(())
-}
-
 fn expect_step(rope: &mut Rope, step: Step) -> Result<(), Failure> {
     match step {
         Step::LeaveOne => expect_one_left(rope),
         Step::LeaveTwenty => expect_twenty_left(rope),
         Step::Split(char_idx, rest) => expect_split(rope, char_idx, rest),
-        Step::CountInsert => expect_insert_counted(rope),
-        Step::CountLongInsert => expect_long_insert_counted(rope),
-        Step::CountRemoval => expect_removal_counted(rope),
-        Step::CountSplit => expect_split_counted(rope),
-        Step::CountAppend => expect_append_counted(rope),
     }
 }
 
@@ -174,7 +105,7 @@ fn expect_all_done(whole: &Rope) -> Result<(), Failure> {
 }
 
 #[test]
-fn a_million_letters_are_cut_split_and_counted(rt: HostRuntime) -> Result<(), Failure> {
+fn a_million_letters_are_cut_and_split(rt: HostRuntime) -> Result<(), Failure> {
     let whole = rope_of(rt.alloc(), "a", 1_000_000)?;
     expect_all_done(&whole)
 }

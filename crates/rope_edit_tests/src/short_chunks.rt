@@ -13,19 +13,6 @@ const CHUNKS: usize = 400;
 
 const FULL: usize = 984;
 
-/// The order of the chunks whose middles are removed.
-#[derive(Clone, Copy)]
-enum Order {
-    FromTheLast,
-    FromTheFirst,
-    /// From the last one, with a clone made before each.
-    BesideClones,
-    /// 173 is coprime to the number of chunks, so each chunk has its turn once.
-    InJumps,
-    /// From the last one, and letter by letter.
-    ByLetters,
-}
-
 /// Returns a text of full chunks, with an x first and a y last in each.
 fn full_chunks(alloc: Global) -> Result<Rope, Error> {
     let chunk = padded(alloc, "x", FULL, "y")?;
@@ -46,24 +33,6 @@ fn expect_emptied(rope: &mut Rope, start: usize) -> Result<(), Failure> {
     expect_no_short_chunks(rope)
 }
 
-/// Fails unless a clone keeps the characters removed from the rope.
-fn expect_emptied_beside_clone(rope: &mut Rope, start: usize) -> Result<(), Failure> {
-    let old = rope.clone()?;
-    let emptied = expect_emptied(rope, start);
-    let kept = old.len_bytes();
-    emptied?;
-    same!(kept, plus(rope.len_bytes(), FULL - 2));
-    Ok(())
-}
-
-fn expect_emptied_by_letters(rope: &mut Rope, start: usize) -> Result<(), Failure> {
-    let first = plus(start, 1);
-    for _ in 0..FULL - 2 {
-        rope.try_remove(first..plus(first, 1))?;
-    }
-    expect_no_short_chunks(rope)
-}
-
 /// Fails unless a chunk is emptied after others of these lengths; its new length is noted.
 fn expect_emptied_after(rope: &mut Rope, lens: &mut [usize], chunk: usize) -> Result<(), Failure> {
     let mut start: usize = 0;
@@ -76,69 +45,29 @@ fn expect_emptied_after(rope: &mut Rope, lens: &mut [usize], chunk: usize) -> Re
     expect_emptied(rope, start)
 }
 
-/// Fails unless the chunk with this turn is emptied.
-fn expect_turn_done(
-    rope: &mut Rope,
-    lens: &mut [usize],
-    order: Order,
-    turn: usize,
-) -> Result<(), Failure> {
-    let last = minus(CHUNKS - 1, turn).saturating_mul(FULL);
-    match order {
-        Order::FromTheLast => expect_emptied(rope, last),
-        Order::FromTheFirst => expect_emptied(rope, turn.saturating_mul(2)),
-        Order::BesideClones => expect_emptied_beside_clone(rope, last),
-        Order::InJumps => expect_emptied_after(rope, lens, turn.saturating_mul(173) % CHUNKS),
-        Order::ByLetters => expect_emptied_by_letters(rope, last),
-    }
-}
-
-fn expect_turns_done(rope: &mut Rope, order: Order) -> Result<(), Failure> {
+/// Fails unless all chunks are emptied. 173 is coprime to their number, so each has its turn once.
+fn expect_all_emptied(rope: &mut Rope) -> Result<(), Failure> {
     let mut lens = [FULL; CHUNKS];
     for turn in 0..CHUNKS {
+        let chunk = turn.saturating_mul(173) % CHUNKS;
         within(
             format_args!("turn {turn}"),
-            expect_turn_done(rope, &mut lens, order, turn),
+            expect_emptied_after(rope, &mut lens, chunk),
         )?;
     }
     Ok(())
 }
 
-fn expect_emptied_in(alloc: Global, rope: &mut Rope, order: Order) -> Result<(), Failure> {
+fn expect_ends_left(alloc: Global, rope: &mut Rope) -> Result<(), Failure> {
     same!(rope.chunks().count(), CHUNKS);
-    expect_turns_done(rope, order)?;
+    expect_all_emptied(rope)?;
     expect_only_ends(alloc, rope)
-}
-
-/// Fails unless little remains of each chunk, in few chunks, when they are emptied in this order.
-fn expect_all_emptied(alloc: Global, order: Order) -> Result<(), Failure> {
-    let mut rope = full_chunks(alloc)?;
-    expect_emptied_in(alloc, &mut rope, order)
-}
-
-#[test]
-fn chunks_emptied_from_the_last_to_the_first_are_joined(rt: HostRuntime) -> Result<(), Failure> {
-    expect_all_emptied(rt.alloc(), Order::FromTheLast)
-}
-
-#[test]
-fn chunks_emptied_from_the_first_to_the_last_are_joined(rt: HostRuntime) -> Result<(), Failure> {
-    expect_all_emptied(rt.alloc(), Order::FromTheFirst)
-}
-
-#[test]
-fn chunks_emptied_beside_clones_are_joined(rt: HostRuntime) -> Result<(), Failure> {
-    expect_all_emptied(rt.alloc(), Order::BesideClones)
 }
 
 #[test]
 fn chunks_emptied_in_jumps_are_joined(rt: HostRuntime) -> Result<(), Failure> {
-    expect_all_emptied(rt.alloc(), Order::InJumps)
-}
-
-#[test]
-fn chunks_emptied_letter_by_letter_are_joined(rt: HostRuntime) -> Result<(), Failure> {
-    expect_all_emptied(rt.alloc(), Order::ByLetters)
+    let mut rope = full_chunks(rt.alloc())?;
+    expect_ends_left(rt.alloc(), &mut rope)
 }
 
 /// The start of the random sequence of indices.

@@ -2,7 +2,6 @@
 //! to compare with, written from the rules alone; it is only proved to be safe.
 use crate::sums::plus;
 use rope_text::LineBreaks;
-use std::alloc::{AllocError, Global};
 
 /// Returns whether the character ends a line break.
 fn is_break(c: char, breaks: LineBreaks) -> bool {
@@ -141,16 +140,4 @@ pub fn place_of(text: &[char], char_idx: usize, breaks: LineBreaks) -> Place {
         place = place.after(*c, text, passed, breaks);
     }
     place
-}
-
-/// Returns all positions of a text, from its start to its end, by one pass.
-pub fn places(alloc: Global, text: &[char], breaks: LineBreaks) -> Result<Vec<Place>, AllocError> {
-    let mut all = Vec::new(alloc);
-    let mut place = START;
-    all.push(place)?;
-    for c in text.iter() {
-        place = place.after(*c, text, all.len(), breaks);
-        all.push(place)?;
-    }
-    Ok(all)
 }

@@ -4,7 +4,7 @@ use rope_plain::compare::{SETS, expect_few_chunks, expect_plain, lens};
 use rope_plain::failure::{Failure, within};
 use rope_plain::numbers::Numbers;
 use rope_plain::same;
-use rope_plain::texts::{random_text, repeated};
+use rope_plain::texts::random_text;
 use ropey::{LineBreaks, Rope, RopeBuilder};
 use std::alloc::Global;
 
@@ -110,53 +110,6 @@ fn a_builder_joins_pieces_and_ends_empty_without_any(rt: HostRuntime) -> Result<
     append_all(&mut builder)?;
     expect_finished(builder, [127, 103, 4, 103], Some(WHOLE))?;
     expect_finished(RopeBuilder::new(rt.alloc())?, [0, 0, 1, 0], None)
-}
-
-/// Fails unless two pieces after a number of letters make a rope of two chunks.
-fn expect_two_chunks(
-    alloc: Global,
-    letters: &str,
-    (first, second): (&str, &str),
-    expected: [usize; 4],
-) -> Result<(), Failure> {
-    expect_built(
-        alloc,
-        LineBreaks::Unicode,
-        |pair| {
-            pair.append(letters)?;
-            pair.append(first)?;
-            pair.append(second)
-        },
-        |rope| {
-            same!(lens(rope), expected);
-            same!(rope.chunks().count(), 2);
-            Ok(())
-        },
-    )
-}
-
-#[test]
-fn a_piece_after_a_nearly_full_leaf_begins_a_second(rt: HostRuntime) -> Result<(), Failure> {
-    let letters = repeated(rt.alloc(), "a", 983)?;
-    let letters = letters.as_str();
-    expect_two_chunks(rt.alloc(), letters, ("こ", ""), [986, 984, 1, 984])?;
-    expect_two_chunks(rt.alloc(), letters, ("\r", "\n"), [985, 985, 2, 985])
-}
-
-fn expect_two_lines(rope: &Rope) -> Result<(), Failure> {
-    same!(rope.len_lines(), 2);
-    same!(rope.line_breaks(), LineBreaks::Lf);
-    Ok(())
-}
-
-#[test]
-fn a_builder_by_lf_counts_lf_alone(rt: HostRuntime) -> Result<(), Failure> {
-    expect_built(
-        rt.alloc(),
-        LineBreaks::Lf,
-        |pair| pair.append("a\r\n"),
-        expect_two_lines,
-    )
 }
 
 /// The maximum lengths of a piece, in bytes.

@@ -94,10 +94,10 @@ fn expect_place(text: &str, chars: &[char], i: usize) -> Result<(), Failure> {
     expect_chars_at(text, chars, plus(byte, 1), plus(unit, 1))
 }
 
-/// Fails unless the conversions that don't depend on the set of line breaks are right, from the
-/// character `from` on.
-fn expect_places(text: &str, chars: &[char], from: usize) -> Result<(), Failure> {
-    for i in from..=chars.len() {
+/// Fails unless the conversions that don't depend on the set of line breaks are right, from one
+/// character to another.
+fn expect_places(text: &str, chars: &[char], (from, to): (usize, usize)) -> Result<(), Failure> {
+    for i in from..=to {
         within(format_args!("i {i}"), expect_place(text, chars, i))?;
     }
     expect_counts(text, chars)
@@ -131,16 +131,28 @@ fn expect_start(
     Ok(())
 }
 
-/// Fails unless all characters from `from` on are on their lines.
-fn expect_lines_from(
+/// Fails unless the characters from one to another are on their lines.
+fn expect_lines_between(
     text: &str,
     chars: &[char],
-    from: usize,
+    (from, to): (usize, usize),
     breaks: LineBreaks,
 ) -> Result<(), Failure> {
-    for i in from..=chars.len() {
+    for i in from..=to {
         within(format_args!("i {i}"), expect_line(text, chars, i, breaks))?;
     }
+    Ok(())
+}
+
+/// Fails unless a text has its counts by a set of line breaks.
+fn expect_info(text: &str, chars: &[char], breaks: LineBreaks) -> Result<(), Failure> {
+    let info = TextInfo {
+        bytes: text.len(),
+        chars: chars.len(),
+        utf16_surrogates: plain_text::surrogates_before(chars, chars.len()),
+        break_count: plain_text::char_to_line(chars, chars.len(), breaks),
+    };
+    same!(TextInfo::from_str(text, breaks), info);
     Ok(())
 }
 
@@ -158,32 +170,41 @@ fn expect_starts(text: &str, chars: &[char], breaks: LineBreaks) -> Result<(), F
 }
 
 /// Fails unless lines are right, by each set of line breaks.
-fn expect_lines(text: &str, chars: &[char], from: usize) -> Result<(), Failure> {
+fn expect_lines(text: &str, chars: &[char], places: (usize, usize)) -> Result<(), Failure> {
     for breaks in [LineBreaks::Lf, LineBreaks::CrLf, LineBreaks::Unicode] {
-        expect_lines_from(text, chars, from, breaks)?;
+        expect_lines_between(text, chars, places, breaks)?;
         expect_starts(text, chars, breaks)?;
+        expect_info(text, chars, breaks)?;
     }
     Ok(())
 }
 
-/// Fails unless the text with this number is right after `padding` letters `a`.
-fn expect_right(alloc: Global, padding: usize, len: usize, number: usize) -> Result<(), Failure> {
+/// The letters `a` before a text and after it.
+#[derive(Clone, Copy)]
+struct Padding {
+    before: usize,
+    after: usize,
+}
+
+/// Fails unless the text with this number is right between letters.
+fn expect_right(alloc: Global, padding: Padding, len: usize, number: usize) -> Result<(), Failure> {
     let mut sample = Sample {
         text: String::new(alloc),
         chars: Vec::new(alloc),
     };
-    sample.add_padding(padding)?;
+    sample.add_padding(padding.before)?;
     sample.add_text(len, number)?;
+    let places = (padding.before.saturating_sub(1), sample.chars.len());
+    sample.add_padding(padding.after)?;
     let text = sample.text.as_str();
-    let from = padding.saturating_sub(1);
-    expect_places(text, &sample.chars, from)?;
-    expect_lines(text, &sample.chars, from)
+    expect_places(text, &sample.chars, places)?;
+    expect_lines(text, &sample.chars, places)
 }
 
-/// Fails unless every text of `len` of the nine characters is right, after `padding` letters `a`.
+/// Fails unless every text of `len` of the nine characters is right between letters.
 fn expect_right_of_length(
     alloc: Global,
-    padding: usize,
+    padding: Padding,
     len: usize,
     count: usize,
 ) -> Result<(), Failure> {
@@ -196,38 +217,50 @@ fn expect_right_of_length(
     Ok(())
 }
 
-/// Fails unless every text of up to five of the nine characters is right, after `padding` letters
-/// `a`.
-fn expect_all_right(alloc: Global, padding: usize) -> Result<(), Failure> {
-    for (len, count) in TEXTS.iter().enumerate() {
+/// Fails unless every text of up to some length of the nine characters is right between letters.
+fn expect_all_right(alloc: Global, padding: Padding, counts: &[usize]) -> Result<(), Failure> {
+    for (len, count) in counts.iter().enumerate() {
         expect_right_of_length(alloc, padding, len, *count)?;
+    }
+    Ok(())
+}
+
+/// Fails unless this holds after each number of letters from `first` up to `end`.
+fn expect_right_after(
+    alloc: Global,
+    (first, end): (usize, usize),
+    after: usize,
+    counts: &[usize],
+) -> Result<(), Failure> {
+    for before in first..end {
+        let padding = Padding { before, after };
+        within(
+            format_args!("after {before} letters"),
+            expect_all_right(alloc, padding, counts),
+        )?;
     }
     Ok(())
 }
 
 #[test]
 fn every_text_of_up_to_five_characters_is_counted(rt: HostRuntime) -> Result<(), Failure> {
-    expect_all_right(rt.alloc(), 0)
+    expect_right_after(rt.alloc(), (0, 1), 0, &TEXTS)
 }
 
 #[test]
 fn every_text_across_a_block_is_counted(rt: HostRuntime) -> Result<(), Failure> {
-    for padding in 28..31 {
-        within(
-            format_args!("padding {padding}"),
-            expect_all_right(rt.alloc(), padding),
-        )?;
-    }
-    Ok(())
+    expect_right_after(rt.alloc(), (28, 31), 0, &TEXTS)
 }
 
 #[test]
 fn every_text_after_a_block_is_counted(rt: HostRuntime) -> Result<(), Failure> {
-    for padding in 31..34 {
-        within(
-            format_args!("padding {padding}"),
-            expect_all_right(rt.alloc(), padding),
-        )?;
-    }
-    Ok(())
+    expect_right_after(rt.alloc(), (31, 34), 0, &TEXTS)
+}
+
+/// The numbers of texts of 0 to 2 of the nine characters.
+const SHORT_TEXTS: [usize; 3] = [1, 9, 81];
+
+#[test]
+fn a_short_text_is_counted_at_each_offset_in_a_block(rt: HostRuntime) -> Result<(), Failure> {
+    expect_right_after(rt.alloc(), (0, 67), 40, &SHORT_TEXTS)
 }

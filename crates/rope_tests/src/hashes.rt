@@ -5,7 +5,6 @@ ghost use Rattle.rope_tests.specs.Writes.{first_or};
 use crate::ropes::{with_changed, with_made, with_repeated};
 use rope_plain::failure::Failure;
 use rope_plain::same;
-use rope_plain::sums::plus;
 use ropey::{Rope, RopeSlice};
 use std::alloc::Global;
 use std::cmp::Ordering;
@@ -97,25 +96,4 @@ fn expect_hashed_as_typed(alloc: Global, made: &Rope) -> Result<(), Failure> {
 fn a_hash_is_written_in_blocks_whatever_the_chunks(rt: HostRuntime) -> Result<(), Failure> {
     let alloc = rt.alloc();
     with_repeated(alloc, "a", 257, |made| expect_hashed_as_typed(alloc, made))
-}
-
-/// Returns the writes of a slice, if there is one.
-fn writes_of_slice(slice: Option<RopeSlice<'_>>) -> Option<(u64, u8)> {
-    match slice {
-        Some(slice) => Some(writes_of(&slice)),
-        None => None,
-    }
-}
-
-fn expect_slices_hashed_alike(rope: &Rope) -> Result<(), Failure> {
-    for start in 0..1_000usize {
-        let slice = rope.get_slice(start..plus(start, 600));
-        same!(writes_of_slice(slice), Some((256_256_088_001, 0xff)));
-    }
-    Ok(())
-}
-
-#[test]
-fn a_slice_is_hashed_alike_whatever_its_chunks(rt: HostRuntime) -> Result<(), Failure> {
-    with_repeated(rt.alloc(), "a", 2_600, expect_slices_hashed_alike)
 }

@@ -1,7 +1,5 @@
-//! UTF-8 checked at every position of a block: byte strings that Unicode's Table 3-7 classifies,
-//! and pseudorandom strings, against the standard library.
+//! UTF-8 checked at every position of a block: byte strings that Unicode's Table 3-7 classifies.
 use rope_plain::failure::{Failure, within};
-use rope_plain::numbers::Numbers;
 use rope_plain::sums::plus;
 use rope_plain::{holds, same};
 use rope_text::utf8::{front, text_of, valid_len};
@@ -158,61 +156,6 @@ fn wrong_bytes_are_refused_at_each_offset_in_a_block(rt: HostRuntime) -> Result<
         within(
             format_args!("least {least}"),
             expect_all_right(rt.alloc(), least, &WRONG, false),
-        )?;
-    }
-    Ok(())
-}
-
-/// Bytes at which tests of UTF-8 change.
-const TELLING: [u8; 24] = [
-    0x00, 0x7F, 0x80, 0x8F, 0x90, 0x9F, 0xA0, 0xBF, 0xC0, 0xC1, 0xC2, 0xDF, 0xE0, 0xE1, 0xEC, 0xED,
-    0xEE, 0xEF, 0xF0, 0xF1, 0xF3, 0xF4, 0xF5, 0xFF,
-];
-
-/// Returns up to some 130 bytes of characters, with up to one telling byte in a hundred steps, or
-/// in ten.
-fn random_bytes(alloc: Global, numbers: &mut Numbers) -> Result<Vec<u8>, AllocFailed<u8>> {
-    let mut bytes = Vec::new(alloc);
-    let rarity = if numbers.up_to(1) == 0 { 9 } else { 99 };
-    for _ in 0..numbers.up_to(50) {
-        if numbers.up_to(rarity) == 0 {
-            bytes.push(TELLING.get(numbers.up_to(23)).copied().unwrap_or(0))?;
-        } else {
-            let (character, len) = CHARACTERS
-                .get(numbers.up_to(17))
-                .copied()
-                .unwrap_or(([0; 4], 1));
-            for byte in character.iter().take(len) {
-                bytes.push(*byte)?;
-            }
-        }
-    }
-    Ok(bytes)
-}
-
-/// Fails unless the standard library agrees.
-fn expect_as_in_std(bytes: &[u8]) -> Result<(), Failure> {
-    match str::from_utf8(bytes) {
-        Ok(text) => expect_front(bytes, text.len()),
-        Err(error) => expect_front(bytes, error.valid_up_to()),
-    }
-}
-
-fn expect_right_of_random(alloc: Global, numbers: &mut Numbers) -> Result<(), Failure> {
-    let bytes = random_bytes(alloc, numbers)?;
-    expect_as_in_std(&bytes)
-}
-
-/// The start of the random sequence.
-const SEED: u64 = 0x9E37_79B9_7F4A_7C15;
-
-#[test]
-fn random_bytes_are_validated_as_by_the_standard_library(rt: HostRuntime) -> Result<(), Failure> {
-    let mut numbers = Numbers::new(SEED);
-    for round in 0..4_000 {
-        within(
-            format_args!("seed {SEED:#x}, round {round}"),
-            expect_right_of_random(rt.alloc(), &mut numbers),
         )?;
     }
     Ok(())

@@ -1,44 +1,12 @@
 //! Slices of ropes and of slices by each call that makes them, if there are any.
 use ropey::{Rope, RopeSlice};
 
-/// Returns the characters before `end`.
-pub fn front(rope: &Rope, end: usize) -> Option<RopeSlice<'_>> {
-    if rope.get_slice(..end).is_none() {
-        return None;
-    }
-    Some(rope.slice(..end))
-}
-
-/// Returns the characters from `start` on.
-pub fn back(rope: &Rope, start: usize) -> Option<RopeSlice<'_>> {
-    if rope.get_slice(start..).is_none() {
-        return None;
-    }
-    Some(rope.slice(start..))
-}
-
 /// Returns the characters from `start` up to `end`.
 pub fn between(rope: &Rope, start: usize, end: usize) -> Option<RopeSlice<'_>> {
     if rope.get_slice(start..end).is_none() {
         return None;
     }
     Some(rope.slice(start..end))
-}
-
-/// Returns the characters of the bytes before `end`.
-pub fn byte_front(rope: &Rope, end: usize) -> Option<RopeSlice<'_>> {
-    if rope.try_byte_slice(..end).is_err() {
-        return None;
-    }
-    Some(rope.byte_slice(..end))
-}
-
-/// Returns the characters of the bytes from `start` on.
-pub fn byte_back(rope: &Rope, start: usize) -> Option<RopeSlice<'_>> {
-    if rope.try_byte_slice(start..).is_err() {
-        return None;
-    }
-    Some(rope.byte_slice(start..))
 }
 
 /// Returns the characters of the bytes from `start` up to `end`.

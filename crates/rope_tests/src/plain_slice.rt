@@ -1,10 +1,10 @@
 //! The model of a slice: a list of characters, and the ends of chunks.
-use crate::plain_text::{char_to_line, place_of};
-use crate::sums::plus;
+use rope_plain::plain_text::{char_to_line, place_of};
+use rope_plain::sums::plus;
 use ropey::LineBreaks;
 
 /// A range of a text whose chunks are given by their ends.
-#[derive(Clone, Copy, Debug)]
+#[derive(Clone, Copy)]
 pub struct PlainSlice<'a> {
     /// The characters of the range alone.
     pub text: &'a [char],
@@ -71,53 +71,6 @@ impl<'a> PlainSlice<'a> {
             start = end;
         }
         (start, start)
-    }
-
-    /// Returns the start and end of the chunk with that index, or `None` past the last chunk.
-    fn chunk_place(&self, index: usize) -> Option<(usize, usize)> {
-        let mut start: usize = 0;
-        let mut count: usize = 0;
-        for end in self.ends {
-            let end = self.clipped(*end);
-            if start < end {
-                if count == index {
-                    return Some((start, end));
-                }
-                count = plus(count, 1);
-                start = end;
-            }
-        }
-        None
-    }
-
-    /// Returns the chunk with that index.
-    pub fn chunk(&self, index: usize) -> Option<&'a [char]> {
-        match self.chunk_place(index) {
-            Some((start, end)) => self.text.get(start..end),
-            None => None,
-        }
-    }
-
-    /// Returns the number of characters before the chunk with that index.
-    pub fn chunk_start(&self, index: usize) -> usize {
-        match self.chunk_place(index) {
-            Some((start, _)) => start,
-            None => self.text.len(),
-        }
-    }
-
-    /// Returns the number of chunks.
-    pub fn chunk_count(&self) -> usize {
-        let mut start: usize = 0;
-        let mut count: usize = 0;
-        for end in self.ends {
-            let end = self.clipped(*end);
-            if start < end {
-                count = plus(count, 1);
-                start = end;
-            }
-        }
-        count
     }
 
     /// Returns the numbers of bytes, characters and line breaks that end before an index.

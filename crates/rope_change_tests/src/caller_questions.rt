@@ -1,5 +1,4 @@
 //! The callers that query, and the one that reads and writes.
-use crate::ropes::with_rope;
 use rope_callers::checked::line_length;
 use rope_callers::files::{CopyError, copy_text};
 use rope_callers::lines::{all_fit, long_line_before};
@@ -39,7 +38,8 @@ fn expect_lines_both_ways(rope: &Rope) -> Result<(), Failure> {
 
 #[test]
 fn lines_are_read_forward_and_back(rt: HostRuntime) -> Result<(), Failure> {
-    with_rope(rt.alloc(), "one\nfour\nä\n", expect_lines_both_ways)
+    let rope = Rope::from_str(rt.alloc(), "one\nfour\nä\n")?;
+    expect_lines_both_ways(&rope)
 }
 
 fn expect_places(rope: &Rope) -> Result<(), Failure> {
@@ -56,7 +56,8 @@ fn expect_places(rope: &Rope) -> Result<(), Failure> {
 
 #[test]
 fn characters_and_positions_are_found(rt: HostRuntime) -> Result<(), Failure> {
-    with_rope(rt.alloc(), "a\n𝔸b", expect_places)
+    let rope = Rope::from_str(rt.alloc(), "a\n𝔸b")?;
+    expect_places(&rope)
 }
 
 fn expect_copied(alloc: Global, text: &[u8]) -> Result<(), Failure> {

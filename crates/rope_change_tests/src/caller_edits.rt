@@ -1,5 +1,4 @@
 //! The callers that make or change a text.
-use crate::ropes::{with_changed, with_made, with_rope};
 use rope_callers::copies::copy_without;
 use rope_callers::edits::titled;
 use rope_callers::first_edit::with_flowers;
@@ -13,21 +12,21 @@ use rope_position::Position;
 use ropey::{Error, Rope};
 use std::alloc::Global;
 
+fn expect_text(rope: &Rope, text: &str) -> Result<(), Failure> {
+    holds!(rope.eq_str(text));
+    Ok(())
+}
+
 #[test]
 fn a_title_stands_before_its_text(rt: HostRuntime) -> Result<(), Failure> {
-    let made = titled(rt.alloc(), "one\ntwo\n", "list\n");
-    with_made(made, |rope| {
-        holds!(rope.eq_str("list\none\ntwo\n"));
-        Ok(())
-    })
+    let rope = titled(rt.alloc(), "one\ntwo\n", "list\n")?;
+    expect_text(&rope, "list\none\ntwo\n")
 }
 
 #[test]
 fn a_line_is_replaced_by_another(rt: HostRuntime) -> Result<(), Failure> {
-    with_made(with_flowers(rt.alloc()), |rope| {
-        holds!(rope.eq_str("one\nflowers\nthree\n"));
-        Ok(())
-    })
+    let rope = with_flowers(rt.alloc())?;
+    expect_text(&rope, "one\nflowers\nthree\n")
 }
 
 fn expect_edits_inside(rope: &mut Rope) -> Result<(), Failure> {
@@ -55,22 +54,22 @@ fn expect_edits_and_removals(rope: &mut Rope) -> Result<(), Failure> {
 
 #[test]
 fn edits_are_made_at_indices_inside_the_text(rt: HostRuntime) -> Result<(), Failure> {
-    with_changed(rt.alloc(), "ä\nb\n", expect_edits_and_removals)
+    let mut rope = Rope::from_str(rt.alloc(), "ä\nb\n")?;
+    expect_edits_and_removals(&mut rope)
 }
 
 fn expect_a_copy(rope: &Rope) -> Result<(), Failure> {
     holds!(rope.len_chars() == 4);
-    with_made(copy_without(rope, 1, 3), |copy| {
-        holds!(copy.eq_str("ad"));
-        Ok(())
-    })?;
-    holds!(rope.eq_str("abcd"));
+    let copy = copy_without(rope, 1, 3)?;
+    let are_kept = copy.eq_str("ad") && rope.eq_str("abcd");
+    holds!(are_kept);
     Ok(())
 }
 
 #[test]
 fn a_copy_lacks_the_part_and_the_rope_keeps_it(rt: HostRuntime) -> Result<(), Failure> {
-    with_rope(rt.alloc(), "abcd", expect_a_copy)
+    let rope = Rope::from_str(rt.alloc(), "abcd")?;
+    expect_a_copy(&rope)
 }
 
 fn expect_two_inserts(history: &mut History) -> Result<(), Failure> {
@@ -125,6 +124,8 @@ fn expect_inserts_at_positions(rope: &mut Rope) -> Result<(), Failure> {
 
 #[test]
 fn edits_are_made_at_characters_and_positions_found(rt: HostRuntime) -> Result<(), Failure> {
-    with_changed(rt.alloc(), "ä=b=c", expect_inserts_before)?;
-    with_changed(rt.alloc(), "a\n𝔸b", expect_inserts_at_positions)
+    let mut sums = Rope::from_str(rt.alloc(), "ä=b=c")?;
+    expect_inserts_before(&mut sums)?;
+    let mut lines = Rope::from_str(rt.alloc(), "a\n𝔸b")?;
+    expect_inserts_at_positions(&mut lines)
 }

@@ -1,10 +1,11 @@
 //! The lookups of a rope at one index, compared with those of a list of characters, and the
 //! conversions that the tests of slices share.
-use crate::compare::chunk_of;
-use crate::failure::{Failure, expect_same, within};
-use crate::plain_text::{Place, place_of};
-use crate::sums::{minus, plus};
-use crate::{conversions_at, conversions_inside, holds, same, some};
+use crate::{conversions_at, conversions_inside};
+use rope_plain::compare::chunk_of;
+use rope_plain::failure::{Failure, expect_same, within};
+use rope_plain::plain_text::{Place, place_of};
+use rope_plain::sums::{minus, plus};
+use rope_plain::{holds, same, some};
 use ropey::{Error, Rope};
 
 /// The conversions of a rope or a slice at indices in each unit.

@@ -107,129 +107,104 @@ fn expect_refused(
     Ok(())
 }
 
-#[test]
-fn a_mark_says_the_encoding(rt: HostRuntime) -> Result<(), Fail> {
-    let alloc = rt.alloc();
-    expect_kept(&rt, alloc, b"", None, "", Encoding::Utf8)?;
-    expect_kept(&rt, alloc, b"a", None, "a", Encoding::Utf8)?;
-    expect_kept(
-        &rt,
-        alloc,
-        b"h\xC3\xA9llo\r\n",
-        None,
-        "h\u{E9}llo\r\n",
-        Encoding::Utf8,
-    )?;
-    expect_kept(&rt, alloc, b"\xEF\xBB\xBF", None, "", Encoding::Utf8Bom)?;
-    expect_kept(&rt, alloc, b"\xEF\xBB\xBFab", None, "ab", Encoding::Utf8Bom)?;
-    expect_kept(&rt, alloc, b"\xFF\xFE", None, "", Encoding::Utf16LeBom)?;
-    expect_kept(
-        &rt,
-        alloc,
-        b"\xFF\xFEa\0\n\0",
-        None,
-        "a\n",
-        Encoding::Utf16LeBom,
-    )?;
-    expect_kept(
-        &rt,
-        alloc,
-        b"\xFE\xFF\0a\0\n",
-        None,
-        "a\n",
-        Encoding::Utf16BeBom,
-    )?;
-    expect_kept(&rt, alloc, b"\xFE\xFF", None, "", Encoding::Utf16BeBom)
+/// Bytes, the declared encoding, the text, and the encoding found.
+type Kept<'a> = (&'a [u8], Option<Encoding>, &'a str, Encoding);
+
+fn expect_all_kept(rt: &impl Abort, alloc: Global, rows: &[Kept<'_>]) -> Result<(), Fail> {
+    for (bytes, declared, text, encoding) in rows {
+        expect_kept(rt, alloc, bytes, *declared, text, *encoding)?;
+    }
+    Ok(())
 }
 
-#[test]
-fn a_declaration_decides(rt: HostRuntime) -> Result<(), Fail> {
-    let alloc = rt.alloc();
-    let utf8 = Some(Encoding::Utf8);
-    expect_kept(
-        &rt,
-        alloc,
+/// Files whose mark, or its absence, says the encoding. A pair goes over the ends of reads.
+const MARKED: [Kept<'static>; 11] = [
+    (b"", None, "", Encoding::Utf8),
+    (b"a", None, "a", Encoding::Utf8),
+    (b"h\xC3\xA9llo\r\n", None, "h\u{E9}llo\r\n", Encoding::Utf8),
+    (b"\xEF\xBB\xBF", None, "", Encoding::Utf8Bom),
+    (b"\xEF\xBB\xBFab", None, "ab", Encoding::Utf8Bom),
+    (b"\xFF\xFE", None, "", Encoding::Utf16LeBom),
+    (b"\xFF\xFEa\0\n\0", None, "a\n", Encoding::Utf16LeBom),
+    (b"\xFE\xFF\0a\0\n", None, "a\n", Encoding::Utf16BeBom),
+    (b"\xFE\xFF", None, "", Encoding::Utf16BeBom),
+    (
+        b"\xFF\xFEx\0\x3D\xD8\x00\xDE\xAC\x20",
+        None,
+        "x\u{1F600}\u{20AC}",
+        Encoding::Utf16LeBom,
+    ),
+    (
+        b"\xFE\xFF\0x\xD8\x3D\xDE\x00\x20\xAC",
+        None,
+        "x\u{1F600}\u{20AC}",
+        Encoding::Utf16BeBom,
+    ),
+];
+
+/// Files whose encoding is declared, also against their mark.
+const DECLARED: [Kept<'static>; 5] = [
+    (
         b"\xEF\xBB\xBFab",
-        utf8,
+        Some(Encoding::Utf8),
         "\u{FEFF}ab",
         Encoding::Utf8,
-    )?;
-    let latin1 = Some(Encoding::Latin1);
-    expect_kept(
-        &rt,
-        alloc,
+    ),
+    (
         b"\xFF\xFEa\0",
-        latin1,
+        Some(Encoding::Latin1),
         "\u{FF}\u{FE}a\0",
         Encoding::Latin1,
-    )?;
-    let little = Some(Encoding::Utf16Le);
-    expect_kept(
-        &rt,
-        alloc,
+    ),
+    (
         b"a\0\xE9\0",
-        little,
+        Some(Encoding::Utf16Le),
         "a\u{E9}",
         Encoding::Utf16Le,
-    )?;
-    expect_kept(
-        &rt,
-        alloc,
+    ),
+    (
         b"\xFF\xFEa\0",
-        little,
+        Some(Encoding::Utf16Le),
         "\u{FEFF}a",
         Encoding::Utf16Le,
-    )?;
-    let big = Some(Encoding::Utf16Be);
-    expect_kept(&rt, alloc, b"\0a\0\xE9", big, "a\u{E9}", Encoding::Utf16Be)?;
-    expect_refused(&rt, alloc, b"a\0", Some(Encoding::Utf16LeBom), (2, 0))?;
-    expect_refused(
-        &rt,
-        alloc,
-        b"\xFE\xFF\0a",
-        Some(Encoding::Utf16LeBom),
-        (2, 0),
-    )?;
-    expect_refused(&rt, alloc, b"", Some(Encoding::Utf8Bom), (2, 0))?;
-    expect_refused(&rt, alloc, b"\xEF\xBB", Some(Encoding::Utf8Bom), (2, 0))
-}
+    ),
+    (
+        b"\0a\0\xE9",
+        Some(Encoding::Utf16Be),
+        "a\u{E9}",
+        Encoding::Utf16Be,
+    ),
+];
 
 #[test]
-fn pairs_are_read_over_the_ends_of_reads(rt: HostRuntime) -> Result<(), Fail> {
-    let alloc = rt.alloc();
-    let little = b"\xFF\xFEx\0\x3D\xD8\x00\xDE\xAC\x20";
-    expect_kept(
-        &rt,
-        alloc,
-        little,
-        None,
-        "x\u{1F600}\u{20AC}",
-        Encoding::Utf16LeBom,
-    )?;
-    let big = b"\xFE\xFF\0x\xD8\x3D\xDE\x00\x20\xAC";
-    expect_kept(
-        &rt,
-        alloc,
-        big,
-        None,
-        "x\u{1F600}\u{20AC}",
-        Encoding::Utf16BeBom,
-    )
+fn a_mark_or_a_declaration_says_the_encoding(rt: HostRuntime) -> Result<(), Fail> {
+    expect_all_kept(&rt, rt.alloc(), &MARKED)?;
+    expect_all_kept(&rt, rt.alloc(), &DECLARED)
 }
+
+/// Bytes that are refused, the declared encoding, and the error.
+const REFUSED: [(&[u8], Option<Encoding>, (u8, u64)); 13] = [
+    (b"a\0", Some(Encoding::Utf16LeBom), (2, 0)),
+    (b"\xFE\xFF\0a", Some(Encoding::Utf16LeBom), (2, 0)),
+    (b"", Some(Encoding::Utf8Bom), (2, 0)),
+    (b"\xEF\xBB", Some(Encoding::Utf8Bom), (2, 0)),
+    (b"\xFF\xFEa", None, (5, 2)),
+    (b"\xFF\xFEa\0b", None, (5, 4)),
+    (b"\xFE\xFF\0a\xD8\x3D", None, (4, 4)),
+    (b"\0a\xD8\x3D\xDE", Some(Encoding::Utf16Be), (4, 2)),
+    (b"\0a\xD8\x3D\0b", Some(Encoding::Utf16Be), (4, 2)),
+    (b"\xDE\x00\0b", Some(Encoding::Utf16Be), (4, 0)),
+    (b"\xD8\x3D\xD8\x3D\xDE\x00", Some(Encoding::Utf16Be), (4, 0)),
+    (b"ab\xC3", None, (3, 0)),
+    (b"\xEF\xBB\xBFab\xFFc", None, (3, 0)),
+];
 
 #[test]
 fn invalid_text_is_refused_at_its_offset(rt: HostRuntime) -> Result<(), Fail> {
-    let alloc = rt.alloc();
-    let big = Some(Encoding::Utf16Be);
-    expect_refused(&rt, alloc, b"\xFF\xFEa", None, (5, 2))?;
-    expect_refused(&rt, alloc, b"\xFF\xFEa\0b", None, (5, 4))?;
-    expect_refused(&rt, alloc, b"\xFE\xFF\0a\xD8\x3D", None, (4, 4))?;
-    expect_refused(&rt, alloc, b"\0a\xD8\x3D\xDE", big, (4, 2))?;
-    expect_refused(&rt, alloc, b"\0a\xD8\x3D\0b", big, (4, 2))?;
-    expect_refused(&rt, alloc, b"\xDE\x00\0b", big, (4, 0))?;
-    expect_refused(&rt, alloc, b"\xD8\x3D\xD8\x3D\xDE\x00", big, (4, 0))?;
-    expect_refused(&rt, alloc, b"ab\xC3", None, (3, 0))?;
-    expect_refused(&rt, alloc, b"\xEF\xBB\xBFab\xFFc", None, (3, 0))
+    for (bytes, declared, error) in &REFUSED {
+        expect_refused(&rt, rt.alloc(), bytes, *declared, *error)?;
+    }
+    Ok(())
 }
 
 #[test]

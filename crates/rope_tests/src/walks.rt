@@ -1,17 +1,17 @@
 //! Random walks of cursors over random ropes, slices and plain texts, against plain lists of their
 //! items.
-use crate::compare::expect_whole;
+use crate::plain_cursor::PlainCursor;
+use crate::plain_slice::PlainSlice;
 use crate::random_slices::{edited, random_range, slice_of};
+use crate::slice_model::expect_whole;
+use crate::walker::{Item, Walker};
 use rope_plain::compare::SETS;
 use rope_plain::failure::{Failure, within};
 use rope_plain::numbers::Numbers;
 use rope_plain::pair::Pair;
-use rope_plain::plain_cursor::PlainCursor;
-use rope_plain::plain_slice::PlainSlice;
 use rope_plain::plain_text::{char_to_byte, char_to_line, line_to_char};
 use rope_plain::sums::plus;
 use rope_plain::texts::{chars_of, expect_chars, random_text};
-use rope_plain::walker::{Item, Walker};
 use rope_plain::{same, some};
 use ropey::{LineBreaks, RopeSlice};
 use std::alloc::{AllocError, Global};

@@ -1,8 +1,8 @@
 //! The model of a cursor: an index in a list, and a direction.
 
-use crate::sums::plus;
+use rope_plain::sums::plus;
 /// An index among `len` items.
-#[derive(Clone, Copy, Debug)]
+#[derive(Clone, Copy)]
 pub struct PlainCursor {
     len: usize,
     place: usize,

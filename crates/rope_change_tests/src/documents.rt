@@ -67,6 +67,22 @@ fn whole(text: &str) -> ContentChange<'_> {
     }
 }
 
+// Fails unless a text becomes another one by a list, and by the change that is made of the list.
+fn expect_received(
+    rt: &impl Abort,
+    alloc: Global,
+    text: &str,
+    changes: &[ContentChange<'_>],
+    encoding: Encoding,
+    after: &str,
+) {
+    let mut rope = document(rt, alloc, text);
+    let mut copy = rope.clone().expect(rt, "there is memory");
+    let change = receive(rt, alloc, &mut rope, changes, encoding);
+    apply(rt, &change, &mut copy);
+    assert!(rt; rope.eq_str(after) && copy.eq_str(after));
+}
+
 #[test]
 fn columns_count_code_units(rt: HostRuntime) -> Result<(), Fail> {
     let columns = [
@@ -75,54 +91,42 @@ fn columns_count_code_units(rt: HostRuntime) -> Result<(), Fail> {
         (Encoding::Utf32, 2),
     ];
     for (encoding, column) in columns {
-        let mut rope = document(&rt, rt.alloc(), "a😀b\r\ncd");
         let changes = [part((0, 1), (0, column), "x")];
-        let change = receive(&rt, rt.alloc(), &mut rope, &changes, encoding);
-        assert!(rt; rope.eq_str("axb\r\ncd"));
-        assert_eq!(rt; [change.len_before(), change.len_after()], [7, 7]);
+        expect_received(
+            &rt,
+            rt.alloc(),
+            "a😀b\r\ncd",
+            &changes,
+            encoding,
+            "axb\r\ncd",
+        );
     }
     Ok(())
 }
 
 #[test]
-fn a_position_is_in_the_text_after_the_previous_change(rt: HostRuntime) -> Result<(), Fail> {
-    let mut rope = document(&rt, rt.alloc(), "one two\r\nthree");
-    let mut before = rope.clone().expect(&rt, "there is memory");
-    let changes = [
+fn changes_are_made_one_after_the_other(rt: HostRuntime) -> Result<(), Fail> {
+    let parts = [
         part((0, 3), (0, 4), "\r\n"),
         part((1, 0), (1, 3), "2"),
         part((1, 1), (2, 2), ", "),
         part((1, 6), (1, 6), "!"),
     ];
-    let change = receive(&rt, rt.alloc(), &mut rope, &changes, Encoding::Utf16);
-    assert!(rt; rope.eq_str("one\r\n2, ree!"));
-    apply(&rt, &change, &mut before);
-    assert!(rt; before.eq_str("one\r\n2, ree!"));
-    Ok(())
-}
-
-#[test]
-fn positions_past_the_end_are_clamped(rt: HostRuntime) -> Result<(), Fail> {
-    let mut rope = document(&rt, rt.alloc(), "one\r\ntwo");
-    let changes = [part((0, 9), (0, 9), "!"), part((9, 0), (9, 9), "?")];
-    receive(&rt, rt.alloc(), &mut rope, &changes, Encoding::Utf16);
-    assert!(rt; rope.eq_str("one!\r\ntwo?"));
-    Ok(())
-}
-
-#[test]
-fn a_whole_text_is_replaced(rt: HostRuntime) -> Result<(), Fail> {
-    let mut rope = document(&rt, rt.alloc(), "one\r\ntwo");
-    let changes = [
+    let clamped = [part((0, 9), (0, 9), "!"), part((9, 0), (9, 9), "?")];
+    let replaced = [
         part((0, 0), (0, 3), "1"),
         whole("new\ntext"),
         part((1, 0), (1, 0), "the "),
     ];
-    receive(&rt, rt.alloc(), &mut rope, &changes, Encoding::Utf16);
-    assert!(rt; rope.eq_str("new\nthe text"));
-    let none = receive(&rt, rt.alloc(), &mut rope, &[], Encoding::Utf16);
-    assert!(rt; none.is_empty());
-    assert_eq!(rt; none.len_before(), 12);
+    let rows = [
+        ("one two\r\nthree", parts.as_slice(), "one\r\n2, ree!"),
+        ("one\r\ntwo", clamped.as_slice(), "one!\r\ntwo?"),
+        ("one\r\ntwo", replaced.as_slice(), "new\nthe text"),
+        ("one\r\ntwo", &[], "one\r\ntwo"),
+    ];
+    for (text, changes, after) in rows {
+        expect_received(&rt, rt.alloc(), text, changes, Encoding::Utf16, after);
+    }
     Ok(())
 }
 
@@ -144,23 +148,47 @@ fn a_range_that_ends_before_its_start_is_refused(rt: HostRuntime) -> Result<(), 
     Ok(())
 }
 
+// Returns a change of a text of seven characters, of two ranges.
+fn two_replacements(
+    rt: &impl Abort,
+    alloc: Global,
+    first: (usize, usize, &str),
+    second: (usize, usize, &str),
+) -> ChangeSet {
+    let mut change = ChangeSet::new(alloc, 7).expect(rt, "the text fits");
+    change
+        .replace(first.0, first.1, first.2)
+        .expect(rt, "the range is in order");
+    change
+        .replace(second.0, second.1, second.2)
+        .expect(rt, "the range is in order");
+    change
+}
+
+// Fails unless an item of a list has this range and this text.
+fn expect_item(
+    rt: &impl Abort,
+    item: Option<&ContentChange<'_>>,
+    range: Option<Range>,
+    text: &str,
+) {
+    let item = item.expect(rt, "there is such an item");
+    assert!(rt; item.range == range && item.text.as_str() == text);
+}
+
 #[test]
 fn the_last_replacement_comes_first(rt: HostRuntime) -> Result<(), Fail> {
     let rope = document(&rt, rt.alloc(), "a😀b\r\ncd");
-    let mut change = ChangeSet::new(rt.alloc(), 7).expect(&rt, "the text fits");
-    change
-        .replace(2, 3, "x")
-        .expect(&rt, "the range is in order");
-    change
-        .replace(5, 6, "")
-        .expect(&rt, "the range is in order");
+    let change = two_replacements(&rt, rt.alloc(), (2, 3, "x"), (5, 6, ""));
     let list = send(&rt, rt.alloc(), &change, &rope, Encoding::Utf16);
     assert_eq!(rt; list.len(), 2);
-    assert_eq!(rt; list[0].range, range((1, 0), (1, 1)));
-    assert_eq!(rt; list[0].text.as_str(), "");
-    assert_eq!(rt; list[1].range, range((0, 3), (0, 4)));
-    assert_eq!(rt; list[1].text.as_str(), "x");
-    assert!(rt; matches!(list[1].text, CowStr::Borrowed(_)));
+    expect_item(&rt, list.get(0), range((1, 0), (1, 1)), "");
+    expect_item(&rt, list.get(1), range((0, 3), (0, 4)), "x");
+    let is_borrowed = match list.last() {
+        Some(item) => matches!(item.text, CowStr::Borrowed(_)),
+        None => false,
+    };
+    assert!(rt; is_borrowed);
     let short = document(&rt, rt.alloc(), "a");
     let wrong = to_content_changes(rt.alloc(), &change, &short, Encoding::Utf16);
     assert_eq!(rt; wrong.err(), Some(DocumentError::LengthDiffers(7, 1)));
@@ -170,22 +198,19 @@ fn the_last_replacement_comes_first(rt: HostRuntime) -> Result<(), Fail> {
 #[test]
 fn a_replacement_inside_a_break_is_sent_with_the_whole_break(rt: HostRuntime) -> Result<(), Fail> {
     let rope = document(&rt, rt.alloc(), "a\r\nb\r\nc");
-    let mut change = ChangeSet::new(rt.alloc(), 7).expect(&rt, "the text fits");
-    change
-        .replace(1, 2, "")
-        .expect(&rt, "the range is in order");
-    change
-        .replace(5, 5, "x")
-        .expect(&rt, "the range is in order");
+    let change = two_replacements(&rt, rt.alloc(), (1, 2, ""), (5, 5, "x"));
     let list = send(&rt, rt.alloc(), &change, &rope, Encoding::Utf16);
     assert_eq!(rt; list.len(), 2);
-    assert_eq!(rt; list[0].range, range((1, 1), (2, 0)));
-    assert_eq!(rt; list[0].text.as_str(), "\rx\n");
-    assert_eq!(rt; list[1].range, range((0, 1), (1, 0)));
-    assert_eq!(rt; list[1].text.as_str(), "\n");
-    let mut peer = rope.clone().expect(&rt, "there is memory");
-    receive(&rt, rt.alloc(), &mut peer, list.as_slice(), Encoding::Utf16);
-    assert!(rt; peer.eq_str("a\nb\rx\nc"));
+    expect_item(&rt, list.get(0), range((1, 1), (2, 0)), "\rx\n");
+    expect_item(&rt, list.get(1), range((0, 1), (1, 0)), "\n");
+    expect_received(
+        &rt,
+        rt.alloc(),
+        "a\r\nb\r\nc",
+        list.as_slice(),
+        Encoding::Utf16,
+        "a\nb\rx\nc",
+    );
     Ok(())
 }
 

@@ -1,5 +1,5 @@
 //! Sums over the items of cursors.
-use crate::sums::plus;
+use rope_plain::sums::plus;
 use ropey::iter::{Bytes, Chars, Chunks, Lines};
 
 /// Returns the number of bytes of all chunks that a cursor still gives.

@@ -1,14 +1,15 @@
 //! Slices compared with the model.
 use crate::cuts::lens;
-use rope_plain::failure::{Failure, within};
-use rope_plain::places::{
+use crate::places::{
     conversion_errors, expect_same_conversions, expected_conversions, first_byte, last_indices,
 };
-use rope_plain::plain_slice::PlainSlice;
+use crate::plain_slice::PlainSlice;
+use crate::{conversions_at, conversions_inside};
+use rope_plain::failure::{Failure, within};
 use rope_plain::plain_text::{Place, place_of};
 use rope_plain::sums::{minus, plus};
 use rope_plain::texts::expect_chars;
-use rope_plain::{conversions_at, conversions_inside, same, some};
+use rope_plain::{same, some};
 use ropey::RopeSlice;
 
 /// Fails unless the lengths, the set of line breaks, the text if it is one chunk, and the indices

@@ -1,11 +1,11 @@
 //! Random slices of slices, of ropes and of plain texts, against the model.
-use crate::compare::{expect_lookups_at, expect_whole};
 use crate::cuts::{between, byte_between, byte_part, part};
+use crate::plain_slice::PlainSlice;
+use crate::slice_model::{expect_lookups_at, expect_whole};
 use rope_plain::compare::SETS;
 use rope_plain::failure::{Failure, within};
 use rope_plain::numbers::Numbers;
 use rope_plain::pair::Pair;
-use rope_plain::plain_slice::PlainSlice;
 use rope_plain::plain_text::char_to_byte;
 use rope_plain::some;
 use rope_plain::sums::{minus, plus};

@@ -1,0 +1,55 @@
+//! Cursors over short ropes and slices.
+use crate::items::{bytes_of_chunks, bytes_of_lines, count_byte, count_char};
+use rope_plain::failure::Failure;
+use rope_plain::{same, some};
+use ropey::Rope;
+use ropey::iter::Chars;
+
+fn expect_chars_back(from_third: Option<Chars<'_>>) -> Result<(), Failure> {
+    let cursor = some!(from_third);
+    let mut chars = cursor.reversed();
+    same!(chars.size_hint(), (2, Some(2)));
+    same!(chars.len(), 2);
+    let steps = [chars.next(), chars.next(), chars.next(), chars.prev()];
+    same!(steps, [Some('b'), Some('a'), None, Some('a')]);
+    Ok(())
+}
+
+#[test]
+fn characters_are_returned_backward_by_a_reversed_cursor(rt: HostRuntime) -> Result<(), Failure> {
+    let rope = Rope::from_str(rt.alloc(), "ab\ncd")?;
+    expect_chars_back(rope.get_chars_at(2))
+}
+
+fn expect_clone_steps(rope: &Rope) -> Result<(), Failure> {
+    let mut chars = rope.chars();
+    let mut copied = chars.clone()?;
+    same!(
+        [chars.next(), chars.next(), copied.next(), chars.next()],
+        [Some('a'), Some('b'), Some('a'), Some('\n')]
+    );
+    Ok(())
+}
+
+#[test]
+fn clones_step_independently(rt: HostRuntime) -> Result<(), Failure> {
+    let rope = Rope::from_str(rt.alloc(), "ab\ncd")?;
+    expect_clone_steps(&rope)
+}
+
+fn expect_all_looped_over(rope: &Rope) -> Result<(), Failure> {
+    let bytes = [bytes_of_chunks(rope.chunks()), bytes_of_lines(rope.lines())];
+    let counts = [
+        count_byte(rope.bytes(), 0xA9),
+        count_char(rope.chars(), 'b'),
+    ];
+    same!(bytes, [8, 8]);
+    same!(counts, [1, 2]);
+    Ok(())
+}
+
+#[test]
+fn loops_visit_every_item(rt: HostRuntime) -> Result<(), Failure> {
+    let rope = Rope::from_str(rt.alloc(), "ab\ncdb\u{e9}")?;
+    expect_all_looped_over(&rope)
+}
