@@ -87,6 +87,18 @@ pub can_all : (l : Layout) (text : List ℕ) → unencodable_in (Some l) text �
 can_all Bytes text e = record { index = 0; can = λ _. e }
 can_all (CodeUnits o) text e = record { index = 0; can = λ same. cc }
 
+-- before the first character
+pub gather_none : (l : Layout) (start now : Option (List ℕ)) (mark text ahead gathered : List ℕ)
+    → ahead ≡ text → gathered ≡ [] → Appends start now mark
+    → IsGathering l start now mark text ahead gathered
+gather_none l start now mark text ahead gathered all none p = record {
+  sent = mark;
+  before = [];
+  passed = sym all;
+  whole = ap (λ xs. mark ++ xs) none;
+  appended = p;
+}
+
 module _ (l : Layout) (start now new : Option (List ℕ)) (mark text gathered : List ℕ) where
   -- one more character
   pub gather_more : (ahead more sent_now kept after : List ℕ) (c : ℕ)
