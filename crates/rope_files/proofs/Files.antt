@@ -256,9 +256,9 @@ read_beside (Ok rope) encoding (Err e) h = absurd h
 read_beside (Err e) encoding (Ok file) h = absurd h
 read_beside (Err e) encoding (Err same) h = (
   λ x. err_read (RopeView × Encoding) RopeView e
-  (subst (λ y. IsReadFailure {R = RopeView × Encoding} (Err y)) h x),
+      (subst (λ y. IsReadFailure {R = RopeView × Encoding} (Err y)) h x),
   λ x. subst (λ y. IsReadFailure {R = RopeView × Encoding} (Err y)) (sym h)
-  (err_read RopeView (RopeView × Encoding) e x),
+      (err_read RopeView (RopeView × Encoding) e x),
 )
 
 never_both : (b : Bool) → b ≡ false → b ≡ true → ⊥

@@ -59,7 +59,7 @@ returns-clause-front g c =
 pub loop-c-init : goal.loop-c-init
 loop-c-init g c =
     let all : ahead c.into_iter-c-iterator.result ≡ c.args.rope.now.text =
-        ap ahead (c.into_iter-c-iterator.ensures.into_iter_gives ∙ c.chars-c-items.ensures) in
+    ap ahead (c.into_iter-c-iterator.ensures.into_iter_gives ∙ c.chars-c-items.ensures) in
     let w = c.in_ok-write_bytes.ensures.failure in
     record {
       gathering = gather_none c.args.layout _ _ c.args.mark.now c.args.rope.now.text
@@ -78,14 +78,14 @@ pub returns-in_err-make_room-clause-failure : goal.returns-in_err-make_room-clau
 returns-in_err-make_room-clause-failure g c = (
   search rules,
   c.in_err-make_room.ensures.failure.1
-  ∙ ap (count_failure (g.S.Mark.failure c.make_room.new.sink))
-  c.loop-c.invariant.none_failed.same,
+      ∙ ap (count_failure (g.S.Mark.failure c.make_room.new.sink))
+      c.loop-c.invariant.none_failed.same,
 )
 
 pub returns-clause-failure : goal.returns-clause-failure
 returns-clause-failure g c = (
   c.write_bytes-2.ensures.failure.0,
   c.write_bytes-2.ensures.failure.1
-  ∙ ap (count_failure (g.S.Mark.failure c.write_bytes-2.new.sink))
-  c.loop-c.invariant.none_failed.same,
+      ∙ ap (count_failure (g.S.Mark.failure c.write_bytes-2.new.sink))
+      c.loop-c.invariant.none_failed.same,
 )
