@@ -1,5 +1,5 @@
 -- A file whose first bytes were looked at.
-use Rattle.std.proofs.Common.{◌≡◌, ℕ, ◌+◌, ◌≤◌, ◌⊎◌, Bool, true, false, List, [], ◌∷◌, ◌++◌, length, take, drop, nat_eq, refl, sym, ap, subst, ◌∙◌, append_assoc, arith, inl, inr, Option, Some, None, Result, Ok, Err, IfOk}
+use Rattle.std.proofs.Common.{◌≡◌, ℕ, ◌+◌, ◌≤◌, ◌⊎◌, Bool, true, false, List, [], ◌∷◌, ◌++◌, length, take, drop, nat_eq, refl, sym, ap, subst, ◌∙◌, append_assoc, arith, inl, inr, Option, Some, None, Result, Ok, Err, IfOk, if◌then◌else◌}
 use Rattle.std.specs.Option.{unwrap_or}
 use Rattle.std.proofs.lemmas.Bool.Decides.{Decides-eqb}
 use Rattle.std.proofs.lemmas.List.{append-nil, length-append, take-append-le}
@@ -9,10 +9,12 @@ use Rattle.std.specs.List.{starts_with}
 use Rattle.std.specs.Str.{encode_utf8_all}
 use Rattle.rope_files.specs.Encodings.{mark_of, marked_encoding, encode, encode_unmarked, layout_of}
 use Rattle.rope_files.specs.Layouts.{laid_out}
-use Rattle.rope_files.specs.Reading.{AreBytes, Answers, Gives, IsEncodingOf, ReadsAny, ReadsBeside, ReturnsEncoding, text_read}
+use Rattle.rope_files.specs.Reading.{any_failure, AreBytes, Answers, FailedAs, Gives, IsEncodingOf, IsReadFailure, ReadsAny, ReadsBeside, ReturnsEncoding, text_read}
 use Rattle.rope_files.specs.declared.error.ReadAnyError.{ReadAnyError}
 use Rattle.rope_files.specs.declared.error.ReadAnyError.TheVariants.{Read, NoMark, InvalidUtf8, UnpairedSurrogate, HalfCodeUnit, Rope}
-use Rattle.ropey.specs.View.{RopeView, text_of}
+use Rattle.rope_io.specs.declared.device.Failure.{Failure}
+use Rattle.rope_text.specs.declared.line_breaks.LineBreaks.{LineBreaks}
+use Rattle.ropey.specs.View.{IsBuilt, RopeView, text_of}
 use Rattle.rope_files.specs.declared.encoding.Encoding.{Encoding}
 use Rattle.rope_files.specs.declared.encoding.Encoding.TheVariants.{Utf8, Utf8Bom, Utf16Le, Utf16LeBom, Utf16Be, Utf16BeBom, Latin1}
 use Rattle.rope_files.specs.declared.layout.Layout.{Layout}
@@ -205,3 +207,83 @@ pub reads_encoding : (declared : Option Encoding) (before left : Option (List �
 reads_encoding declared before left failed (Err e) a = tt
 reads_encoding declared before left failed (Ok file) a = subst (IsEncodingOf declared before)
     (sym a.2) a.1
+
+-- a result with the encoding beside its rope says of failures what the one without it says
+err_failure : (e : ReadAnyError)
+    → any_failure {R = RopeView} (Err e) ≡ any_failure {R = RopeView × Encoding} (Err e)
+err_failure (Read e) = refl
+err_failure NoMark = refl
+err_failure InvalidUtf8 = refl
+err_failure (UnpairedSurrogate at) = refl
+err_failure (HalfCodeUnit at) = refl
+err_failure (Rope e) = refl
+
+pub failure_beside : (r : Result RopeView ReadAnyError) (encoding : Encoding)
+    (f : Result (RopeView × Encoding) ReadAnyError) → ReadsBeside r encoding f
+    → any_failure r ≡ any_failure f
+failure_beside (Ok rope) encoding (Ok file) h = refl
+failure_beside (Ok rope) encoding (Err e) h = absurd h
+failure_beside (Err e) encoding (Ok file) h = absurd h
+failure_beside (Err e) encoding (Err same) h =
+    err_failure e ∙ ap (λ x. any_failure {R = RopeView × Encoding} (Err x)) (sym h)
+
+-- the failure of a source, which a quiet reader hides
+pub failed_as : {R : Type 0} (quiet : Bool) (known : Option Failure) (f : Result R ReadAnyError)
+    → (if quiet then None else known) ≡ any_failure f → FailedAs f known
+failed_as quiet known (Ok r) h = tt
+failed_as true known (Err (Read e)) h = cc
+failed_as false known (Err (Read e)) h = h
+failed_as quiet known (Err NoMark) h = tt
+failed_as quiet known (Err InvalidUtf8) h = tt
+failed_as quiet known (Err (UnpairedSurrogate at)) h = tt
+failed_as quiet known (Err (HalfCodeUnit at)) h = tt
+failed_as quiet known (Err (Rope e)) h = tt
+
+err_read : (A B : Type 0) (e : ReadAnyError) → IsReadFailure {R = A} (Err e)
+    → IsReadFailure {R = B} (Err e)
+err_read A B (Read e) h = tt
+err_read A B NoMark h = absurd h
+err_read A B InvalidUtf8 h = absurd h
+err_read A B (UnpairedSurrogate at) h = absurd h
+err_read A B (HalfCodeUnit at) h = absurd h
+err_read A B (Rope e) h = absurd h
+
+pub read_beside : (r : Result RopeView ReadAnyError) (encoding : Encoding)
+    (f : Result (RopeView × Encoding) ReadAnyError) → ReadsBeside r encoding f
+    → (IsReadFailure f → IsReadFailure r) × (IsReadFailure r → IsReadFailure f)
+read_beside (Ok rope) encoding (Ok file) h = (λ x. x, λ x. x)
+read_beside (Ok rope) encoding (Err e) h = absurd h
+read_beside (Err e) encoding (Ok file) h = absurd h
+read_beside (Err e) encoding (Err same) h = (
+  λ x. err_read (RopeView × Encoding) RopeView e
+      (subst (λ y. IsReadFailure {R = RopeView × Encoding} (Err y)) h x),
+  λ x. subst (λ y. IsReadFailure {R = RopeView × Encoding} (Err y)) (sym h)
+      (err_read RopeView (RopeView × Encoding) e x),
+)
+
+never_both : (b : Bool) → b ≡ false → b ≡ true → ⊥
+never_both b e f = cc
+
+pub fails_as : (spell : List ℕ → List ℕ) (layout : Option Layout) (mark : ℕ) (bytes : List ℕ)
+    (left : Option (List ℕ)) (failed : Bool) (r : Result RopeView ReadAnyError)
+    → Answers text_of spell layout mark bytes left failed r
+    → (IsReadFailure r → failed ≡ true) × (failed ≡ true → IsReadFailure r)
+fails_as spell layout mark bytes left failed (Ok rope) a = (λ x. absurd x, never_both failed a.0)
+fails_as spell layout mark bytes left failed (Err (Read e)) a = (λ _. a.0, λ _. tt)
+fails_as spell layout mark bytes left failed (Err NoMark) a = absurd a
+fails_as spell layout mark bytes left failed (Err InvalidUtf8) a =
+    (λ x. absurd x, never_both failed a.0)
+fails_as spell layout mark bytes left failed (Err (UnpairedSurrogate at)) a =
+    (λ x. absurd x, never_both failed a.0)
+fails_as spell layout mark bytes left failed (Err (HalfCodeUnit at)) a =
+    (λ x. absurd x, never_both failed a.0)
+fails_as spell layout mark bytes left failed (Err (Rope e)) a =
+    (λ x. absurd x, never_both failed a.0)
+
+pub built_beside : (breaks : LineBreaks) (r : Result RopeView ReadAnyError) (encoding : Encoding)
+    (f : Result (RopeView × Encoding) ReadAnyError) → ReadsBeside r encoding f
+    → IfOk r (IsBuilt breaks) → IfOk f (λ file. IsBuilt breaks file.0)
+built_beside breaks (Ok rope) encoding (Ok file) h k = subst (IsBuilt breaks) (sym h.0) k
+built_beside breaks (Ok rope) encoding (Err e) h k = absurd h
+built_beside breaks (Err e) encoding (Ok file) h k = absurd h
+built_beside breaks (Err e) encoding (Err same) h k = tt

@@ -7,8 +7,11 @@ use Rattle.std.specs.Io.KnownBytes.{Appends}
 use Rattle.std.specs.declared.io.Error.{Error}
 use Rattle.rope_io.specs.Writing.{AppendsFront}
 use Rattle.rope_io.specs.declared.device.Failure.{Failure}
-use Rattle.rope_files.specs.Layouts.{laid_out, char_bytes}
+use Rattle.rope_files.specs.Encodings.{encode, layout_of, mark_of}
+use Rattle.rope_files.specs.Layouts.{laid_out, char_bytes, bytes_in}
 use Rattle.rope_files.specs.Writing.{first_above, unencodable_in}
+use Rattle.rope_files.specs.declared.encoding.Encoding.{Encoding}
+use Rattle.rope_files.specs.declared.encoding.Encoding.TheVariants.{Utf8, Utf8Bom, Utf16Le, Utf16LeBom, Utf16Be, Utf16BeBom, Latin1}
 use Rattle.rope_files.specs.declared.layout.Layout.{Layout}
 use Rattle.rope_files.specs.declared.layout.Layout.TheVariants.{Bytes, CodeUnits}
 use Rattle.rope_files.proofs.Decodings.{laid_out-append}
@@ -84,6 +87,18 @@ pub can_all : (l : Layout) (text : List ℕ) → unencodable_in (Some l) text �
 can_all Bytes text e = record { index = 0; can = λ _. e }
 can_all (CodeUnits o) text e = record { index = 0; can = λ same. cc }
 
+-- before the first character
+pub gather_none : (l : Layout) (start now : Option (List ℕ)) (mark text ahead gathered : List ℕ)
+    → ahead ≡ text → gathered ≡ [] → Appends start now mark
+    → IsGathering l start now mark text ahead gathered
+gather_none l start now mark text ahead gathered all none p = record {
+  sent = mark;
+  before = [];
+  passed = sym all;
+  whole = ap (λ xs. mark ++ xs) none;
+  appended = p;
+}
+
 module _ (l : Layout) (start now new : Option (List ℕ)) (mark text gathered : List ℕ) where
   -- one more character
   pub gather_more : (ahead more sent_now kept after : List ℕ) (c : ℕ)
@@ -129,3 +144,33 @@ module _ (l : Layout) (start now new : Option (List ℕ)) (mark text gathered : 
 pub on_ok : {A B : Type 0} (r : Result (Unit {0}) Error) → OnOk r A → (A → B) → OnOk r B
 on_ok (Ok u) p f = f p
 on_ok (Err e) p f = tt
+
+in_encoding : (e : Encoding) (text : List ℕ)
+    → mark_of e ++ bytes_in (layout_of e) text ≡ encode e text
+in_encoding Utf8 text = refl
+in_encoding Utf8Bom text = refl
+in_encoding Utf16Le text = refl
+in_encoding Utf16LeBom text = refl
+in_encoding Utf16Be text = refl
+in_encoding Utf16BeBom text = refl
+in_encoding Latin1 text = refl
+
+-- the mark and the bytes in the layout of an encoding are those of a file in it
+pub encoded : (e : Encoding) (layout : Option Layout) (mark text : List ℕ) → layout ≡ layout_of e
+    → mark ≡ mark_of e → mark ++ bytes_in layout text ≡ encode e text
+encoded e layout mark text p q = ap (λ l. mark ++ bytes_in l text) p
+    ∙ ap (λ m. m ++ bytes_in (layout_of e) text) q ∙ in_encoding e text
+
+pub appends_encoded : (old mid new : Option (List ℕ)) (e : Encoding) (layout : Option Layout)
+    (mark text : List ℕ) → mid ≡ old → layout ≡ layout_of e → mark ≡ mark_of e
+    → Appends mid new (mark ++ bytes_in layout text) → Appends old new (encode e text)
+appends_encoded old mid new e layout mark text same p q h =
+    subst (λ o. Appends o new (encode e text)) same
+    (subst (Appends mid new) (encoded e layout mark text p q) h)
+
+pub front_encoded : (old mid new : Option (List ℕ)) (e : Encoding) (layout : Option Layout)
+    (mark text : List ℕ) → mid ≡ old → layout ≡ layout_of e → mark ≡ mark_of e
+    → AppendsFront mid new (mark ++ bytes_in layout text) → AppendsFront old new (encode e text)
+front_encoded old mid new e layout mark text same p q h =
+    subst (λ o. AppendsFront o new (encode e text)) same
+    (subst (AppendsFront mid new) (encoded e layout mark text p q) h)

@@ -1,9 +1,10 @@
 -- Single characters in UTF-16 and Latin-1, and parts of them.
-use Rattle.std.specs.Prelude.{◌≡◌, ℕ, ◌+◌, ◌*◌, ◌<◌, ◌≤◌, ◌⊎◌, Bool, false, IsTrue, List, [], ◌∷◌, length, take, drop, slice_index}
+use Rattle.std.specs.Prelude.{◌≡◌, ℕ, ◌+◌, ◌*◌, ◌<◌, ◌≤◌, ◌⊎◌, Bool, false, IsTrue, List, [], ◌∷◌, length, take, drop, slice_index, Option, None, Some}
 use Rattle.std.specs.Char.{IsScalar, encode_utf8}
 use Rattle.std.specs.Char.Escape.{encode_utf16}
 use Rattle.std.specs.Char.Utf16.{is_high_surrogate, is_low_surrogate}
 use Rattle.std.specs.List.{flat_map}
+use Rattle.std.specs.Str.{encode_utf8_all}
 use Rattle.rope_files.specs.Encodings.{low_first, high_first}
 use Rattle.rope_files.specs.declared.layout.ByteOrder.{ByteOrder}
 use Rattle.rope_files.specs.declared.layout.ByteOrder.TheVariants.{Little, Big}
@@ -24,6 +25,11 @@ char_bytes (CodeUnits order) c = flat_map (unit_bytes order) (encode_utf16 c)
 -- the bytes of a text
 abbrev pub laid_out : Layout → List ℕ → List ℕ
 laid_out layout text = flat_map (char_bytes layout) text
+
+-- the bytes of a text, which are those of UTF-8 where there is no layout
+abbrev pub bytes_in : Option Layout → List ℕ → List ℕ
+bytes_in None text = encode_utf8_all text
+bytes_in (Some layout) text = laid_out layout text
 
 -- the code unit that two bytes are
 abbrev pub code_unit : ByteOrder → List ℕ → ℕ

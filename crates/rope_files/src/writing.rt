@@ -6,7 +6,7 @@ ghost use Rattle.rope_io.specs.Failing.{IsWriteCounted, count_failure};
 ghost use Rattle.rope_io.specs.Writing.{AppendsFront};
 ghost use Rattle.arrayvec.specs.ArrayVec.{array_vec_len};
 ghost use Rattle.rope_files.specs.Encodings.{encode};
-ghost use Rattle.rope_files.specs.Layouts.{unit_bytes, char_bytes, laid_out};
+ghost use Rattle.rope_files.specs.Layouts.{unit_bytes, char_bytes, laid_out, bytes_in};
 ghost use Rattle.rope_files.specs.Writing.{unencodable, unencodable_in, Sends, IsRefusedWrite, IsWriteFailure, ReportsWrite};
 ghost use Rattle.std.specs.Str.{encode_utf8_all};
 ghost use Rattle.rope_files.specs.declared.layout.Layout.TheVariants.{Bytes};
@@ -124,6 +124,30 @@ fn write_utf8<S: Sink>(rope: &Rope, mark: &[u8], sink: &mut S) -> io::Result<()>
     rope.write_watched(sink)
 }
 
+// Writes a text that this layout has bytes for, after its mark.
+fn write_in<S: Sink>(
+    rope: &Rope,
+    layout: Option<Layout>,
+    mark: &[u8],
+    sink: &mut S,
+) -> io::Result<()>
+    requires clear { S.marked sink.old ≡ false }
+    requires none { S.failure sink.old ≡ None }
+    requires encodable { unencodable_in layout rope.now.text ≡ None }
+    ensures ok { OnOk result (Appends (S.contents sink.old) (S.contents sink.new)
+        (mark.now ++ bytes_in layout rope.now.text)) }
+    ensures front { AppendsFront (S.contents sink.old) (S.contents sink.new)
+        (mark.now ++ bytes_in layout rope.now.text) }
+    ensures failed { IsErr result ↔ (S.marked sink.new ≡ true) }
+    ensures failure { IsWriteCounted result (S.failure sink.new)
+        (S.failures sink.old) (S.failures sink.new) }
+{
+    match layout {
+        None => write_utf8(rope, mark, sink),
+        Some(layout) => write_laid(rope, layout, mark, sink),
+    }
+}
+
 // The index of the first character that this layout has no bytes for.
 fn first_unencodable(rope: &Rope, layout: Option<Layout>) -> Option<usize>
     ensures { result ≡ unencodable_in layout rope.now.text }
@@ -174,11 +198,7 @@ pub fn write_as_watched<S: Sink>(
     if let Some(index) = first_unencodable(rope, layout) {
         return Err(WriteAsError::Unencodable(index));
     }
-    let written = match layout {
-        None => write_utf8(rope, encoding.mark(), sink),
-        Some(layout) => write_laid(rope, layout, encoding.mark(), sink),
-    };
-    match written {
+    match write_in(rope, layout, encoding.mark(), sink) {
         Ok(()) => Ok(()),
         Err(error) => Err(WriteAsError::Write(error)),
     }

@@ -4,10 +4,11 @@ use Rattle.std.specs.Io.KnownBytes.{Consumes, prepend_known}
 use Rattle.std.specs.List.{starts_with}
 use Rattle.std.specs.Option.{unwrap_or}
 use Rattle.ropey.specs.View.{text_of}
+use Rattle.rope_io.specs.Failing.{count_failure}
 use Rattle.rope_files.specs.Encodings.{mark_of, marked_encoding, encode_unmarked, layout_of}
 use Rattle.rope_files.specs.Heads.{head_bytes, held_bytes}
-use Rattle.rope_files.specs.Reading.{Answers, Gives, ReadsAny, text_read}
-use Rattle.rope_files.proofs.Files.{encoding_is, encoding_of_file, file_reads, reads_whole, reads_encoding, some_encoding}
+use Rattle.rope_files.specs.Reading.{any_failure, Answers, FailedAs, Gives, ReadsAny, text_read}
+use Rattle.rope_files.proofs.Files.{built_beside, encoding_is, encoding_of_file, failed_as, failure_beside, fails_as, file_reads, read_beside, reads_whole, reads_encoding, some_encoding}
 use Rattle.rope_files.proofs.reading.read_any_watched.Goals as goal
 
 pub returns-in-Err-clause-answer : goal.returns-in-Err-clause-answer
@@ -178,3 +179,40 @@ returns-clause-encoding g c =
     c.read_body-rope.result c.with_encoding.result given c.in-Ok.ensures.answer.1 is
     (sym tells ∙ c.if-not-starts_with.false) short answers c.with_encoding.ensures in
     reads_encoding _ _ _ _ c.with_encoding.result reads
+
+pub returns-clause-failure : goal.returns-clause-failure
+returns-clause-failure g c =
+    let ahead = c.read_body-rope.new.source in
+    let known = c.read_body-rope.ensures.failure.0
+    ∙ failure_beside c.read_body-rope.result c.unwrap_or-encoding.result c.with_encoding.result
+    c.with_encoding.ensures in
+    subst (λ s. FailedAs c.with_encoding.result (g.S.Mark.failure s)) (sym c.into_source.ensures)
+    (failed_as ahead.is_quiet (g.S.Mark.failure ahead.source) c.with_encoding.result known)
+
+pub returns-clause-failures : goal.returns-clause-failures
+returns-clause-failures g c =
+    let rope = c.read_body-rope.result in
+    let before = ap g.S.Mark.failures c.new-ahead.ensures.source ∙ c.in-Ok.ensures.failures
+    ∙ ap g.S.Mark.failures c.clear.ensures ∙ g.met.S.Mark.cleared_failures c.args.source in
+    ap g.S.Mark.failures c.into_source.ensures ∙ c.read_body-rope.ensures.failure.1
+    ∙ ap (λ n. count_failure (any_failure rope) n) before
+    ∙ ap (λ k. count_failure k (g.S.Mark.failures c.args.source))
+    (failure_beside rope c.unwrap_or-encoding.result c.with_encoding.result c.with_encoding.ensures)
+
+pub returns-clause-failed : goal.returns-clause-failed
+returns-clause-failed g c =
+    let ahead = c.read_body-rope.new.source in
+    let encoding = c.unwrap_or-encoding.result in
+    let rope = c.read_body-rope.result in
+    let a = c.read_body-rope.ensures.answer in
+    let beside = read_beside rope encoding c.with_encoding.result c.with_encoding.ensures in
+    let fails = fails_as (encode_unmarked encoding) (layout_of encoding) (length (mark_of encoding))
+    a.0 (prepend_known (held_bytes ahead) (g.S.Source.remaining ahead.source))
+    (g.S.Mark.marked ahead.source) rope a.2 in
+    let same = ap g.S.Mark.marked c.into_source.ensures in
+    (λ h. same ∙ fails.0 (beside.0 h), λ e. beside.1 (fails.1 (sym same ∙ e)))
+
+pub returns-clause-kept : goal.returns-clause-kept
+returns-clause-kept g c =
+    built_beside c.args.breaks c.read_body-rope.result c.unwrap_or-encoding.result
+    c.with_encoding.result c.with_encoding.ensures c.read_body-rope.ensures.kept

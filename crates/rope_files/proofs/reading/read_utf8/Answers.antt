@@ -1,4 +1,4 @@
-use Rattle.std.proofs.Common.{◌≡◌, ap, subst, sym, ◌∙◌, ◌++◌, List, ℕ, length, Err}
+use Rattle.std.proofs.Common.{◌≡◌, refl, ap, subst, sym, ◌∙◌, [], ◌++◌, List, ℕ, length, Err}
 use Rattle.std.proofs.lemmas.List.{take-append-drop}
 use Rattle.std.proofs.lemmas.Str.{encodes-chars, scalars-chars}
 use Rattle.std.specs.Str.{chars, encode_utf8_all}
@@ -34,3 +34,23 @@ returns-in-Err-Rope-clause-answer g c =
         refusal,
       ),
     )
+
+pub returns-in-Ok-clause-answer : goal.returns-in-Ok-clause-answer
+returns-in-Ok-clause-answer g c =
+    let a = c.in-Ok.ensures.answer in (a.0, a.1, (a.2.3, sym a.2.0, a.2.2))
+
+-- no character is told apart here: all bytes are a rest
+pub returns-in-Err-Read-clause-answer : goal.returns-in-Err-Read-clause-answer
+returns-in-Err-Read-clause-answer g c =
+    let a = c.in-Err-Read.ensures.answer in
+    let read = subst (λ z. Answers text_of a.0 (g.S.Source.remaining c.from_watched_with.new.source)
+    (g.S.Mark.marked c.from_watched_with.new.source) (Err z)) c.in-Err-Read.field-0-is a.2 in
+    (a.0, a.1, (read.2, [], a.0, record { whole = refl; scalars = refl }, read.0))
+
+pub returns-in-Err-InvalidData-clause-answer : goal.returns-in-Err-InvalidData-clause-answer
+returns-in-Err-InvalidData-clause-answer g c =
+    let a = c.in-Err-InvalidData.ensures.answer in
+    let refused = subst (λ z. Answers text_of a.0
+    (g.S.Source.remaining c.from_watched_with.new.source)
+    (g.S.Mark.marked c.from_watched_with.new.source) (Err z)) c.in-Err-InvalidData.field-0-is a.2 in
+    (a.0, a.1, (refused.3, refl, refused.0))

@@ -1,11 +1,11 @@
-use Rattle.std.proofs.Common.{◌∷◌, ◌++◌, ap, subst, ◌∙◌}
+use Rattle.std.proofs.Common.{◌≡◌, ◌∷◌, ◌++◌, ap, subst, sym, ◌∙◌, rules}
 use Rattle.std.specs.Io.KnownBytes.{Appends}
 use Rattle.rope_io.specs.Failing.{count_failure}
 use Rattle.rope_io.specs.Writing.{AppendsFront}
 use Rattle.rope_text.specs.Sides.{ahead}
 use Rattle.rope_files.specs.Layouts.{laid_out}
 use Rattle.rope_files.specs.Writing.{Sends}
-use Rattle.rope_files.proofs.Writings.{CanHave, front_front, gather_more, gathered_front, gathered_all, can_rest, on_ok}
+use Rattle.rope_files.proofs.Writings.{CanHave, can_all, front_front, gather_none, gather_more, gathered_front, gathered_all, can_rest, on_ok}
 use Rattle.rope_files.proofs.writing.write_laid.Goals as goal
 
 pub returns-in_err-write_bytes-clause-front : goal.returns-in_err-write_bytes-clause-front
@@ -55,3 +55,37 @@ returns-clause-front g c =
     (subst (AppendsFront (g.S.Sink.contents c.loop-c.sink)
     (g.S.Sink.contents c.write_bytes-2.new.sink)) c.as_slice.ensures.value
     c.write_bytes-2.ensures.front)
+
+pub loop-c-init : goal.loop-c-init
+loop-c-init g c =
+    let all : ahead c.into_iter-c-iterator.result ≡ c.args.rope.now.text =
+    ap ahead (c.into_iter-c-iterator.ensures.into_iter_gives ∙ c.chars-c-items.ensures) in
+    let w = c.in_ok-write_bytes.ensures.failure in
+    record {
+      gathering = gather_none c.args.layout _ _ c.args.mark.now c.args.rope.now.text
+          (ahead c.into_iter-c-iterator.result) c.new.result.items all c.new.ensures
+          c.in_ok-write_bytes.ensures.ok;
+      can_have = subst (CanHave c.args.layout) (sym all)
+          (can_all c.args.layout c.args.rope.now.text c.requires.encodable);
+      none_failed = record {
+        clear = c.in_ok-write_bytes.ensures.clear;
+        none = w.0;
+        same = w.1 ∙ ap (λ k. count_failure k (g.S.Mark.failures c.args.sink.now)) w.0;
+      };
+    }
+
+pub returns-in_err-make_room-clause-failure : goal.returns-in_err-make_room-clause-failure
+returns-in_err-make_room-clause-failure g c = (
+  search rules,
+  c.in_err-make_room.ensures.failure.1
+      ∙ ap (count_failure (g.S.Mark.failure c.make_room.new.sink))
+      c.loop-c.invariant.none_failed.same,
+)
+
+pub returns-clause-failure : goal.returns-clause-failure
+returns-clause-failure g c = (
+  c.write_bytes-2.ensures.failure.0,
+  c.write_bytes-2.ensures.failure.1
+      ∙ ap (count_failure (g.S.Mark.failure c.write_bytes-2.new.sink))
+      c.loop-c.invariant.none_failed.same,
+)
