@@ -4,9 +4,9 @@ use lib.Utf8.{scalars, scalar}
 use Rattle.std.specs.Char.{encode_utf8}
 use Rattle.std.specs.Str.{IsUtf8, chars, encode_utf8_all, all_scalars}
 use Rattle.std.specs.Str.Lossy.{utf8_valid_len}
-use Rattle.std.proofs.Math.Seq.{take-append-add}
+use Rattle.std.proofs.Math.Seq.{take-append-add, take-append_seam}
 use Rattle.std.proofs.lemmas.Bool.{and_parts, cases_lt}
-use Rattle.std.proofs.lemmas.List.{length-take, length-drop, take_at, take-take, take-append-le, take-append-drop, length-take-le, take_all}
+use Rattle.std.proofs.lemmas.List.{length-take, length-drop, take_at, take-take, take-append-le, take-append-drop, length-take-le, take_all, take_min}
 use Rattle.std.proofs.lemmas.Str.{IsUtf8-encode, length-encode, len_utf8_bounds, chars-append, utf8_valid_len_le}
 use Rattle.rope_text.specs.Read.{text_front, text_rest}
 use Rattle.rope_text.proofs.ReadLaws.{IsUtf8-text_front, longest, utf8_valid_len-append, text_rest-append}
@@ -176,3 +176,22 @@ module _ (rest bytes : List ℕ) (k : ℕ) (none : utf8_valid_len rest ≡ 0) wh
       -- either way four are left, or not
       pub as_many : 4 ≤ length head → 4 ≤ length (rest ++ bytes)
       as_many l = omega (arith, head_size, length-append rest bytes)
+
+-- the bytes that wait, and the next ones up to four in all, written one after the other
+pub four_bytes : (a m : ℕ) (first more zeros after rest bytes : List ℕ)
+    → length first ≡ a → length more ≡ m → first ≡ rest → more ≡ take m bytes
+    → m ≡ min (length bytes) (4 - a)
+    → take (a + m) (take a (first ++ zeros) ++ (more ++ after))
+    ≡ rest ++ take (4 - length rest) bytes
+four_bytes a m first more zeros after rest bytes p q e f g =
+    let front : take a (first ++ zeros) ≡ first =
+    subst (λ n. take n (first ++ zeros) ≡ first) p (take-append_seam first zeros) in
+    let back : take m (more ++ after) ≡ more =
+    subst (λ n. take n (more ++ after) ≡ more) q (take-append_seam more after) in
+    let count : m ≡ min (4 - length rest) (length bytes) = omega (arith, g, p, ap length e) in
+    ap (λ xs. take (a + m) (xs ++ (more ++ after))) front
+    ∙ ap (λ n. take (n + m) (first ++ (more ++ after))) (sym p)
+    ∙ take-append-add first (more ++ after) m ∙ ap (λ xs. first ++ xs) (back ∙ f)
+    ∙ ap (λ n. first ++ take n bytes) count
+    ∙ ap (λ xs. first ++ xs) (take_min (4 - length rest) bytes)
+    ∙ ap (λ xs. xs ++ take (4 - length rest) bytes) e
