@@ -1,5 +1,5 @@
 -- Bytes put one after another into a buffer or a writer.
-use Rattle.std.proofs.Common.{◌≡◌, ℕ, List, [], ◌∷◌, ◌++◌, Option, Some, None, Result, Ok, Err, OnOk, refl, sym, ap, subst, ◌∙◌, append_assoc}
+use Rattle.std.proofs.Common.{◌≡◌, ℕ, List, [], ◌∷◌, ◌++◌, Option, Some, None, Result, Ok, Err, IfErr, OnOk, refl, sym, ap, subst, ◌∙◌, append_assoc}
 use Rattle.std.specs.Io.KnownBytes.{Appends}
 use Rattle.std.proofs.lemmas.List.{append-nil}
 use Rattle.std.proofs.lemmas.Grind.{flat_map-append}
@@ -37,6 +37,21 @@ Puts-both o p q a b c xs ys s t = record {
   joined = append_assoc s.out t.out c ∙ ap (λ zs. s.out ++ zs) t.joined
       ∙ sym (append_assoc s.out b ys) ∙ ap (λ zs. zs ++ ys) s.joined ∙ append_assoc a xs ys;
 }
+
+-- the buffered bytes are written
+pub Puts-flushed : (o p q : Option (List ℕ)) (a b c : List ℕ) → Puts o p a b [] → Appends p q b
+    → c ≡ [] → Puts o q a c []
+Puts-flushed o p q a b c s x e = record {
+  out = s.out ++ b;
+  appended = Appends-both o p q s.out b s.appended x;
+  joined = ap (λ zs. (s.out ++ b) ++ zs) e ∙ append-nil (s.out ++ b) ∙ s.joined;
+}
+
+-- what holds anyway holds of each error, whatever else is known of it
+pub each_err : {A E P : Type 0} (r : Result A E) (Known : E → Type 0) → P
+    → IfErr r (λ e. Known e → P)
+each_err (Ok v) Known p = tt
+each_err (Err e) Known p = λ _. p
 
 Runs-both : (old mid new : List Content) (cs ds : List Command) (rs ss : List Reply)
     → Runs old cs rs mid → Runs mid ds ss new → Runs old (cs ++ ds) (rs ++ ss) new
