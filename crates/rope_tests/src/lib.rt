@@ -39,8 +39,6 @@ mod cuts;
 #[cfg(test)]
 mod hashes;
 #[cfg(test)]
-mod items;
-#[cfg(test)]
 mod long_chunks;
 #[cfg(test)]
 mod makers;
