@@ -1,7 +1,7 @@
 //! Ropes that are made, queried, and dropped: only here, since each drop of a rope takes long to
 //! prove.
 use rope_plain::failure::Failure;
-use rope_plain::texts::{padded, repeated};
+use rope_plain::texts::repeated;
 use ropey::{LineBreaks, Rope};
 use std::alloc::Global;
 
@@ -49,19 +49,6 @@ pub fn with_repeated<F: FnOnce(&Rope) -> Result<(), Failure>>(
     requires { F.IsAlwaysCallable ask }
 {
     let text = repeated(alloc, text, count)?;
-    with_rope(alloc, text.as_str(), ask)
-}
-
-/// Fails unless a rope of `bytes` bytes, with such an end, is made, and is right.
-pub fn with_padded<F: FnOnce(&Rope) -> Result<(), Failure>>(
-    alloc: Global,
-    bytes: usize,
-    end: &str,
-    ask: F,
-) -> Result<(), Failure>
-    requires { F.IsAlwaysCallable ask }
-{
-    let text = padded(alloc, "", bytes, end)?;
     with_rope(alloc, text.as_str(), ask)
 }
 

@@ -1,5 +1,4 @@
 //! Cursors over short ropes and slices.
-use crate::items::{bytes_of_chunks, bytes_of_lines, count_byte, count_char};
 use rope_plain::failure::Failure;
 use rope_plain::{same, some};
 use ropey::Rope;
@@ -35,21 +34,4 @@ fn expect_clone_steps(rope: &Rope) -> Result<(), Failure> {
 fn clones_step_independently(rt: HostRuntime) -> Result<(), Failure> {
     let rope = Rope::from_str(rt.alloc(), "ab\ncd")?;
     expect_clone_steps(&rope)
-}
-
-fn expect_all_looped_over(rope: &Rope) -> Result<(), Failure> {
-    let bytes = [bytes_of_chunks(rope.chunks()), bytes_of_lines(rope.lines())];
-    let counts = [
-        count_byte(rope.bytes(), 0xA9),
-        count_char(rope.chars(), 'b'),
-    ];
-    same!(bytes, [8, 8]);
-    same!(counts, [1, 2]);
-    Ok(())
-}
-
-#[test]
-fn loops_visit_every_item(rt: HostRuntime) -> Result<(), Failure> {
-    let rope = Rope::from_str(rt.alloc(), "ab\ncdb\u{e9}")?;
-    expect_all_looped_over(&rope)
 }

@@ -1,10 +1,8 @@
 //! Ropes of random texts by each set of line breaks, against plain lists of characters.
 use crate::places::expect_lookups_at;
-use crate::ropes::with_rope_by;
 use rope_plain::compare::{SETS, expect_few_chunks, expect_plain};
 use rope_plain::failure::{Failure, within};
 use rope_plain::numbers::Numbers;
-use rope_plain::same;
 use rope_plain::texts::{chars_of, random_text};
 use ropey::{LineBreaks, Rope};
 use std::alloc::Global;
@@ -21,9 +19,10 @@ fn expect_places(rope: &Rope, plain: &[char], numbers: &mut Numbers) -> Result<(
 fn expect_plain_at_indices(
     rope: &Rope,
     plain: &[char],
+    breaks: LineBreaks,
     numbers: &mut Numbers,
 ) -> Result<(), Failure> {
-    expect_plain(rope, plain, rope.line_breaks())?;
+    expect_plain(rope, plain, breaks)?;
     expect_few_chunks(rope)?;
     expect_places(rope, plain, numbers)
 }
@@ -35,10 +34,8 @@ fn expect_text_by(
     breaks: LineBreaks,
 ) -> Result<(), Failure> {
     let plain = chars_of(alloc, text)?;
-    with_rope_by(alloc, text, breaks, |rope| {
-        same!(rope.line_breaks(), breaks);
-        expect_plain_at_indices(rope, &plain, numbers)
-    })
+    let rope = Rope::from_str_with(alloc, text, breaks)?;
+    expect_plain_at_indices(&rope, &plain, breaks, numbers)
 }
 
 /// Fails unless a rope of a text of up to 4,000 bytes is right.
