@@ -14,5 +14,11 @@ returns-clause-bytes c =
     let head = c.copy_from_slice.ensures.after ∙ rest in
     four_bytes a m first more _ _ c.args.self.now.rest c.args.bytes.now
     (omega (arith, c.copy_from_slice.ensures.len, length-take {A = ℕ}, c.self.invariant.short))
-    (omega (arith, c.copy_from_slice-2.ensures.len, length-take {A = ℕ}, c.self.invariant.short, c.min-more.ensures))
+    (omega (
+      arith,
+      c.copy_from_slice-2.ensures.len,
+      length-take {A = ℕ},
+      c.self.invariant.short,
+      c.min-more.ensures,
+    ))
     head c.copy_from_slice-2.ensures.after c.min-more.ensures
