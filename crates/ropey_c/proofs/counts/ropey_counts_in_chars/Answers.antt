@@ -8,5 +8,7 @@ returns-clause-answer c =
     let found = bounds_are _ _ _ _ _ c.in-Ok.ensures in
     rw (rw c.len_chars.ensures.value at found.0) (
       refl,
-      rw (c.slice.ensures.text, c.slice.ensures.breaks, found.1, found.2) at c.counts_of.ensures,
-    ))
+      rw (c.slice.ensures.text, c.slice.ensures.breaks, found.1, found.2)
+          at c.counts_of.ensures,
+    )
+    )
