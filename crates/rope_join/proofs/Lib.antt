@@ -6,8 +6,6 @@ pub mod Parts
 pub mod Cuts
 pub mod Empty
 pub mod Seams
-pub mod PartCounts
-pub mod PartTexts
 pub mod Puts
 pub mod Gaps
 pub mod OneChild

@@ -1,6 +1,6 @@
 //! Splits of a tree: its front, its back, and a range, as trees no higher than it. Nodes that are
 //! wholly inside the result are shared.
-ghost use Rattle.std.specs.Prelude.{◌≡◌, ◌+◌, ◌-◌, ◌*◌, ◌<◌, ◌≤◌, ◌++◌, length, IfOk};
+ghost use Rattle.std.specs.Prelude.{◌≡◌, ◌+◌, ◌-◌, ◌*◌, ◌<◌, ◌≤◌, ◌++◌, length, take, drop, IfOk, OnOk, OnErr};
 ghost use Rattle.std.specs.List.{slice_range};
 ghost use Rattle.rope_tree.specs.Tree.{text, leaf_tree, IsTree};
 ghost use Rattle.rope_tree.specs.View.{trees_in};
@@ -10,10 +10,9 @@ ghost use Rattle.rope_tree.specs.Searched.{HasSearched};
 ghost use Rattle.rope_join.specs.Cut.{side_of, IsFront, IsBack, ArePart, AreBeside, IsWithFront, IsWithBack};
 
 use crate::join::{unite, unite_after, unite_before};
-use rope_text::{LineBreaks, TextInfo};
 use rope_tree::{
-    Editor, Made, Maker, Node, Nodes, Row, ShortText, View, gather_rows, leaf_of, make_leaf,
-    shared_breaks, total_before,
+    Editor, Made, Maker, Node, Nodes, Row, ShortText, View, gather_rows, infos_of_parts, leaf_of,
+    make_leaf, total_before,
 };
 
 /// The two sides of a split.
@@ -45,19 +44,10 @@ fn leaf_part(
     let text = leaf.as_str();
     let place = leaf.char_to_byte_idx(at);
     let (front, back) = (&text[..place], &text[place..]);
-    let info = node.info();
-    let both = TextInfo {
-        break_count: info.break_count + shared_breaks(front, back, breaks),
-        ..info
-    };
-    let (mut part, mut other) = (front, back);
-    if let Side::Back = side {
-        (part, other) = (back, front);
-    }
-    let info = if part.len() < other.len() {
-        TextInfo::of_short(part, breaks)
-    } else {
-        both.minus(TextInfo::of_short(other, breaks))
+    let (front_info, back_info) = infos_of_parts(front, back, node.info(), breaks);
+    let (part, info) = match side {
+        Side::Front => (front, front_info),
+        Side::Back => (back, back_info),
     };
     make_leaf(maker, breaks, part, info)
 }
@@ -238,4 +228,29 @@ pub fn between(editor: &mut Editor, node: &Node, start: usize, end: usize) -> Ma
 {
     let front = front(editor, node, end)?;
     back(editor, &front, start)
+}
+
+/// Splits a tree: keeps the characters before `at`, and returns a tree of those from it on. Where
+/// the nodes on the path and beside it have no other owner, they are split in place. Else a front
+/// and a back that share the tree's nodes replace it, as the last step.
+pub fn split_off(editor: &mut Editor, root: &mut Node, at: usize) -> Made<Node>
+    requires { at ≤ length (text root.old) }
+    ensures front { OnOk result (text root.new ≡ take at (text root.old)) }
+    ensures back { IfOk result (λ back. text back ≡ drop at (text root.old)) }
+    ensures breaks { root.new.breaks ≡ root.old.breaks }
+    ensures back_breaks { IfOk result (λ back. back.breaks ≡ root.old.breaks) }
+    ensures tree { IsTree root.new }
+    ensures back_tree { IfOk result (λ back. IsTree back) }
+    ensures err { OnErr result (root.new ≡ root.old) }
+    ensures made { editor.new.maker.made ≤ editor.old.maker.made + 12 * root.old.height + 2 }
+    ensures searched { HasSearched (3 * root.old.height) (17 * root.old.height) editor.old
+        editor.new }
+{
+    if let Some(back) = root.split_in_place(editor, at)? {
+        return Ok(back);
+    }
+    let first = front(editor, root, at)?;
+    let second = back(editor, root, at)?;
+    *root = first;
+    Ok(second)
 }

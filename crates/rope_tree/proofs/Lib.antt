@@ -42,3 +42,7 @@ pub mod FrontLaws
 pub mod NodeTexts
 pub mod LeafTexts
 pub mod PieceLaws
+pub mod PartCounts
+pub mod PartTexts
+pub mod SplitLaws
+pub mod MoveLaws

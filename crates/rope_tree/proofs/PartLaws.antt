@@ -24,6 +24,7 @@ use Rattle.rope_tree.proofs.NodeLaws.{leaves_of-append, joined-append, byte_len-
 use Rattle.rope_tree.proofs.TreeLaws.{breaks_of_is}
 use Rattle.rope_tree.proofs.TotalLaws.{same_counts, sums_cancel}
 use Rattle.rope_tree.proofs.SiblingLaws.{byte_len-append, siblings_right}
+use Rattle.rope_tree.proofs.RowLaws.{siblings_of}
 use Rattle.rope_tree.proofs.Infos.{small_info}
 
 -- the counts of adjacent trees are sums
@@ -61,7 +62,8 @@ module _ (ts : List Tree) (totals : List TextInfo) (from : ℕ) (p : IsPart ts t
         let none = drop_all m ts (omega arith) in
         record {
           whole = p.whole;
-          children = p.children;
+          level = p.level;
+          few = p.few;
           totals_right = p.totals_right;
           within = omega (arith, part_within, e);
           is = rw none refl;
@@ -76,7 +78,8 @@ module _ (ts : List Tree) (totals : List TextInfo) (from : ℕ) (p : IsPart ts t
         ∙ ap (λ l. drop (from + l) p.whole) (sym k_is) in
         record {
           whole = p.whole;
-          children = p.children;
+          level = p.level;
+          few = p.few;
           totals_right = p.totals_right;
           within = omega (arith, part_within, e);
           is = whole ∙ ap (λ l. take (length ts - m) l) more
@@ -99,7 +102,7 @@ module _ (ts : List Tree) (totals : List TextInfo) (from : ℕ) (p : IsPart ts t
       ∙ ap (λ l. take from p.whole ++ l) (sym own) in
       let leaves =
       subst (λ l. AreLeaves (leaves_of l)) parts
-      (front_are_leaves p.whole (from + k + 1) p.children.leaves) in
+      (front_are_leaves p.whole (from + k + 1) p.level.leaves) in
       p.totals_right.total_at (from + k) d (omega (arith, part_within))
       ∙ ap (λ l. info_of b (joined l)) parts
       ∙ counts_both b (take from p.whole) (take (k + 1) ts) leaves
@@ -110,13 +113,14 @@ module _ (ts : List Tree) (totals : List TextInfo)
     pub whole_part : IsPart ts totals 0
     whole_part = record {
       whole = ts;
-      children = a;
+      level = siblings_of (breaks_of ts) (height_of ts) ts a;
+      few = a.at_most_24;
       totals_right = h;
       within = omega arith;
       is = sym (take_all (length ts) ts (omega arith));
     }
 
-same_set : (xs ys : List Tree) → 1 ≤ length xs → breaks_of xs ≡ breaks_of (xs ++ ys)
+pub same_set : (xs ys : List Tree) → 1 ≤ length xs → breaks_of xs ≡ breaks_of (xs ++ ys)
 same_set [] ys some = absurd (omega arith)
 same_set (t ∷ ts) ys some = refl
 
@@ -144,7 +148,7 @@ module _ (xs ts : List Tree) (totals : List TextInfo) (from : ℕ) (p : IsPart t
       let P = IsChild w (height_of p.whole) in
       let each : All P ts =
       subst (All P) (sym p.is)
-      (All-take P (length ts) (drop from p.whole) (All-drop P from p.whole p.children.each)) in
+      (All-take P (length ts) (drop from p.whole) (All-drop P from p.whole p.level.each)) in
       sym (breaks_of_is w (height_of p.whole) ts some each)
       ∙ breaks_of_is (breaks_of (xs ++ ts)) (height_of (xs ++ ts)) ts some
       (siblings_right _ _ xs ts s).each
@@ -173,7 +177,7 @@ module _ (xs ts : List Tree) (totals : List TextInfo) (from : ℕ) (p : IsPart t
 
   pub small_part : (k : ℕ) (d : TextInfo) → k < length ts → IsSmall (get_or totals (from + k) d)
   small_part k d lt =
-      small_totals (breaks_of p.whole) totals p.whole p.totals_right p.children.fits (from + k) d
+      small_totals (breaks_of p.whole) totals p.whole p.totals_right p.level.fits (from + k) d
       (omega (arith, part_within ts totals from p, p.totals_right.as_many))
 
   pub has_base : (k : ℕ) (d : TextInfo) → k < length ts → HasPart (get_or totals (from + k) d) base
@@ -206,6 +210,20 @@ module _ (xs ts : List Tree) (totals : List TextInfo) (from : ℕ) (p : IsPart t
         pairs = omega (arith, last, most, room, o.chars, q.chars, o.pairs, q.pairs);
         breaks = omega (arith, last, most, room, o.chars, q.chars, o.breaks, q.breaks);
       })
+
+  -- if all counts fit in 32 bits, the totals do
+  pub part_few : byte_len (joined (xs ++ ts)) < 2 ^ 32 → (k : ℕ) (d : TextInfo) → k < length ts
+      → FitsWith (get_or totals (from + k) d) base before
+  part_few few k d lt =
+      let n : from + length ts - 1 ≡ from + (length ts - 1) = omega arith in
+      let m : length ts - 1 + 1 ≡ length ts = omega arith in
+      let last =
+      ap (λ i. i.bytes) (ap (λ i. get_or totals i d) n
+      ∙ total_is (length ts - 1) d (omega arith)) in
+      let all : byte_len (joined (take (length ts - 1 + 1) ts)) ≡ byte_len (joined ts) =
+      ap (λ i. byte_len (joined (take i ts))) m ∙ ap (λ l. byte_len (joined l)) (take-length ts) in
+      part_fits k d lt
+      (omega (arith, last, all, ap (λ i. i.bytes) before_counts, byte_len-append xs ts, few))
 
   -- the list with the row
   module _ (a b : NewList) (i : IsNewList a) (view : nodes_in a ≡ xs) (m : ℕ)

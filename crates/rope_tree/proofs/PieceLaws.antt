@@ -1,5 +1,5 @@
 -- The leaves into which a medium text is split.
-use Rattle.std.proofs.Common.{◌≡◌, ℕ, ◌+◌, ◌<◌, ◌≤◌, ◌^◌, min, List, [], ◌∷◌, ◌++◌, length, take, drop, sym, ap, ap₂, subst, ◌∙◌, take-append-drop, inl, inr, true, arith}
+use Rattle.std.proofs.Common.{◌≡◌, ℕ, ◌+◌, ◌≤◌, min, List, [], ◌∷◌, ◌++◌, length, take, drop, sym, ap, ap₂, subst, ◌∙◌, take-append-drop, inl, inr, true, arith}
 use Rattle.std.specs.List.{All, concat}
 use Rattle.std.specs.Str.{chars, IsUtf8}
 use Rattle.std.proofs.lemmas.List.{append-nil, length-take-le, length-drop}
@@ -14,15 +14,14 @@ use Rattle.rope_text.proofs.Apart.{apart_at_cut, has_chars}
 use Rattle.rope_text.proofs.Measures.{IsMeasure-byte_len}
 use Rattle.rope_text.proofs.Walks.{byte_len-chars}
 use Rattle.rope_tree.specs.Halves.{AreHalves}
-use Rattle.rope_tree.specs.Leaves.{AreLeaves, IsLeafText, IsSeam, StandFor}
-use Rattle.rope_tree.specs.Tree.{Tree, text, joined, leaves_of, leaf_tree, one_leaf, IsTree, IsWide, IsChild}
+use Rattle.rope_tree.specs.Leaves.{AreLeaves, IsSeam}
+use Rattle.rope_tree.specs.Tree.{Tree, text, joined, leaves_of, leaf_tree, IsTree, IsWide, IsChild}
 use Rattle.rope_tree.specs.Insert.{IsReplaced}
 use Rattle.rope_tree.specs.Pieces.{ArePieces, IsFirstSplit}
 use Rattle.rope_tree.proofs.BuildLaws.{nodes_le}
 use Rattle.rope_tree.proofs.HalfLaws.{front_bytes, back_bytes}
 use Rattle.rope_tree.proofs.InsertLeaves.{wide_leaf}
 use Rattle.rope_tree.proofs.LeafLaws.{leaves-append}
-use Rattle.rope_tree.proofs.NodeLaws.{leaf_text}
 use Rattle.rope_tree.proofs.StandLaws.{one_leaf_is}
 use Rattle.rope_tree.proofs.TreeLaws.{wide_weaker}
 

@@ -30,3 +30,4 @@ pub mod Insert
 pub mod Removal
 pub mod Tries
 pub mod Pieces
+pub mod Split

@@ -7,7 +7,7 @@ use Rattle.rope_text.specs.declared.line_breaks.LineBreaks.{LineBreaks}
 use Rattle.rope_text.specs.Text.{byte_len}
 use Rattle.rope_text.specs.Cutting.{parts_crlf}
 use Rattle.rope_tree.specs.Leaves.{AreLeaves}
-use Rattle.rope_tree.specs.Tree.{Tree, text, joined, leaves_of, IsChild}
+use Rattle.rope_tree.specs.Tree.{Tree, joined, leaves_of, IsChild}
 
 -- leaves of this text, each with at least half a leaf's bytes less one
 pub record ArePieces (breaks : LineBreaks) (new : List ℕ) (ts : List Tree) : Type 0 where

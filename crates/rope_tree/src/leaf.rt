@@ -11,11 +11,11 @@
 //!
 //! A leaf is changed in place, by its only owner. No call allocates anything but a new leaf, and if
 //! that fails, the old one is unchanged.
-ghost use Rattle.std.specs.Prelude.{◌≡◌, ◌+◌, ◌<◌, ◌≤◌, [], ◌∷◌, true, false, max, length, take, IfOk, OnErr, IfSome, IfNone};
+ghost use Rattle.std.specs.Prelude.{◌≡◌, ◌+◌, ◌<◌, ◌≤◌, [], ◌∷◌, true, false, max, length, take, drop, IfOk, OnErr, IfSome, IfNone};
 ghost use Rattle.std.specs.Str.{chars};
 ghost use Rattle.rope_text.specs.Text.{byte_len};
 ghost use Rattle.rope_text.specs.TextInfo.{info_of};
-ghost use Rattle.rope_text.specs.declared.TheConstants.{MAX_BYTES, MAX_SHORT_BYTES};
+ghost use Rattle.rope_text.specs.declared.TheConstants.{MAX_BYTES, MAX_SHORT_BYTES, MIN_TWO_LEAVES_BYTES};
 ghost use Rattle.rope_text.specs.Edit.{inserted, removed};
 ghost use Rattle.rope_tree.specs.Tree.{text, leaf_tree, IsTree};
 ghost use Rattle.rope_tree.specs.LeafTree.{IsLeafOf};
@@ -26,10 +26,10 @@ ghost use Rattle.rope_tree.specs.Insert.{IsInserted};
 ghost use Rattle.rope_tree.specs.Removal.{IsRemoved, Spares};
 
 use crate::beside::Least;
-use crate::leaf_edits::{keeps_ends, leaf_with, put_in, take_out};
+use crate::leaf_edits::{infos_of_parts, keeps_ends, leaf_with, put_in, take_out};
 use crate::node_text::{even_halves, halves_of};
 use crate::{Made, Maker, Node, NodeText, ShortText, make_leaf};
-use rope_text::{LineBreaks, MAX_BYTES, TextInfo};
+use rope_text::{LineBreaks, MAX_BYTES, MIN_TWO_LEAVES_BYTES, TextInfo};
 use std::alloc::{AllocError, Global};
 use std::marker::Model;
 use std::rc::Rc;
@@ -269,6 +269,50 @@ impl Leaf {
         let breaks = self.line_breaks();
         self.text.keep_first(info.chars, len);
         self.summary = Summary::new(breaks, info);
+    }
+
+    /// Splits the text before the character `at`, if both parts are long enough beside leaves of
+    /// `before` and `after` bytes. Keeps the first part, and returns a leaf of the second. Counts
+    /// only the shorter part.
+    pub fn split(
+        &mut self,
+        maker: &mut Maker,
+        at: usize,
+        before: usize,
+        after: usize,
+    ) -> Made<Option<Rc<Leaf>>>
+        requires some { 1 ≤ at }
+        requires within { at < length (text self.old) }
+        ensures front { IfOk result (λ found. IfSome found
+            (λ back. self.new ≡ leaf_tree self.old.breaks (take at (text self.old)))) }
+        ensures back { IfOk result (λ found. IfSome found
+            (λ back. back.value ≡ leaf_tree self.old.breaks (drop at (text self.old)))) }
+        ensures leaf { IfOk result (λ found. IfSome found (λ back. IsLeafNode back.value)) }
+        ensures own_leaf { IfOk result (λ found. IfSome found (λ back. IsLeafNode self.new)) }
+        ensures long_front { IfOk result (λ found. IfSome found
+            (λ back. MIN_TWO_LEAVES_BYTES ≤ before + byte_len (take at (text self.old)))) }
+        ensures long_back { IfOk result (λ found. IfSome found
+            (λ back. MIN_TWO_LEAVES_BYTES ≤ byte_len (drop at (text self.old)) + after)) }
+        ensures kept { IfOk result (λ found. IfNone found (self.new ≡ self.old)) }
+        ensures err { OnErr result (self.new ≡ self.old) }
+        ensures idle { IfOk result (λ found. IfNone found (maker.new.made ≡ maker.old.made)) }
+        ensures made { maker.new.made ≤ maker.old.made + 1 }
+    {
+        let (breaks, info) = (self.line_breaks(), self.info());
+        let leaf = self.known_text(info);
+        let place = leaf.char_to_byte_idx(at);
+        let text = leaf.as_str();
+        let (front, back) = (&text[..place], &text[place..]);
+        if before.saturating_add(front.len()) < MIN_TWO_LEAVES_BYTES
+            || after.saturating_add(back.len()) < MIN_TWO_LEAVES_BYTES
+        {
+            return Ok(None);
+        }
+        let (front_info, back_info) = infos_of_parts(front, back, info, breaks);
+        maker.add_made();
+        let following = Leaf::of_text(maker.alloc, breaks, back, back_info)?;
+        self.keep(place, front_info);
+        Ok(Some(following))
     }
 
     /// Splits a leaf without room and inserts a text before the character `at`, if the leaf splits

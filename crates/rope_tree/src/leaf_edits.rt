@@ -38,6 +38,31 @@ pub fn shared_breaks(first: &str, second: &str, breaks: LineBreaks) -> usize
     usize::from(ends_in_cr(first) && begins_with_lf(second) && breaks.is_break('\r'))
 }
 
+/// Returns the counts of the two parts of a text, by those of the whole. Counts only the shorter
+/// part: the counts of the longer one are the difference.
+pub fn infos_of_parts(
+    front: &str,
+    back: &str,
+    info: TextInfo,
+    breaks: LineBreaks,
+) -> (TextInfo, TextInfo)
+    requires info { info ≡ info_of breaks (chars front.now ++ chars back.now) }
+    requires fits { info.bytes ≤ MAX_BYTES }
+    ensures front { result.0 ≡ info_of breaks (chars front.now) }
+    ensures back { result.1 ≡ info_of breaks (chars back.now) }
+{
+    let both = TextInfo {
+        break_count: info.break_count + shared_breaks(front, back, breaks),
+        ..info
+    };
+    if front.len() < back.len() {
+        let first = TextInfo::of_short(front, breaks);
+        return (first, both.minus(first));
+    }
+    let second = TextInfo::of_short(back, breaks);
+    (both.minus(second), second)
+}
+
 /// Returns the counts of a text with another inserted between its front and its back, by the counts
 /// of the two. Counts only the new text. If neither the front nor the new text ends in CR, no CR
 /// meets an LF, and the counts are sums.

@@ -48,7 +48,7 @@ mod short_text;
 pub use builder::Builder;
 pub use conversions::{convert, convert_in, first_sought};
 pub use editor::Editor;
-pub use leaf_edits::shared_breaks;
+pub use leaf_edits::infos_of_parts;
 pub use lookup::{Found, byte_at, char_at, leaf_at, leaf_count};
 pub use maker::{Made, Maker};
 pub use node::row::{Row, gather_rows, node_over, pack, pack_first, pack_last, pack_over, root_of};

@@ -21,6 +21,7 @@ pub(crate) mod anew;
 mod in_place;
 mod pieces;
 pub mod row;
+mod split;
 
 /// A node of a rope's tree, with the whole tree below it.
 #[cycle(tree)]

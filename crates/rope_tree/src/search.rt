@@ -9,7 +9,7 @@
 //! bits, and each kind of count has a row of its own ([`count_rows`]). Other totals are a boxed
 //! list in words. Functions over the wide form are never inlined, so that the narrow path stays
 //! short.
-ghost use Rattle.std.specs.Prelude.{◌≡◌, ℕ, ◌+◌, ◌-◌, ◌<◌, ◌≤◌, ◌^◌, [], ◌∷◌, ◌++◌, true, false, length, slice_index_or, IfOk, OnOk, OnErr};
+ghost use Rattle.std.specs.Prelude.{◌≡◌, ℕ, ◌+◌, ◌-◌, ◌<◌, ◌≤◌, ◌^◌, [], ◌∷◌, ◌++◌, true, false, length, take, slice_index_or, IfOk, OnOk, OnErr};
 ghost use Rattle.rope_text.specs.declared.TheConstants.{MAX_CHILDREN};
 ghost use Rattle.rope_text.specs.declared.line_breaks.LineBreaks.{LineBreaks};
 ghost use Rattle.rope_text.specs.declared.text_info.TextInfo.{TextInfo};
@@ -127,6 +127,28 @@ fn append_wide(totals: &mut WideTotals, others: &[TextInfo], old: TextInfo, new:
 {
     for other in others {
         totals.push(other.minus(old).plus(new));
+    }
+}
+
+/// Appends the totals of another list from the index `from` on, one by one.
+// Cold: reached only by totals of a text that had 4 GiB or more.
+#[inline(never)]
+fn push_each(totals: &mut Totals, others: &Totals, from: usize, old: TextInfo, new: TextInfo)
+    requires within { from < length others.now }
+    requires room { length totals.old + (length others.now - from) ≤ MAX_CHILDREN }
+    requires part { (j : ℕ) (d : TextInfo) → j < length others.now - from
+        → HasPart (slice_index_or others.now (from + j) d) old }
+    requires fits { (j : ℕ) (d : TextInfo) → j < length others.now - from
+        → FitsWith (slice_index_or others.now (from + j) d) old new }
+    ensures len { length totals.new ≡ length totals.old + (length others.now - from) }
+    ensures before { SameBefore (length totals.old) totals.old totals.new }
+    ensures following { (j : ℕ) (d : TextInfo) → j < length others.now - from
+        → info_sum (slice_index_or totals.new (length totals.old + j) d) old
+        ≡ info_sum (slice_index_or others.now (from + j) d) new }
+{
+    for place in from..others.len() {
+        let total = others.get(place).minus(old).plus(new);
+        totals.insert(totals.len(), total);
     }
 }
 
@@ -329,6 +351,48 @@ impl Totals {
             }
             _ => Ok(false),
         }
+    }
+
+    /// Keeps the first `len` totals.
+    pub(crate) fn truncate(&mut self, len: usize)
+        requires { len ≤ length self.old }
+        ensures { self.new ≡ take len self.old }
+    {
+        match &mut self.width {
+            Width::Narrow(totals) => totals.truncate(len),
+            Width::Wide(totals) => totals.truncate(len),
+        }
+    }
+
+    /// Moves the totals of another list from the index `from` on to the end of this one, with the
+    /// counts `old` in each replaced by `new`. They fit in 32 bits then.
+    pub(crate) fn take_from(
+        &mut self,
+        others: &mut Totals,
+        from: usize,
+        old: TextInfo,
+        new: TextInfo,
+    )
+        requires within { from < length others.old }
+        requires room { length self.old + (length others.old - from) ≤ MAX_CHILDREN }
+        requires part { (j : ℕ) (d : TextInfo) → j < length others.old - from
+            → HasPart (slice_index_or others.old (from + j) d) old }
+        requires fits { (j : ℕ) (d : TextInfo) → j < length others.old - from
+            → FitsWith (slice_index_or others.old (from + j) d) old new }
+        ensures len { length self.new ≡ length self.old + (length others.old - from) }
+        ensures before { SameBefore (length self.old) self.old self.new }
+        ensures following { (j : ℕ) (d : TextInfo) → j < length others.old - from
+            → info_sum (slice_index_or self.new (length self.old + j) d) old
+            ≡ info_sum (slice_index_or others.old (from + j) d) new }
+        ensures rest { others.new ≡ take from others.old }
+    {
+        match (&mut self.width, &others.width) {
+            (Width::Narrow(totals), Width::Narrow(others)) => {
+                totals.append(others, from, others.len() - from, old, new);
+            }
+            _ => push_each(self, others, from, old, new),
+        }
+        others.truncate(from);
     }
 
     /// Inserts the total of one more child before the one at an index.

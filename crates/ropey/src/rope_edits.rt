@@ -17,7 +17,7 @@ ghost use Rattle.ropey.specs.Edited.{IsEdit, IsIdle, CanInsert, IsInsert, IsInse
 ghost use Rattle.rope_text.specs.declared.error.Error.TheVariants.{OutOfMemory};
 
 use crate::rope::Rope;
-use rope_join::cut::{back, front};
+use rope_join::cut::split_off;
 use rope_join::long_edits::{append_to, insert_into, remove};
 use rope_text::range::{IndexRange, char_bounds};
 use rope_text::{Error, MAX_TEXT_BYTES, Result, Steps};
@@ -268,15 +268,10 @@ impl Rope {
     {
         let mut editor = Editor::new(self.alloc);
         editor.enter();
-        let front = front(&mut editor, &self.root, char_idx);
+        let back = split_off(&mut editor, &mut self.root, char_idx);
         *steps = editor.steps();
-        let front = front?;
-        let back = back(&mut editor, &self.root, char_idx);
-        *steps = editor.steps();
-        let back = back?;
-        self.root = front;
         Ok(Rope {
-            root: back,
+            root: back?,
             alloc: self.alloc,
         })
     }

@@ -157,11 +157,11 @@ fn put_after(nodes: &mut [Node], place: usize, node: Node)
 
 /// The next step of a descent, from a list of children.
 #[derive(Clone, Copy)]
-struct Branch {
+pub(super) struct Branch {
     /// The index of the child.
-    place: usize,
+    pub(super) place: usize,
     /// The character index in the child.
-    inside: usize,
+    pub(super) inside: usize,
     /// Whether the path still follows that of the last edit.
     follows: bool,
 }
@@ -170,7 +170,13 @@ impl Children {
     /// Returns the step to the child that takes a text before the character `at`. While the path
     /// follows that of the last edit, the child of that edit is tried first.
     #[inline(always)]
-    fn branch_at(&self, editor: &mut Editor, at: usize, to_right: bool, follows: bool) -> Branch
+    pub(super) fn branch_at(
+        &self,
+        editor: &mut Editor,
+        at: usize,
+        to_right: bool,
+        follows: bool,
+    ) -> Branch
         requires children { AreFamily self.now }
         requires within { at ≤ length (joined self.now) }
         requires right { to_right ≡ true → at < length (joined self.now) }

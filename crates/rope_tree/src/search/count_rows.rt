@@ -204,6 +204,14 @@ impl CountRows {
         self.len = len + 1;
     }
 
+    /// Keeps the first `len` totals.
+    pub fn truncate(&mut self, len: usize)
+        requires { len ≤ length self.old }
+        ensures { self.new ≡ take len self.old }
+    {
+        self.len = len;
+    }
+
     /// Inserts the total of one more child before the one at an index.
     pub fn insert(&mut self, place: usize, total: TextInfo)
         requires within { place ≤ length self.old }

@@ -12,8 +12,8 @@ use Rattle.rope_tree.specs.Tree.{leaf_tree}
 use Rattle.rope_join.specs.declared.cut.Side.{Side}
 use Rattle.rope_join.specs.declared.cut.Side.TheVariants.{Front, Back}
 use Rattle.rope_join.specs.Cut.{side_of}
-use Rattle.rope_join.proofs.PartCounts.{parts_sum, sum_turned, rest_is}
-use Rattle.rope_join.proofs.PartTexts.{AreCut, are_cut}
+use Rattle.rope_tree.proofs.PartCounts.{parts_sum, sum_turned, rest_is}
+use Rattle.rope_tree.proofs.PartTexts.{AreCut, are_cut}
 use Rattle.rope_join.proofs.cut.leaf_part.Goals.{After-shared_breaks, After-range_from-back, Joined-side, in-Back, in_default, then-part-other, else-part-other}
 use Rattle.rope_join.proofs.cut.leaf_part.Goals as goal
 

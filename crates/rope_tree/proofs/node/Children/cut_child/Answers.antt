@@ -1,4 +1,3 @@
-use Rattle.std.proofs.Common.{◌≡◌, true}
 use Rattle.rope_text.specs.TextInfo.{HasPart}
 use Rattle.rope_text.specs.Edit.{inserted}
 use Rattle.rope_tree.specs.Tree.{joined}

@@ -10,7 +10,7 @@ returns-clause-row c = IfSome_then c.args.self.totals c.requires (λ totals p.
     let ts = c.args.self.nodes.now in
     let few = part_within ts totals.now c.args.self.from p in
     let from : c.args.self.from + c.min-past.result ≡ c.saturating_add.result =
-    omega (arith, few, p.children.at_most_24, c.min-past.ensures, c.saturating_add.ensures) in
+    omega (arith, few, p.few, c.min-past.ensures, c.saturating_add.ensures) in
     let is : take (length ts - c.min-past.result) (drop c.min-past.result ts)
     ≡ drop c.args.past ts =
     take_all (length ts - c.min-past.result) (drop c.min-past.result ts)

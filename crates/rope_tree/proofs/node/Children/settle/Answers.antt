@@ -1,0 +1,91 @@
+use Rattle.std.proofs.Common.{◌+◌, ◌-◌, ◌/◌, ◌++◌, drop, ap, ap₂, ◌∙◌}
+use Rattle.rope_tree.proofs.MoveLaws.{move_left, move_right, first_split, second_split, move_both, move_end, move_longer, move_start, move_rest}
+use Rattle.rope_tree.proofs.node.Children.settle.Goals.{then-first-half, else-first-half}
+use Rattle.rope_tree.proofs.node.Children.settle.Goals as goal
+
+pub take_from-requires-clause-level_other : goal.take_from-requires-clause-level_other
+take_from-requires-clause-level_other c =
+    (move_right c.args.self.now _ c.requires.level c.requires.few).level
+
+pub take_from-requires-then-first-half-clause-level :
+    goal.take_from-requires-then-first-half-clause-level
+take_from-requires-then-first-half-clause-level c =
+    rw c.requires.none (move_end c.args.self.now _ _ c.requires.level c.requires.few).level
+
+pub take_from-requires-then-first-half-clause-level_other :
+    goal.take_from-requires-then-first-half-clause-level_other
+take_from-requires-then-first-half-clause-level_other c =
+    (move_left _ c.args.right.now c.requires.level c.requires.few).level
+
+pub take_from-requires-then-first-half-clause-few :
+    goal.take_from-requires-then-first-half-clause-few
+take_from-requires-then-first-half-clause-few c =
+    rw c.requires.none (move_end c.args.self.now _ _ c.requires.level c.requires.few).few
+
+pub take_from-requires-then-first-half-2-clause-level :
+    goal.take_from-requires-then-first-half-2-clause-level
+take_from-requires-then-first-half-2-clause-level c =
+    rw (c.take_from-then-first-half.ensures.moved, c.requires.none)
+    (move_both c.args.self.now _ _ c.requires.level c.requires.few).level
+
+pub take_from-requires-then-first-half-2-clause-level_other :
+    goal.take_from-requires-then-first-half-2-clause-level_other
+take_from-requires-then-first-half-2-clause-level_other c =
+    (move_right c.args.self.now _ c.requires.level c.requires.few).level
+
+pub take_from-requires-then-first-half-2-clause-few :
+    goal.take_from-requires-then-first-half-2-clause-few
+take_from-requires-then-first-half-2-clause-few c =
+    rw (c.take_from-then-first-half.ensures.moved, c.requires.none)
+    (move_both c.args.self.now _ _ c.requires.level c.requires.few).few
+
+pub take_from-requires-else-first-half-clause-level :
+    goal.take_from-requires-else-first-half-clause-level
+take_from-requires-else-first-half-clause-level c =
+    rw c.requires.none (move_rest c.args.self.now _ _ c.requires.level c.requires.few).level
+
+pub take_from-requires-else-first-half-clause-level_other :
+    goal.take_from-requires-else-first-half-clause-level_other
+take_from-requires-else-first-half-clause-level_other c =
+    (move_right c.args.self.now _ c.requires.level c.requires.few).level
+
+pub take_from-requires-else-first-half-clause-few :
+    goal.take_from-requires-else-first-half-clause-few
+take_from-requires-else-first-half-clause-few c =
+    rw c.requires.none (move_rest c.args.self.now _ _ c.requires.level c.requires.few).few
+
+pub take_from-requires-else-first-half-2-clause-level :
+    goal.take_from-requires-else-first-half-2-clause-level
+take_from-requires-else-first-half-2-clause-level c =
+    rw c.take_from-else-first-half.ensures.rest
+    (move_longer c.args.self.now _ _ c.requires.level c.requires.few).level
+
+pub take_from-requires-else-first-half-2-clause-level_other :
+    goal.take_from-requires-else-first-half-2-clause-level_other
+take_from-requires-else-first-half-2-clause-level_other c =
+    rw c.take_from-else-first-half.ensures.rest
+    (move_start c.args.self.now _ _ c.requires.level c.requires.few).level
+
+pub take_from-requires-else-first-half-2-clause-few :
+    goal.take_from-requires-else-first-half-2-clause-few
+take_from-requires-else-first-half-2-clause-few c =
+    rw c.take_from-else-first-half.ensures.rest
+    (move_longer c.args.self.now _ _ c.requires.level c.requires.few).few
+
+pub returns-clause-same : goal.returns-clause-same
+returns-clause-same c = elim c.if-first-half.branch [
+  | then-first-half w ↦
+      let half = (c.len-first.result + c.len-second.result) / 2 in
+      ap₂ (λ x y. x ++ y) (w.self-is ∙ w.take_from-then-first-half.ensures.rest)
+      (c.swap.ensures.y_after ∙ w.pocket-is ∙ w.take_from-then-first-half-2.ensures.moved
+      ∙ ap (λ l. l ++ c.args.right.now) (w.take_from-then-first-half.ensures.moved
+      ∙ ap (λ l. l ++ drop half c.args.self.now) c.requires.none))
+      ∙ first_split c.args.self.now c.args.right.now half
+  | else-first-half w ↦
+      let rest = (c.len-first.result + c.len-second.result) / 2 - c.len-first.result in
+      ap₂ (λ x y. x ++ y) (w.self-is ∙ w.take_from-else-first-half-2.ensures.moved
+      ∙ ap (λ l. c.args.self.now ++ l) w.take_from-else-first-half.ensures.rest)
+      (c.swap.ensures.y_after ∙ w.pocket-is ∙ w.take_from-else-first-half.ensures.moved
+      ∙ ap (λ l. l ++ drop rest c.args.right.now) c.requires.none)
+      ∙ second_split c.args.self.now c.args.right.now rest
+]
