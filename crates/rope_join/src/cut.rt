@@ -23,8 +23,7 @@ enum Side {
 }
 
 /// Makes a leaf of the first `at` characters of a leaf, or of the rest. Never inlined, since each
-/// level of a descent would clear stack for its text. Counts only the shorter side: the counts of
-/// the longer one are the difference.
+/// level of a descent would clear stack for its text.
 #[inline(never)]
 fn leaf_part(
     maker: &mut Maker,
@@ -45,11 +44,10 @@ fn leaf_part(
     let place = leaf.char_to_byte_idx(at);
     let (front, back) = (&text[..place], &text[place..]);
     let (front_info, back_info) = infos_of_parts(front, back, node.info(), breaks);
-    let (part, info) = match side {
-        Side::Front => (front, front_info),
-        Side::Back => (back, back_info),
-    };
-    make_leaf(maker, breaks, part, info)
+    match side {
+        Side::Front => make_leaf(maker, breaks, front, front_info),
+        Side::Back => make_leaf(maker, breaks, back, back_info),
+    }
 }
 
 /// A side of a split inner node, not yet under a node of its own: a row of its children, and one or
