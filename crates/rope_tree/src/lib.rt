@@ -24,7 +24,8 @@
 //! - `leaf_edits`, `leaf`: edits of a leaf's text, and a text with its counts
 //! - `maker`, `search`, `editor`: new nodes, running totals, and both with the counts of an edit
 //! - `node`: nodes; `row` makes nodes over rows of others, `anew` inserts into a new tree,
-//!   `in_place` edits nodes in place, `across` two adjacent leaves, `pieces` splits longer texts
+//!   `in_place` edits nodes in place, `across` two adjacent leaves, `pieces` splits longer texts,
+//!   and `split` splits a tree in place
 //! - `lookup`, `conversions`: the descent to a leaf, and conversions of indices by it
 //! - `beside`, `short_edits`: the minimum bytes beside neighbours, and edits of whole trees
 //! - `build`, `builder`: trees of whole texts, and of texts passed in one after another

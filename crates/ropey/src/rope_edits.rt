@@ -228,7 +228,7 @@ impl Rope {
     }
 
     /// Keeps the first `char_idx` characters, and returns the rest as a rope with the same set of
-    /// line breaks. The two share nodes.
+    /// line breaks. Nodes that no other rope shares move to one of the two; others are shared.
     ///
     /// The index is at most `len_chars()`. Takes memory for at most 12 d + 2 nodes, where d is the
     /// rope's depth.
