@@ -214,7 +214,8 @@ module _ (old pre post a x b : List Tree) (o : HasThree old pre post a x b) wher
 
   a_and_x : AreLeaves (la ++ lx)
   a_and_x =
-      leaves_left (la ++ lx) (lb ++ lp) (subst AreLeaves (sym (append_assoc la lx (lb ++ lp))) from_a)
+      leaves_left (la ++ lx) (lb ++ lp) (subst AreLeaves (sym (append_assoc la lx
+      (lb ++ lp))) from_a)
 
   x_and_b : AreLeaves (lx ++ lb)
   x_and_b = leaves_left (lx ++ lb) lp (subst AreLeaves (sym (append_assoc lx lb lp)) from_x)
@@ -449,7 +450,8 @@ module _ (old pre post a x b : List Tree) (o : HasThree old pre post a x b) wher
           siblings-append br h backs post back_over level_post seam_post near_post
           (omega (arith, bytes_back, o.family.fits))
 
-      following : (i : ℕ) → IsDenseAfter i (leaves_of old) → IsDenseAfter i (leaves_of (pre ++ fronts))
+      following : (i : ℕ) → IsDenseAfter i (leaves_of old) → IsDenseAfter i (leaves_of
+          (pre ++ fronts))
       following i d =
           let e : IsDenseAfter i (leaves_of pre ++ (la ++ (lx ++ (lb ++ lp)))) =
           subst (IsDenseAfter i) leaves_are d in
@@ -631,7 +633,8 @@ first_breaks (suc n) (t ∷ ts) some = refl
 
 -- the first totals of a list are those of its first children
 pub first_totals : (n : ℕ) (totals : List TextInfo) (ts : List Tree) → n ≤ length ts
-    → HasTotals (breaks_of ts) totals ts → HasTotals (breaks_of (take n ts)) (take n totals) (take n ts)
+    → HasTotals (breaks_of ts) totals ts → HasTotals (breaks_of (take n ts)) (take n totals)
+    (take n ts)
 first_totals n totals ts le h = record {
   as_many = length-take-le n totals (omega (arith, h.as_many)) ∙ sym (length-take-le n ts le);
   total_at = λ k d lt.
@@ -703,7 +706,8 @@ before_two self s t u x y z e f g =
     ∙ append_assoc t (y ∷ []) (z ∷ []) in
     let n : length self - 2 ≡ length t =
     omega (arith, ap length whole, length-append t (y ∷ z ∷ [])) in
-    let front : take (length self - 2) self ≡ t = ap (λ k. take k self) n ∙ ap (take (length t)) whole
+    let front : take (length self - 2) self ≡ t = ap (λ k. take k self) n ∙ ap (take
+    (length t)) whole
     ∙ take-append_seam t (y ∷ z ∷ []) in
     ap (λ l. length (joined l)) (front ∙ g) ∙ ap length (joined-append u (x ∷ []))
     ∙ length-append (joined u) (joined (x ∷ []))

@@ -236,8 +236,8 @@ impl Children {
     }
 
     /// Splits the last child, a leaf, `inside` characters from its start, if both parts are long
-    /// enough beside the leaves around it. Returns whether it did. The second part becomes the first
-    /// child of `rest`, whose children follow.
+    /// enough beside the leaves around it. Returns whether it did. The second part becomes the
+    /// first child of `rest`, whose children follow.
     fn split_leaf(
         &mut self,
         maker: &mut Maker,
@@ -281,9 +281,9 @@ impl Children {
     }
 
     /// Splits the last child but one, `inside` characters from its start, and moves children
-    /// between its parts and its neighbours, so that each keeps at least 12. Returns whether it did:
-    /// not if one of the three has another owner. The second part and the last child become the
-    /// first children of `rest`, whose children follow.
+    /// between its parts and its neighbours, so that each keeps at least 12. Returns whether it
+    /// did: not if one of the three has another owner. The second part and the last child become
+    /// the first children of `rest`, whose children follow.
     #[cycle(split)]
     fn split_list(
         &mut self,
@@ -405,10 +405,11 @@ impl Node {
         }
     }
 
-    /// Splits a tree before the character `at`, where it stands: keeps the characters before it, and
-    /// returns a tree of those from it on. Returns `None`, leaving the tree as it was, if a node on
-    /// the path or beside it has another owner, if the path is at the end of a list, if a part of
-    /// the leaf would be too short, or if the tree is a leaf or has 4 GiB or more.
+    /// Splits a tree before the character `at`, where it stands: keeps the characters before it,
+    /// and returns a tree of those from it on. Returns `None`, leaving the tree as it was, if a
+    /// node on the path or beside it has another owner, if the path is at the end of a list, if a
+    /// part of the leaf would be too short, or if the tree is a leaf or has 4 GiB or more. Takes
+    /// memory for a list a level, two more, and a leaf.
     pub fn split_in_place(&mut self, editor: &mut Editor, at: usize) -> Made<Option<Node>>
         requires { at ≤ length (text self.old) }
         ensures front { IfOk result (λ found. IfSome found

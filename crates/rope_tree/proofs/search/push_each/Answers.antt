@@ -62,7 +62,8 @@ insert-requires-clause-narrow c narrow =
     record {
       bytes = omega (arith, f.bytes, ap (λ i. i.bytes) e, ap (λ i. i.bytes) s);
       chars = omega (arith, f.chars, ap (λ i. i.chars) e, ap (λ i. i.chars) s);
-      pairs = omega (arith, f.pairs, ap (λ i. i.utf16_surrogates) e, ap (λ i. i.utf16_surrogates) s);
+      pairs =
+          omega (arith, f.pairs, ap (λ i. i.utf16_surrogates) e, ap (λ i. i.utf16_surrogates) s);
       breaks = omega (arith, f.breaks, ap (λ i. i.break_count) e, ap (λ i. i.break_count) s);
     }
 

@@ -35,7 +35,8 @@ module _ (c : After-range_from-back) where
   back_is = cut.back ∙ ap (drop c.args.at) leaf_is
 
   front_bytes : byte_len (take c.args.at (text c.args.self.now)) ≡ length c.range-front.result.now
-  front_bytes = sym (ap byte_len front_is) ∙ byte_len-chars c.range-front.result.now c.range-front.utf8
+  front_bytes = sym (ap byte_len front_is)
+      ∙ byte_len-chars c.range-front.result.now c.range-front.utf8
 
   back_bytes : byte_len (drop c.args.at (text c.args.self.now))
       ≡ length c.range_from-back.result.now

@@ -266,138 +266,241 @@ module _ (t : ℕ) (c : split_list-After-push_over-arg-2-1 t) where
 pub split_list-pop_list-requires-clause-level :
     goal.split_list-pop_list-requires-clause-level
 split_list-pop_list-requires-clause-level t c =
-    (movable_left c.args.self.now c.args.rest.now (movable_of _ c.requires.children c.requires.few)).level
+    (movable_left c.args.self.now c.args.rest.now
+    (movable_of _ c.requires.children c.requires.few)).level
 
 pub split_list-pop_list-requires-clause-few :
     goal.split_list-pop_list-requires-clause-few
 split_list-pop_list-requires-clause-few t c =
-    (movable_left c.args.self.now c.args.rest.now (movable_of _ c.requires.children c.requires.few)).few
+    (movable_left c.args.self.now c.args.rest.now
+    (movable_of _ c.requires.children c.requires.few)).few
 
 pub split_list-pop_list-requires-2-clause-level :
     goal.split_list-pop_list-requires-2-clause-level
 split_list-pop_list-requires-2-clause-level t c =
-    (movable_left c.pop_list.new.self (tree_over c.in-Some.right.value ∷ []) (subst AreMovable c.in-Some.ensures.list (movable_left c.args.self.now c.args.rest.now (movable_of _ c.requires.children c.requires.few)))).level
+    (movable_left c.pop_list.new.self (tree_over c.in-Some.right.value ∷ [])
+    (subst AreMovable c.in-Some.ensures.list (movable_left c.args.self.now c.args.rest.now
+    (movable_of _ c.requires.children c.requires.few)))).level
 
 pub split_list-pop_list-requires-2-clause-few :
     goal.split_list-pop_list-requires-2-clause-few
 split_list-pop_list-requires-2-clause-few t c =
-    (movable_left c.pop_list.new.self (tree_over c.in-Some.right.value ∷ []) (subst AreMovable c.in-Some.ensures.list (movable_left c.args.self.now c.args.rest.now (movable_of _ c.requires.children c.requires.few)))).few
+    (movable_left c.pop_list.new.self (tree_over c.in-Some.right.value ∷ [])
+    (subst AreMovable c.in-Some.ensures.list (movable_left c.args.self.now c.args.rest.now
+    (movable_of _ c.requires.children c.requires.few)))).few
 
 pub split_list-pop_list-requires-3-clause-level :
     goal.split_list-pop_list-requires-3-clause-level
 split_list-pop_list-requires-3-clause-level t c =
-    (movable_left c.pop_list-2.new.self (tree_over c.in-Some-pop_list.list.value ∷ []) (subst AreMovable c.in-Some-pop_list.ensures.list (movable_left c.pop_list.new.self (tree_over c.in-Some.right.value ∷ []) (subst AreMovable c.in-Some.ensures.list (movable_left c.args.self.now c.args.rest.now (movable_of _ c.requires.children c.requires.few)))))).level
+    (movable_left c.pop_list-2.new.self (tree_over c.in-Some-pop_list.list.value ∷ [])
+    (subst AreMovable c.in-Some-pop_list.ensures.list (movable_left c.pop_list.new.self
+    (tree_over c.in-Some.right.value ∷ []) (subst AreMovable c.in-Some.ensures.list
+    (movable_left c.args.self.now c.args.rest.now
+    (movable_of _ c.requires.children c.requires.few)))))).level
 
 pub split_list-pop_list-requires-3-clause-few :
     goal.split_list-pop_list-requires-3-clause-few
 split_list-pop_list-requires-3-clause-few t c =
-    (movable_left c.pop_list-2.new.self (tree_over c.in-Some-pop_list.list.value ∷ []) (subst AreMovable c.in-Some-pop_list.ensures.list (movable_left c.pop_list.new.self (tree_over c.in-Some.right.value ∷ []) (subst AreMovable c.in-Some.ensures.list (movable_left c.args.self.now c.args.rest.now (movable_of _ c.requires.children c.requires.few)))))).few
+    (movable_left c.pop_list-2.new.self (tree_over c.in-Some-pop_list.list.value ∷ [])
+    (subst AreMovable c.in-Some-pop_list.ensures.list (movable_left c.pop_list.new.self
+    (tree_over c.in-Some.right.value ∷ []) (subst AreMovable c.in-Some.ensures.list
+    (movable_left c.args.self.now c.args.rest.now
+    (movable_of _ c.requires.children c.requires.few)))))).few
 
 pub split_list-push_over-requires-clause-level :
     goal.split_list-push_over-requires-clause-level
 split_list-push_over-requires-clause-level t c =
-    (subst AreMovable (sym (ap (λ y. y ++ nodes_over c.in-Some.right.value) c.in_default-pop_list.ensures.kept ∙ put_back c.args.self.now c.pop_list.new.self c.in-Some.right.value c.in-Some.ensures.list c.in-Some.ensures.family)) (movable_left c.args.self.now c.args.rest.now (movable_of _ c.requires.children c.requires.few))).level
+    (subst AreMovable (sym (ap
+    (λ y. y ++ nodes_over c.in-Some.right.value) c.in_default-pop_list.ensures.kept
+    ∙ put_back c.args.self.now c.pop_list.new.self c.in-Some.right.value c.in-Some.ensures.list
+    c.in-Some.ensures.family)) (movable_left c.args.self.now c.args.rest.now
+    (movable_of _ c.requires.children c.requires.few))).level
 
 pub split_list-push_over-requires-clause-few :
     goal.split_list-push_over-requires-clause-few
 split_list-push_over-requires-clause-few t c =
-    (subst AreMovable (sym (ap (λ y. y ++ nodes_over c.in-Some.right.value) c.in_default-pop_list.ensures.kept ∙ put_back c.args.self.now c.pop_list.new.self c.in-Some.right.value c.in-Some.ensures.list c.in-Some.ensures.family)) (movable_left c.args.self.now c.args.rest.now (movable_of _ c.requires.children c.requires.few))).few
+    (subst AreMovable (sym (ap
+    (λ y. y ++ nodes_over c.in-Some.right.value) c.in_default-pop_list.ensures.kept
+    ∙ put_back c.args.self.now c.pop_list.new.self c.in-Some.right.value c.in-Some.ensures.list
+    c.in-Some.ensures.family)) (movable_left c.args.self.now c.args.rest.now
+    (movable_of _ c.requires.children c.requires.few))).few
 
 pub split_list-push_over-requires-in_default-pop_list-2-clause-level :
     goal.split_list-push_over-requires-in_default-pop_list-2-clause-level
 split_list-push_over-requires-in_default-pop_list-2-clause-level t c =
-    (subst AreMovable (sym (ap (λ y. y ++ nodes_over c.in-Some-pop_list.list.value) c.in_default-pop_list-2.ensures.kept ∙ put_back c.pop_list.new.self c.pop_list-2.new.self c.in-Some-pop_list.list.value c.in-Some-pop_list.ensures.list c.in-Some-pop_list.ensures.family)) (movable_left c.pop_list.new.self (tree_over c.in-Some.right.value ∷ []) (subst AreMovable c.in-Some.ensures.list (movable_left c.args.self.now c.args.rest.now (movable_of _ c.requires.children c.requires.few))))).level
+    (subst AreMovable (sym (ap
+    (λ y. y ++ nodes_over c.in-Some-pop_list.list.value) c.in_default-pop_list-2.ensures.kept
+    ∙ put_back c.pop_list.new.self c.pop_list-2.new.self c.in-Some-pop_list.list.value
+    c.in-Some-pop_list.ensures.list c.in-Some-pop_list.ensures.family))
+    (movable_left c.pop_list.new.self (tree_over c.in-Some.right.value ∷ [])
+    (subst AreMovable c.in-Some.ensures.list (movable_left c.args.self.now c.args.rest.now
+    (movable_of _ c.requires.children c.requires.few))))).level
 
 pub split_list-push_over-requires-in_default-pop_list-2-clause-few :
     goal.split_list-push_over-requires-in_default-pop_list-2-clause-few
 split_list-push_over-requires-in_default-pop_list-2-clause-few t c =
-    (subst AreMovable (sym (ap (λ y. y ++ nodes_over c.in-Some-pop_list.list.value) c.in_default-pop_list-2.ensures.kept ∙ put_back c.pop_list.new.self c.pop_list-2.new.self c.in-Some-pop_list.list.value c.in-Some-pop_list.ensures.list c.in-Some-pop_list.ensures.family)) (movable_left c.pop_list.new.self (tree_over c.in-Some.right.value ∷ []) (subst AreMovable c.in-Some.ensures.list (movable_left c.args.self.now c.args.rest.now (movable_of _ c.requires.children c.requires.few))))).few
+    (subst AreMovable (sym (ap
+    (λ y. y ++ nodes_over c.in-Some-pop_list.list.value) c.in_default-pop_list-2.ensures.kept
+    ∙ put_back c.pop_list.new.self c.pop_list-2.new.self c.in-Some-pop_list.list.value
+    c.in-Some-pop_list.ensures.list c.in-Some-pop_list.ensures.family))
+    (movable_left c.pop_list.new.self (tree_over c.in-Some.right.value ∷ [])
+    (subst AreMovable c.in-Some.ensures.list (movable_left c.args.self.now c.args.rest.now
+    (movable_of _ c.requires.children c.requires.few))))).few
 
 pub split_list-push_over-requires-in_default-pop_list-2-2-clause-level :
     goal.split_list-push_over-requires-in_default-pop_list-2-2-clause-level
 split_list-push_over-requires-in_default-pop_list-2-2-clause-level t c =
-    (subst AreMovable (sym (ap (λ y. y ++ nodes_over c.in-Some.right.value) (c.push_over-in_default-pop_list-2.ensures ∙ ap (λ y. y ++ nodes_over c.in-Some-pop_list.list.value) c.in_default-pop_list-2.ensures.kept ∙ put_back c.pop_list.new.self c.pop_list-2.new.self c.in-Some-pop_list.list.value c.in-Some-pop_list.ensures.list c.in-Some-pop_list.ensures.family) ∙ put_back c.args.self.now c.pop_list.new.self c.in-Some.right.value c.in-Some.ensures.list c.in-Some.ensures.family)) (movable_left c.args.self.now c.args.rest.now (movable_of _ c.requires.children c.requires.few))).level
+    (subst AreMovable (sym (ap (λ y. y ++ nodes_over c.in-Some.right.value)
+    (c.push_over-in_default-pop_list-2.ensures ∙ ap
+    (λ y. y ++ nodes_over c.in-Some-pop_list.list.value) c.in_default-pop_list-2.ensures.kept
+    ∙ put_back c.pop_list.new.self c.pop_list-2.new.self c.in-Some-pop_list.list.value
+    c.in-Some-pop_list.ensures.list c.in-Some-pop_list.ensures.family)
+    ∙ put_back c.args.self.now c.pop_list.new.self c.in-Some.right.value c.in-Some.ensures.list
+    c.in-Some.ensures.family)) (movable_left c.args.self.now c.args.rest.now
+    (movable_of _ c.requires.children c.requires.few))).level
 
 pub split_list-push_over-requires-in_default-pop_list-2-2-clause-few :
     goal.split_list-push_over-requires-in_default-pop_list-2-2-clause-few
 split_list-push_over-requires-in_default-pop_list-2-2-clause-few t c =
-    (subst AreMovable (sym (ap (λ y. y ++ nodes_over c.in-Some.right.value) (c.push_over-in_default-pop_list-2.ensures ∙ ap (λ y. y ++ nodes_over c.in-Some-pop_list.list.value) c.in_default-pop_list-2.ensures.kept ∙ put_back c.pop_list.new.self c.pop_list-2.new.self c.in-Some-pop_list.list.value c.in-Some-pop_list.ensures.list c.in-Some-pop_list.ensures.family) ∙ put_back c.args.self.now c.pop_list.new.self c.in-Some.right.value c.in-Some.ensures.list c.in-Some.ensures.family)) (movable_left c.args.self.now c.args.rest.now (movable_of _ c.requires.children c.requires.few))).few
+    (subst AreMovable (sym (ap (λ y. y ++ nodes_over c.in-Some.right.value)
+    (c.push_over-in_default-pop_list-2.ensures ∙ ap
+    (λ y. y ++ nodes_over c.in-Some-pop_list.list.value) c.in_default-pop_list-2.ensures.kept
+    ∙ put_back c.pop_list.new.self c.pop_list-2.new.self c.in-Some-pop_list.list.value
+    c.in-Some-pop_list.ensures.list c.in-Some-pop_list.ensures.family)
+    ∙ put_back c.args.self.now c.pop_list.new.self c.in-Some.right.value c.in-Some.ensures.list
+    c.in-Some.ensures.family)) (movable_left c.args.self.now c.args.rest.now
+    (movable_of _ c.requires.children c.requires.few))).few
 
 pub split_list-push_over-requires-then-not-matches-clause-level :
     goal.split_list-push_over-requires-then-not-matches-clause-level
 split_list-push_over-requires-then-not-matches-clause-level t c =
-    (subst AreMovable (sym (back_1 t ((goal.at.split_list-push_over-requires-then-not-matches-clause-level t c).After-as_mut-2))) (own_3 t ((goal.at.split_list-push_over-requires-then-not-matches-clause-level t c).After-as_mut-2))).level
+    (subst AreMovable (sym (back_1 t
+    ((goal.at.split_list-push_over-requires-then-not-matches-clause-level t c).After-as_mut-2)))
+    (own_3 t
+    ((goal.at.split_list-push_over-requires-then-not-matches-clause-level t
+    c).After-as_mut-2))).level
 
 pub split_list-push_over-requires-then-not-matches-clause-few :
     goal.split_list-push_over-requires-then-not-matches-clause-few
 split_list-push_over-requires-then-not-matches-clause-few t c =
-    (subst AreMovable (sym (back_1 t ((goal.at.split_list-push_over-requires-then-not-matches-clause-few t c).After-as_mut-2))) (own_3 t ((goal.at.split_list-push_over-requires-then-not-matches-clause-few t c).After-as_mut-2))).few
+    (subst AreMovable (sym (back_1 t
+    ((goal.at.split_list-push_over-requires-then-not-matches-clause-few t c).After-as_mut-2)))
+    (own_3 t
+    ((goal.at.split_list-push_over-requires-then-not-matches-clause-few t c).After-as_mut-2))).few
 
 pub split_list-push_over-requires-then-not-matches-2-clause-level :
     goal.split_list-push_over-requires-then-not-matches-2-clause-level
 split_list-push_over-requires-then-not-matches-2-clause-level t c =
-    (let kept : c.split-did.new.self ≡ c.in-Some-pop_list.list.value = (elim c.match-matches.branch [
+    (let kept : c.split-did.new.self ≡ c.in-Some-pop_list.list.value =
+    (elim c.match-matches.branch [
       | split_list-in-Ok-true w ↦ absurd (cc)
       | split_list-in_default-matches w ↦ w.in_default-matches.ensures.kept (search rules)
       | split_list-in_default-matches-2 w ↦ w.in_default-matches.ensures.err
-    ] ∙ c.as_mut.ensures.value) in subst AreMovable (sym (ap₂ (λ y z. y ++ nodes_over z) (c.push_over-then-not-matches.ensures ∙ back_1 t ((goal.at.split_list-push_over-requires-then-not-matches-2-clause-level t c).After-as_mut-2)) kept ∙ back_2 t ((goal.at.split_list-push_over-requires-then-not-matches-2-clause-level t c).After-as_mut-2))) (own_2 t ((goal.at.split_list-push_over-requires-then-not-matches-2-clause-level t c).After-as_mut-2))).level
+    ] ∙ c.as_mut.ensures.value) in subst AreMovable (sym (ap₂ (λ y z. y ++ nodes_over z)
+    (c.push_over-then-not-matches.ensures ∙ back_1 t
+    ((goal.at.split_list-push_over-requires-then-not-matches-2-clause-level t c).After-as_mut-2))
+    kept ∙ back_2 t
+    ((goal.at.split_list-push_over-requires-then-not-matches-2-clause-level t c).After-as_mut-2)))
+    (own_2 t
+    ((goal.at.split_list-push_over-requires-then-not-matches-2-clause-level t
+    c).After-as_mut-2))).level
 
 pub split_list-push_over-requires-then-not-matches-2-clause-few :
     goal.split_list-push_over-requires-then-not-matches-2-clause-few
 split_list-push_over-requires-then-not-matches-2-clause-few t c =
-    (let kept : c.split-did.new.self ≡ c.in-Some-pop_list.list.value = (elim c.match-matches.branch [
+    (let kept : c.split-did.new.self ≡ c.in-Some-pop_list.list.value =
+    (elim c.match-matches.branch [
       | split_list-in-Ok-true w ↦ absurd (cc)
       | split_list-in_default-matches w ↦ w.in_default-matches.ensures.kept (search rules)
       | split_list-in_default-matches-2 w ↦ w.in_default-matches.ensures.err
-    ] ∙ c.as_mut.ensures.value) in subst AreMovable (sym (ap₂ (λ y z. y ++ nodes_over z) (c.push_over-then-not-matches.ensures ∙ back_1 t ((goal.at.split_list-push_over-requires-then-not-matches-2-clause-few t c).After-as_mut-2)) kept ∙ back_2 t ((goal.at.split_list-push_over-requires-then-not-matches-2-clause-few t c).After-as_mut-2))) (own_2 t ((goal.at.split_list-push_over-requires-then-not-matches-2-clause-few t c).After-as_mut-2))).few
+    ] ∙ c.as_mut.ensures.value) in subst AreMovable (sym (ap₂ (λ y z. y ++ nodes_over z)
+    (c.push_over-then-not-matches.ensures ∙ back_1 t
+    ((goal.at.split_list-push_over-requires-then-not-matches-2-clause-few t c).After-as_mut-2))
+    kept ∙ back_2 t
+    ((goal.at.split_list-push_over-requires-then-not-matches-2-clause-few t c).After-as_mut-2)))
+    (own_2 t
+    ((goal.at.split_list-push_over-requires-then-not-matches-2-clause-few t c).After-as_mut-2))).few
 
 pub split_list-push_over-requires-then-not-matches-3-clause-level :
     goal.split_list-push_over-requires-then-not-matches-3-clause-level
 split_list-push_over-requires-then-not-matches-3-clause-level t c =
-    (let kept : c.split-did.new.self ≡ c.in-Some-pop_list.list.value = (elim c.match-matches.branch [
+    (let kept : c.split-did.new.self ≡ c.in-Some-pop_list.list.value =
+    (elim c.match-matches.branch [
       | split_list-in-Ok-true w ↦ absurd (cc)
       | split_list-in_default-matches w ↦ w.in_default-matches.ensures.kept (search rules)
       | split_list-in_default-matches-2 w ↦ w.in_default-matches.ensures.err
-    ] ∙ c.as_mut.ensures.value) in subst AreMovable (sym (ap (λ y. y ++ nodes_over c.in-Some.right.value) (c.push_over-then-not-matches-2.ensures ∙ ap₂ (λ y z. y ++ nodes_over z) (c.push_over-then-not-matches.ensures ∙ back_1 t ((goal.at.split_list-push_over-requires-then-not-matches-3-clause-level t c).After-as_mut-2)) kept ∙ back_2 t ((goal.at.split_list-push_over-requires-then-not-matches-3-clause-level t c).After-as_mut-2)) ∙ back_3 t ((goal.at.split_list-push_over-requires-then-not-matches-3-clause-level t c).After-as_mut-2))) (own t ((goal.at.split_list-push_over-requires-then-not-matches-3-clause-level t c).After-as_mut-2))).level
+    ] ∙ c.as_mut.ensures.value) in subst AreMovable (sym (ap
+    (λ y. y ++ nodes_over c.in-Some.right.value) (c.push_over-then-not-matches-2.ensures ∙ ap₂
+    (λ y z. y ++ nodes_over z) (c.push_over-then-not-matches.ensures ∙ back_1 t
+    ((goal.at.split_list-push_over-requires-then-not-matches-3-clause-level t c).After-as_mut-2))
+    kept ∙ back_2 t
+    ((goal.at.split_list-push_over-requires-then-not-matches-3-clause-level t c).After-as_mut-2))
+    ∙ back_3 t
+    ((goal.at.split_list-push_over-requires-then-not-matches-3-clause-level t c).After-as_mut-2)))
+    (own t
+    ((goal.at.split_list-push_over-requires-then-not-matches-3-clause-level t
+    c).After-as_mut-2))).level
 
 pub split_list-push_over-requires-then-not-matches-3-clause-few :
     goal.split_list-push_over-requires-then-not-matches-3-clause-few
 split_list-push_over-requires-then-not-matches-3-clause-few t c =
-    (let kept : c.split-did.new.self ≡ c.in-Some-pop_list.list.value = (elim c.match-matches.branch [
+    (let kept : c.split-did.new.self ≡ c.in-Some-pop_list.list.value =
+    (elim c.match-matches.branch [
       | split_list-in-Ok-true w ↦ absurd (cc)
       | split_list-in_default-matches w ↦ w.in_default-matches.ensures.kept (search rules)
       | split_list-in_default-matches-2 w ↦ w.in_default-matches.ensures.err
-    ] ∙ c.as_mut.ensures.value) in subst AreMovable (sym (ap (λ y. y ++ nodes_over c.in-Some.right.value) (c.push_over-then-not-matches-2.ensures ∙ ap₂ (λ y z. y ++ nodes_over z) (c.push_over-then-not-matches.ensures ∙ back_1 t ((goal.at.split_list-push_over-requires-then-not-matches-3-clause-few t c).After-as_mut-2)) kept ∙ back_2 t ((goal.at.split_list-push_over-requires-then-not-matches-3-clause-few t c).After-as_mut-2)) ∙ back_3 t ((goal.at.split_list-push_over-requires-then-not-matches-3-clause-few t c).After-as_mut-2))) (own t ((goal.at.split_list-push_over-requires-then-not-matches-3-clause-few t c).After-as_mut-2))).few
+    ] ∙ c.as_mut.ensures.value) in subst AreMovable (sym (ap
+    (λ y. y ++ nodes_over c.in-Some.right.value) (c.push_over-then-not-matches-2.ensures ∙ ap₂
+    (λ y z. y ++ nodes_over z) (c.push_over-then-not-matches.ensures ∙ back_1 t
+    ((goal.at.split_list-push_over-requires-then-not-matches-3-clause-few t c).After-as_mut-2))
+    kept ∙ back_2 t
+    ((goal.at.split_list-push_over-requires-then-not-matches-3-clause-few t c).After-as_mut-2))
+    ∙ back_3 t
+    ((goal.at.split_list-push_over-requires-then-not-matches-3-clause-few t c).After-as_mut-2)))
+    (own t
+    ((goal.at.split_list-push_over-requires-then-not-matches-3-clause-few t c).After-as_mut-2))).few
 
 pub split_list-settle-requires-clause-level :
     goal.split_list-settle-requires-clause-level
 split_list-settle-requires-clause-level t c =
-    (subst AreMovable (sym (ap₂ (λ y z. y ++ z) c.as_mut-3.ensures.value c.as_mut-4.ensures.value)) (front_two t ((goal.at.split_list-settle-requires-clause-level t c).After-settle-arg-1))).level
+    (subst AreMovable (sym (ap₂
+    (λ y z. y ++ z) c.as_mut-3.ensures.value c.as_mut-4.ensures.value)) (front_two t
+    ((goal.at.split_list-settle-requires-clause-level t c).After-settle-arg-1))).level
 
 pub split_list-settle-requires-clause-few :
     goal.split_list-settle-requires-clause-few
 split_list-settle-requires-clause-few t c =
-    (subst AreMovable (sym (ap₂ (λ y z. y ++ z) c.as_mut-3.ensures.value c.as_mut-4.ensures.value)) (front_two t ((goal.at.split_list-settle-requires-clause-few t c).After-settle-arg-1))).few
+    (subst AreMovable (sym (ap₂
+    (λ y z. y ++ z) c.as_mut-3.ensures.value c.as_mut-4.ensures.value)) (front_two t
+    ((goal.at.split_list-settle-requires-clause-few t c).After-settle-arg-1))).few
 
 pub split_list-settle-requires-2-clause-level :
     goal.split_list-settle-requires-2-clause-level
 split_list-settle-requires-2-clause-level t c =
-    (subst AreMovable (sym (ap₂ (λ y z. y ++ z) c.as_mut-5.ensures.value c.as_mut-6.ensures.value)) (back_two t ((goal.at.split_list-settle-requires-2-clause-level t c).After-settle-arg-1))).level
+    (subst AreMovable (sym (ap₂
+    (λ y z. y ++ z) c.as_mut-5.ensures.value c.as_mut-6.ensures.value)) (back_two t
+    ((goal.at.split_list-settle-requires-2-clause-level t c).After-settle-arg-1))).level
 
 pub split_list-settle-requires-2-clause-few :
     goal.split_list-settle-requires-2-clause-few
 split_list-settle-requires-2-clause-few t c =
-    (subst AreMovable (sym (ap₂ (λ y z. y ++ z) c.as_mut-5.ensures.value c.as_mut-6.ensures.value)) (back_two t ((goal.at.split_list-settle-requires-2-clause-few t c).After-settle-arg-1))).few
+    (subst AreMovable (sym (ap₂
+    (λ y z. y ++ z) c.as_mut-5.ensures.value c.as_mut-6.ensures.value)) (back_two t
+    ((goal.at.split_list-settle-requires-2-clause-few t c).After-settle-arg-1))).few
 
 pub split_list-settle-requires-clause-enough :
     goal.split_list-settle-requires-clause-enough
 split_list-settle-requires-clause-enough t c =
-    subst (λ y. 12 ≤ length y) (sym (ap₂ (λ y z. y ++ z) c.as_mut-3.ensures.value c.as_mut-4.ensures.value)) (enough_front t ((goal.at.split_list-settle-requires-clause-enough t c).After-settle-arg-1))
+    subst (λ y. 12 ≤ length y) (sym (ap₂
+    (λ y z. y ++ z) c.as_mut-3.ensures.value c.as_mut-4.ensures.value)) (enough_front t
+    ((goal.at.split_list-settle-requires-clause-enough t c).After-settle-arg-1))
 
 pub split_list-settle-requires-2-clause-enough :
     goal.split_list-settle-requires-2-clause-enough
 split_list-settle-requires-2-clause-enough t c =
-    subst (λ y. 12 ≤ length y) (sym (ap₂ (λ y z. y ++ z) c.as_mut-5.ensures.value c.as_mut-6.ensures.value)) (enough_back t ((goal.at.split_list-settle-requires-2-clause-enough t c).After-settle-arg-1))
+    subst (λ y. 12 ≤ length y) (sym (ap₂
+    (λ y z. y ++ z) c.as_mut-5.ensures.value c.as_mut-6.ensures.value)) (enough_back t
+    ((goal.at.split_list-settle-requires-2-clause-enough t c).After-settle-arg-1))
 
 pub split_list-push_over-requires-2-clause-family :
     goal.split_list-push_over-requires-2-clause-family
@@ -422,27 +525,40 @@ split_list-push_over-requires-3-clause-family t c =
 pub split_list-push_over-requires-3-clause-level :
     goal.split_list-push_over-requires-3-clause-level
 split_list-push_over-requires-3-clause-level t c =
-    (subst AreMovable (sym (ap (λ y. y ++ nodes_over c.settle.new.right) c.push_over-2.ensures ∙ append_assoc (pre t (g t ((goal.at.split_list-push_over-requires-3-clause-level t c).After-push_over-arg-2-1))) (nodes_over c.settle.new.self) (nodes_over c.settle.new.right))) (F t ((goal.at.split_list-push_over-requires-3-clause-level t c).After-push_over-arg-2-1))).level
+    (subst AreMovable (sym (ap (λ y. y ++ nodes_over c.settle.new.right) c.push_over-2.ensures
+    ∙ append_assoc (pre t (g t
+    ((goal.at.split_list-push_over-requires-3-clause-level t c).After-push_over-arg-2-1)))
+    (nodes_over c.settle.new.self) (nodes_over c.settle.new.right))) (F t
+    ((goal.at.split_list-push_over-requires-3-clause-level t c).After-push_over-arg-2-1))).level
 
 pub split_list-push_over-requires-3-clause-few :
     goal.split_list-push_over-requires-3-clause-few
 split_list-push_over-requires-3-clause-few t c =
-    (subst AreMovable (sym (ap (λ y. y ++ nodes_over c.settle.new.right) c.push_over-2.ensures ∙ append_assoc (pre t (g t ((goal.at.split_list-push_over-requires-3-clause-few t c).After-push_over-arg-2-1))) (nodes_over c.settle.new.self) (nodes_over c.settle.new.right))) (F t ((goal.at.split_list-push_over-requires-3-clause-few t c).After-push_over-arg-2-1))).few
+    (subst AreMovable (sym (ap (λ y. y ++ nodes_over c.settle.new.right) c.push_over-2.ensures
+    ∙ append_assoc (pre t (g t
+    ((goal.at.split_list-push_over-requires-3-clause-few t c).After-push_over-arg-2-1)))
+    (nodes_over c.settle.new.self) (nodes_over c.settle.new.right))) (F t
+    ((goal.at.split_list-push_over-requires-3-clause-few t c).After-push_over-arg-2-1))).few
 
 pub split_list-push_over-requires-4-clause-family :
     goal.split_list-push_over-requires-4-clause-family
 split_list-push_over-requires-4-clause-family t c =
-    λ some. n_family t ((goal.at.split_list-push_over-requires-4-clause-family t c).After-push_over-arg-2-1)
+    λ some. n_family t
+    ((goal.at.split_list-push_over-requires-4-clause-family t c).After-push_over-arg-2-1)
 
 pub split_list-push_over-requires-4-clause-level :
     goal.split_list-push_over-requires-4-clause-level
 split_list-push_over-requires-4-clause-level t c =
-    (subst AreMovable (sym (ap (λ y. y ++ nodes_over c.settle-2.new.self) c.settle-2.ensures.none)) (move_n t ((goal.at.split_list-push_over-requires-4-clause-level t c).After-push_over-arg-2-1))).level
+    (subst AreMovable (sym (ap
+    (λ y. y ++ nodes_over c.settle-2.new.self) c.settle-2.ensures.none)) (move_n t
+    ((goal.at.split_list-push_over-requires-4-clause-level t c).After-push_over-arg-2-1))).level
 
 pub split_list-push_over-requires-4-clause-few :
     goal.split_list-push_over-requires-4-clause-few
 split_list-push_over-requires-4-clause-few t c =
-    (subst AreMovable (sym (ap (λ y. y ++ nodes_over c.settle-2.new.self) c.settle-2.ensures.none)) (move_n t ((goal.at.split_list-push_over-requires-4-clause-few t c).After-push_over-arg-2-1))).few
+    (subst AreMovable (sym (ap
+    (λ y. y ++ nodes_over c.settle-2.new.self) c.settle-2.ensures.none)) (move_n t
+    ((goal.at.split_list-push_over-requires-4-clause-few t c).After-push_over-arg-2-1))).few
 
 pub split_list-push_over-requires-5-clause-family :
     goal.split_list-push_over-requires-5-clause-family
@@ -452,42 +568,68 @@ split_list-push_over-requires-5-clause-family t c =
 pub split_list-push_over-requires-5-clause-level :
     goal.split_list-push_over-requires-5-clause-level
 split_list-push_over-requires-5-clause-level t c =
-    (subst AreMovable (sym (ap (λ y. y ++ nodes_over c.settle-2.new.right) (c.push_over-4.ensures ∙ ap (λ y. y ++ nodes_over c.settle-2.new.self) c.settle-2.ensures.none))) (move_backs t ((goal.at.split_list-push_over-requires-5-clause-level t c).After-push_over-arg-2-1))).level
+    (subst AreMovable (sym (ap (λ y. y ++ nodes_over c.settle-2.new.right)
+    (c.push_over-4.ensures ∙ ap
+    (λ y. y ++ nodes_over c.settle-2.new.self) c.settle-2.ensures.none))) (move_backs t
+    ((goal.at.split_list-push_over-requires-5-clause-level t c).After-push_over-arg-2-1))).level
 
 pub split_list-push_over-requires-5-clause-few :
     goal.split_list-push_over-requires-5-clause-few
 split_list-push_over-requires-5-clause-few t c =
-    (subst AreMovable (sym (ap (λ y. y ++ nodes_over c.settle-2.new.right) (c.push_over-4.ensures ∙ ap (λ y. y ++ nodes_over c.settle-2.new.self) c.settle-2.ensures.none))) (move_backs t ((goal.at.split_list-push_over-requires-5-clause-few t c).After-push_over-arg-2-1))).few
+    (subst AreMovable (sym (ap (λ y. y ++ nodes_over c.settle-2.new.right)
+    (c.push_over-4.ensures ∙ ap
+    (λ y. y ++ nodes_over c.settle-2.new.self) c.settle-2.ensures.none))) (move_backs t
+    ((goal.at.split_list-push_over-requires-5-clause-few t c).After-push_over-arg-2-1))).few
 
 pub split_list-take_from-requires-clause-level :
     goal.split_list-take_from-requires-clause-level
 split_list-take_from-requires-clause-level t c =
-    (subst AreMovable (sym (ap (λ y. y ++ c.args.rest.now) (c.push_over-5.ensures ∙ ap (λ y. y ++ nodes_over c.settle-2.new.right) (c.push_over-4.ensures ∙ ap (λ y. y ++ nodes_over c.settle-2.new.self) c.settle-2.ensures.none)))) (B t ((goal.at.split_list-take_from-requires-clause-level t c).After-push_over-arg-2-1))).level
+    (subst AreMovable (sym (ap (λ y. y ++ c.args.rest.now) (c.push_over-5.ensures ∙ ap
+    (λ y. y ++ nodes_over c.settle-2.new.right) (c.push_over-4.ensures ∙ ap
+    (λ y. y ++ nodes_over c.settle-2.new.self) c.settle-2.ensures.none)))) (B t
+    ((goal.at.split_list-take_from-requires-clause-level t c).After-push_over-arg-2-1))).level
 
 pub split_list-take_from-requires-clause-few :
     goal.split_list-take_from-requires-clause-few
 split_list-take_from-requires-clause-few t c =
-    (subst AreMovable (sym (ap (λ y. y ++ c.args.rest.now) (c.push_over-5.ensures ∙ ap (λ y. y ++ nodes_over c.settle-2.new.right) (c.push_over-4.ensures ∙ ap (λ y. y ++ nodes_over c.settle-2.new.self) c.settle-2.ensures.none)))) (B t ((goal.at.split_list-take_from-requires-clause-few t c).After-push_over-arg-2-1))).few
+    (subst AreMovable (sym (ap (λ y. y ++ c.args.rest.now) (c.push_over-5.ensures ∙ ap
+    (λ y. y ++ nodes_over c.settle-2.new.right) (c.push_over-4.ensures ∙ ap
+    (λ y. y ++ nodes_over c.settle-2.new.self) c.settle-2.ensures.none)))) (B t
+    ((goal.at.split_list-take_from-requires-clause-few t c).After-push_over-arg-2-1))).few
 
 pub split_list-take_from-requires-clause-level_other :
     goal.split_list-take_from-requires-clause-level_other
 split_list-take_from-requires-clause-level_other t c =
-    (move_rest t ((goal.at.split_list-take_from-requires-clause-level_other t c).After-push_over-arg-2-1)).level
+    (move_rest t
+    ((goal.at.split_list-take_from-requires-clause-level_other t c).After-push_over-arg-2-1)).level
 
 pub split_list-take_from-requires-2-clause-level :
     goal.split_list-take_from-requires-2-clause-level
 split_list-take_from-requires-2-clause-level t c =
-    (subst AreMovable (sym (ap₂ (λ y z. y ++ z) c.take_from.ensures.rest (c.take_from.ensures.moved ∙ ap (λ y. y ++ c.args.rest.now) (c.push_over-5.ensures ∙ ap (λ y. y ++ nodes_over c.settle-2.new.right) (c.push_over-4.ensures ∙ ap (λ y. y ++ nodes_over c.settle-2.new.self) c.settle-2.ensures.none))))) (B t ((goal.at.split_list-take_from-requires-2-clause-level t c).After-push_over-arg-2-1))).level
+    (subst AreMovable (sym (ap₂ (λ y z. y ++ z) c.take_from.ensures.rest
+    (c.take_from.ensures.moved ∙ ap (λ y. y ++ c.args.rest.now) (c.push_over-5.ensures ∙ ap
+    (λ y. y ++ nodes_over c.settle-2.new.right) (c.push_over-4.ensures ∙ ap
+    (λ y. y ++ nodes_over c.settle-2.new.self) c.settle-2.ensures.none))))) (B t
+    ((goal.at.split_list-take_from-requires-2-clause-level t c).After-push_over-arg-2-1))).level
 
 pub split_list-take_from-requires-2-clause-few :
     goal.split_list-take_from-requires-2-clause-few
 split_list-take_from-requires-2-clause-few t c =
-    (subst AreMovable (sym (ap₂ (λ y z. y ++ z) c.take_from.ensures.rest (c.take_from.ensures.moved ∙ ap (λ y. y ++ c.args.rest.now) (c.push_over-5.ensures ∙ ap (λ y. y ++ nodes_over c.settle-2.new.right) (c.push_over-4.ensures ∙ ap (λ y. y ++ nodes_over c.settle-2.new.self) c.settle-2.ensures.none))))) (B t ((goal.at.split_list-take_from-requires-2-clause-few t c).After-push_over-arg-2-1))).few
+    (subst AreMovable (sym (ap₂ (λ y z. y ++ z) c.take_from.ensures.rest
+    (c.take_from.ensures.moved ∙ ap (λ y. y ++ c.args.rest.now) (c.push_over-5.ensures ∙ ap
+    (λ y. y ++ nodes_over c.settle-2.new.right) (c.push_over-4.ensures ∙ ap
+    (λ y. y ++ nodes_over c.settle-2.new.self) c.settle-2.ensures.none))))) (B t
+    ((goal.at.split_list-take_from-requires-2-clause-few t c).After-push_over-arg-2-1))).few
 
 pub split_list-take_from-requires-2-clause-level_other :
     goal.split_list-take_from-requires-2-clause-level_other
 split_list-take_from-requires-2-clause-level_other t c =
-    (subst AreMovable (sym (c.take_from.ensures.moved ∙ ap (λ y. y ++ c.args.rest.now) (c.push_over-5.ensures ∙ ap (λ y. y ++ nodes_over c.settle-2.new.right) (c.push_over-4.ensures ∙ ap (λ y. y ++ nodes_over c.settle-2.new.self) c.settle-2.ensures.none)))) (B t ((goal.at.split_list-take_from-requires-2-clause-level_other t c).After-push_over-arg-2-1))).level
+    (subst AreMovable (sym (c.take_from.ensures.moved ∙ ap (λ y. y ++ c.args.rest.now)
+    (c.push_over-5.ensures ∙ ap (λ y. y ++ nodes_over c.settle-2.new.right)
+    (c.push_over-4.ensures ∙ ap
+    (λ y. y ++ nodes_over c.settle-2.new.self) c.settle-2.ensures.none)))) (B t
+    ((goal.at.split_list-take_from-requires-2-clause-level_other t
+    c).After-push_over-arg-2-1))).level
 
 pub split_list-returns-clause-done :
     goal.split_list-returns-clause-done
@@ -501,70 +643,154 @@ split_list-returns-clause-done t c =
     ∙ omega arith))
     (sym (c.push_over-3.ensures ∙ ap (λ y. y ++ nodes_over c.settle.new.right) c.push_over-2.ensures
     ∙ append_assoc (pre t v) (nodes_over c.settle.new.self) (nodes_over c.settle.new.right)))
-    (sym (c.take_from-2.ensures.moved ∙ ap₂ (λ y z. y ++ z) c.take_from.ensures.rest (c.take_from.ensures.moved ∙ ap (λ y. y ++ c.args.rest.now) (c.push_over-5.ensures ∙ ap (λ y. y ++ nodes_over c.settle-2.new.right) (c.push_over-4.ensures ∙ ap (λ y. y ++ nodes_over c.settle-2.new.self) c.settle-2.ensures.none)))))
+    (sym (c.take_from-2.ensures.moved ∙ ap₂ (λ y z. y ++ z) c.take_from.ensures.rest
+    (c.take_from.ensures.moved ∙ ap (λ y. y ++ c.args.rest.now) (c.push_over-5.ensures ∙ ap
+    (λ y. y ++ nodes_over c.settle-2.new.right) (c.push_over-4.ensures ∙ ap
+    (λ y. y ++ nodes_over c.settle-2.new.self) c.settle-2.ensures.none)))))
     (result t u)
 
 pub split_list-returns-clause-made :
     goal.split_list-returns-clause-made
 split_list-returns-clause-made t c =
-    let v = (goal.at.split_list-returns-clause-made t c).After-as_mut-2 in omega (arith, c.split-did.ensures.made, c.add_made.ensures.most, ap height_of c.as_mut.ensures.value, above_x (old t v) (pre t v) c.args.rest.now (a t v) (x t v) (b t v) (three t v))
+    let v = (goal.at.split_list-returns-clause-made t c).After-as_mut-2 in omega (
+      arith,
+      c.split-did.ensures.made,
+      c.add_made.ensures.most,
+      ap height_of
+          c.as_mut.ensures.value,
+      above_x (old t v) (pre t v) c.args.rest.now (a t v) (x t v) (b t v)
+          (three t v),
+    )
 
 pub split_list-returns-then-not-matches-clause-made :
     goal.split_list-returns-then-not-matches-clause-made
 split_list-returns-then-not-matches-clause-made t c =
-    let v = (goal.at.split_list-returns-then-not-matches-clause-made t c).After-as_mut-2 in omega (arith, c.split-did.ensures.made, ap height_of c.as_mut.ensures.value, above_x (old t v) (pre t v) c.args.rest.now (a t v) (x t v) (b t v) (three t v))
+    let v = (goal.at.split_list-returns-then-not-matches-clause-made t c).After-as_mut-2 in omega (
+      arith,
+      c.split-did.ensures.made,
+      ap height_of c.as_mut.ensures.value,
+      above_x (old t v)
+          (pre t v) c.args.rest.now (a t v) (x t v) (b t v) (three t v),
+    )
 
 pub split_list-returns-clause-searched :
     goal.split_list-returns-clause-searched
 split_list-returns-clause-searched t c =
-    let v = (goal.at.split_list-returns-clause-searched t c).After-as_mut-2 in let s = c.split-did.ensures.searched in record { rise = s.rise; nodes = omega (arith, s.nodes, ap height_of c.as_mut.ensures.value, above_x (old t v) (pre t v) c.args.rest.now (a t v) (x t v) (b t v) (three t v)); compares = omega (arith, s.compares, ap height_of c.as_mut.ensures.value, above_x (old t v) (pre t v) c.args.rest.now (a t v) (x t v) (b t v) (three t v)) }
+    let v =
+    (goal.at.split_list-returns-clause-searched t c).After-as_mut-2 in let s =
+    c.split-did.ensures.searched in record {
+      rise = s.rise;
+      nodes = omega (
+        arith,
+        s.nodes,
+        ap height_of c.as_mut.ensures.value,
+        above_x (old t v)
+            (pre t v) c.args.rest.now (a t v) (x t v) (b t v) (three t v),
+      );
+      compares = omega (
+        arith,
+        s.compares,
+        ap height_of c.as_mut.ensures.value,
+        above_x (old t v)
+            (pre t v) c.args.rest.now (a t v) (x t v) (b t v) (three t v),
+      );
+    }
 
 pub split_list-returns-then-not-matches-clause-searched :
     goal.split_list-returns-then-not-matches-clause-searched
 split_list-returns-then-not-matches-clause-searched t c =
-    let v = (goal.at.split_list-returns-then-not-matches-clause-searched t c).After-as_mut-2 in let s = c.split-did.ensures.searched in record { rise = s.rise; nodes = omega (arith, s.nodes, ap height_of c.as_mut.ensures.value, above_x (old t v) (pre t v) c.args.rest.now (a t v) (x t v) (b t v) (three t v)); compares = omega (arith, s.compares, ap height_of c.as_mut.ensures.value, above_x (old t v) (pre t v) c.args.rest.now (a t v) (x t v) (b t v) (three t v)) }
+    let v =
+    (goal.at.split_list-returns-then-not-matches-clause-searched t c).After-as_mut-2 in let s =
+    c.split-did.ensures.searched in record {
+      rise = s.rise;
+      nodes = omega (
+        arith,
+        s.nodes,
+        ap height_of c.as_mut.ensures.value,
+        above_x (old t v)
+            (pre t v) c.args.rest.now (a t v) (x t v) (b t v) (three t v),
+      );
+      compares = omega (
+        arith,
+        s.compares,
+        ap height_of c.as_mut.ensures.value,
+        above_x (old t v)
+            (pre t v) c.args.rest.now (a t v) (x t v) (b t v) (three t v),
+      );
+    }
 
 pub split_list-split-did-requires :
     goal.split_list-split-did-requires
 split_list-split-did-requires t c =
     let v = (goal.at.split_list-split-did-requires t c).After-as_mut-2 in
     let e = c.as_mut.ensures.value in (
-      omega (arith, c.decreases, ap height_of e, above_x (old t v) (pre t v) c.args.rest.now (a t v) (x t v) (b t v) (three t v)),
+      omega (
+        arith,
+        c.decreases,
+        ap height_of e,
+        above_x (old t v) (pre t v) c.args.rest.now
+            (a t v) (x t v) (b t v) (three t v),
+      ),
       (
         subst AreFamily (sym e) (three t v).middle,
-        (rw e (few_x t v), (c.requires.some, (rw e (inside_x t v), (c.as_mut-2.ensures.value ∙ c.in_ok-back.ensures, c.requires.none)))),
+        (
+          rw e (few_x t v),
+          (
+            c.requires.some,
+            (
+              rw e (inside_x t v),
+              (
+                c.as_mut-2.ensures.value
+                    ∙ c.in_ok-back.ensures,
+                c.requires.none,
+              ),
+            ),
+          ),
+        ),
       ),
     )
 
 pub split-take_from-requires-clause-level :
     goal.split-take_from-requires-clause-level
 split-take_from-requires-clause-level t c =
-    (movable_after c.args.self.now c.args.rest.now (c.branch_at-place.result.place) c.requires.none (movable_of c.args.self.now c.requires.children c.requires.few)).level
+    (movable_after c.args.self.now c.args.rest.now
+    (c.branch_at-place.result.place) c.requires.none
+    (movable_of c.args.self.now c.requires.children c.requires.few)).level
 
 pub split-take_from-requires-clause-few :
     goal.split-take_from-requires-clause-few
 split-take_from-requires-clause-few t c =
-    (movable_after c.args.self.now c.args.rest.now (c.branch_at-place.result.place) c.requires.none (movable_of c.args.self.now c.requires.children c.requires.few)).few
+    (movable_after c.args.self.now c.args.rest.now
+    (c.branch_at-place.result.place) c.requires.none
+    (movable_of c.args.self.now c.requires.children c.requires.few)).few
 
 pub split-take_from-requires-then-self-eq1-clause-level :
     goal.split-take_from-requires-then-self-eq1-clause-level
 split-take_from-requires-then-self-eq1-clause-level t c =
-    (movable_after c.args.self.now c.args.rest.now (c.branch_at-place.result.place + 1) c.requires.none (movable_of c.args.self.now c.requires.children c.requires.few)).level
+    (movable_after c.args.self.now c.args.rest.now
+    (c.branch_at-place.result.place + 1) c.requires.none
+    (movable_of c.args.self.now c.requires.children c.requires.few)).level
 
 pub split-take_from-requires-then-self-eq1-clause-few :
     goal.split-take_from-requires-then-self-eq1-clause-few
 split-take_from-requires-then-self-eq1-clause-few t c =
-    (movable_after c.args.self.now c.args.rest.now (c.branch_at-place.result.place + 1) c.requires.none (movable_of c.args.self.now c.requires.children c.requires.few)).few
+    (movable_after c.args.self.now c.args.rest.now
+    (c.branch_at-place.result.place + 1) c.requires.none
+    (movable_of c.args.self.now c.requires.children c.requires.few)).few
 
 pub split-take_from-requires-else-self-eq1-clause-level :
     goal.split-take_from-requires-else-self-eq1-clause-level
 split-take_from-requires-else-self-eq1-clause-level t c =
-    (movable_after c.args.self.now c.args.rest.now (c.branch_at-place.result.place + 2) c.requires.none (movable_of c.args.self.now c.requires.children c.requires.few)).level
+    (movable_after c.args.self.now c.args.rest.now
+    (c.branch_at-place.result.place + 2) c.requires.none
+    (movable_of c.args.self.now c.requires.children c.requires.few)).level
 
 pub split-take_from-requires-else-self-eq1-clause-few :
     goal.split-take_from-requires-else-self-eq1-clause-few
 split-take_from-requires-else-self-eq1-clause-few t c =
-    (movable_after c.args.self.now c.args.rest.now (c.branch_at-place.result.place + 2) c.requires.none (movable_of c.args.self.now c.requires.children c.requires.few)).few
+    (movable_after c.args.self.now c.args.rest.now
+    (c.branch_at-place.result.place + 2) c.requires.none
+    (movable_of c.args.self.now c.requires.children c.requires.few)).few
 
 pub split-returns-then-inside-eq0-clause-done :
     goal.split-returns-then-inside-eq0-clause-done
@@ -588,7 +814,8 @@ split-split_leaf-did-requires-clause-within t c leaf =
     let at : get_or c.take_from-then-self-eq1.new.other
     (length c.take_from-then-self-eq1.new.other - 1) leaf ≡ get_or ts k leaf =
     ap (λ l. get_or l (length l - 1) leaf) c.take_from-then-self-eq1.ensures.rest
-    ∙ ap (λ i. get_or (take (k + 1) ts) i leaf) n ∙ child_in_front ts (k + 1) k leaf (omega arith) in
+    ∙ ap (λ i. get_or (take (k + 1) ts) i leaf) n ∙ child_in_front ts (k + 1) k leaf
+    (omega arith) in
     subst (λ y. c.branch_at-place.result.inside < length (text y)) (sym at)
     ((c.branch_at-place.ensures.goes leaf).inside refl)
 
@@ -597,7 +824,8 @@ split-split_list-did-requires t c =
     let ts = c.args.self.now in
     let k = c.branch_at-place.result.place in
     let both : c.take_from-else-self-eq1.new.other ++ c.take_from-else-self-eq1.new.self ≡ ts =
-    ap₂ (λ y z. y ++ z) c.take_from-else-self-eq1.ensures.rest c.take_from-else-self-eq1.ensures.moved
+    ap₂ (λ y z. y ++ z) c.take_from-else-self-eq1.ensures.rest
+    c.take_from-else-self-eq1.ensures.moved
     ∙ both_parts ts c.args.rest.now (k + 2) c.requires.none in
     let low : 1 ≤ height_of ts =
     omega (arith, c.if-self-eq1.false, c.self.invariant.above, ap height_of c.self.view_is) in
@@ -624,11 +852,17 @@ split-split_list-did-requires t c =
           (
             subst (λ l. byte_len (joined l) < 2 ^ 32) (sym both) c.requires.few,
             (
-              omega (arith, ap length c.take_from-else-self-eq1.ensures.rest, long, c.if-place-eq0.false),
+              omega (
+                arith,
+                ap length c.take_from-else-self-eq1.ensures.rest,
+                long,
+                c.if-place-eq0.false,
+              ),
               (
                 omega (arith, c.if-inside-eq0.false),
                 (
-                  (λ child. subst (λ y. c.branch_at-place.result.inside < length (text y)) (sym (at child))
+                  (λ child. subst (λ y. c.branch_at-place.result.inside < length (text y)) (sym
+                      (at child))
                       ((c.branch_at-place.ensures.goes child).inside refl)),
                   c.requires.none_in_pocket,
                 ),
@@ -700,7 +934,11 @@ split-returns-else-not-matches-clause-done t c =
       | split-then-self-eq1 w ↦
           let o = w.take_from-then-self-eq1.new.other in
           let long : length (take (k + 1) ts) - 1 ≡ k =
-          omega (arith, length-take-le (k + 1) ts (omega (arith, c.branch_at-place.ensures.child))) in
+          omega (
+            arith,
+            length-take-le (k + 1) ts (omega
+                (arith, c.branch_at-place.ensures.child)),
+          ) in
           let front : length (joined (take (length o - 1) o)) ≡ length (joined (take k ts)) =
           ap (λ l. length (joined (take (length l - 1) l))) w.take_from-then-self-eq1.ensures.rest
           ∙ ap (λ n. length (joined (take n (take (k + 1) ts)))) long

@@ -225,7 +225,8 @@ invariant_of-other-else-from-eq0 c =
     (part (e k)).within c.take_from.ensures.rest c.exchange.ensures.second (others_len k)
     (first_flat k) (second_flat k)
     (c.other.invariant.above ∙ ap (λ l. height_of l + 1) c.other.view_is
-    ∙ ap (λ m. m + 1) (sym (first_height c.args.from (os (e k)) (omega (arith, c.if-from-eq0.false)))))
+    ∙ ap (λ m. m + 1)
+    (sym (first_height c.args.from (os (e k)) (omega (arith, c.if-from-eq0.false)))))
     (c.other.invariant.same_breaks ∙ ap breaks_of c.other.view_is
     ∙ sym (first_breaks c.args.from (os (e k)) (omega (arith, c.if-from-eq0.false))))
 
