@@ -8,6 +8,3 @@ mod sole;
 
 pub use shared::Shared;
 pub use sole::Sole;
-
-#[cfg(test)]
-mod tests;
