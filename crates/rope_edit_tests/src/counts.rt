@@ -107,22 +107,24 @@ fn a_removal_in_place_makes_no_node(rt: HostRuntime) -> Result<(), Failure> {
     expect_counts_of_a_short_removal(&mut rope)
 }
 
-/// Each side takes a search, a leaf of its part of the eleventh, and a list. The append looks up
-/// the last character of 11 leaves by two comparisons, to test for a CR, and puts all 22 leaves
-/// into one list.
+/// The split takes a search, a leaf for the second part of the eleventh, and a list for the leaves
+/// after it. The append looks up the last character of 11 leaves by two comparisons, to test for a
+/// CR, and puts all 22 leaves into one list.
 fn expect_counts_of_a_split_and_its_append(rope: &mut Rope) -> Result<(), Failure> {
     let mut split = LEFT_OVER;
     let mut joined = LEFT_OVER;
     holds!(rope.len_chars() == 20_000);
     let back = rope.split_off_counted(10_000, &mut split)?;
     rope.append_counted(back, &mut joined)?;
-    same!([counts(split), counts(joined)], [[3, 10, 4], [3, 2, 1]]);
+    same!([counts(split), counts(joined)], [[2, 5, 2], [3, 2, 1]]);
     same!([rope.chunks().count(), rope.depth()], [22, 1]);
     Ok(())
 }
 
 #[test]
-fn a_split_counts_both_sides_and_an_append_its_list(rt: HostRuntime) -> Result<(), Failure> {
+fn a_split_counts_its_leaf_and_its_list_and_an_append_its_list(
+    rt: HostRuntime,
+) -> Result<(), Failure> {
     let mut rope = rope_of(rt.alloc(), "a", 20_000)?;
     expect_counts_of_a_split_and_its_append(&mut rope)
 }
