@@ -77,7 +77,8 @@ apart_at_seam xs ys u v some_x some_y cut =
     ∙ apart_at_cut (xs ++ ys) (length xs) (subst IsUtf8 (sym front) u) (subst IsUtf8 (sym back) v)
     some_x (omega (arith, length-append xs ys)) cut
 
-some_char : (cs : List ℕ) → 0 < byte_len cs → 0 < length cs
+-- a text with a byte has a character
+pub some_char : (cs : List ℕ) → 0 < byte_len cs → 0 < length cs
 some_char [] h = h
 some_char (c ∷ cs) h = omega arith
 

@@ -3,7 +3,7 @@ use Rattle.std.proofs.Common.{◌≡◌, ℕ, zero, suc, inl, inr, ◌+◌, ◌-
 use Rattle.std.proofs.Math.Nat.{zero-mul, mod-one, mod-lt, mod-eq_of_lt, div-one, zero-mod, div-div-eq-div-mul, pow-succ'}
 use Rattle.std.proofs.Math.Pow.{pow_mono, mod-mod-pow}
 use Rattle.std.proofs.lemmas.Bool.{cases_lt}
-use Rattle.std.proofs.lemmas.Nat.{ones_le_self, mod-pow-add, pow-add, pow_pos}
+use Rattle.std.proofs.lemmas.Nat.{ones_le_self, mod-pow-add, pow_pos}
 use Rattle.std.specs.Int.Count.{count_trailing_zeros, ones-ones}
 use lib.Count.{ones_step, under}
 use lib.Lanes.{mask_l}
@@ -61,9 +61,6 @@ all_ones m n k full within =
       ones_le (m / 2 ^ k) rest,
       full,
     )
-
-pub shift_more : (m a b : ℕ) → m / 2 ^ a / 2 ^ b ≡ m / 2 ^ (a + b)
-shift_more m a b = div-div-eq-div-mul m (2 ^ a) (2 ^ b) ∙ ap (λ x. m / x) (sym (pow-add 2 a b))
 
 pub no_marks : (n : ℕ) → ones_below 0 n ≡ 0
 no_marks n = ap count_ones (zero-mod (2 ^ n)) ∙ no_ones

@@ -115,7 +115,9 @@ split_char text (Some a) (Some b) valid low high inside =
     let ends : nat_lt (byte_len text) b ≡ false = grind (arith, nat_tests) in
     cc
 
-byte_to_char-mono : (text : List ℕ) (m n : ℕ) → m ≤ n → byte_to_char text m ≤ byte_to_char text n
+-- a later byte is in a later character, or in the same one
+pub byte_to_char-mono : (text : List ℕ) (m n : ℕ) → m ≤ n
+    → byte_to_char text m ≤ byte_to_char text n
 unfolding byte_to_char
 byte_to_char-mono text m n l =
     let fits = front_fits byte_len IsMeasure-byte_len text m in

@@ -1,10 +1,11 @@
 -- The conversions in a text of many parts: each index is in one part. A part is a chunk, or the
 -- text of a subtree.
-use Rattle.std.proofs.Common.{◌≡◌, ℕ, zero, suc, ◌+◌, ◌-◌, ◌<◌, ◌≤◌, Bool, true, false, ◌&&◌, List, [], ◌∷◌, ◌++◌, length, take, drop, get_or, map, refl, ap, sym, ◌∙◌, arith, append_assoc, All, inl, inr}
+use Rattle.std.proofs.Common.{◌≡◌, ℕ, zero, suc, ◌+◌, ◌-◌, ◌<◌, ◌≤◌, false, List, [], ◌∷◌, ◌++◌, length, take, drop, get_or, map, refl, ap, sym, ◌∙◌, arith, append_assoc, All, inl, inr}
 use Rattle.std.specs.List.{concat, flat_map, slice_range}
 use Rattle.std.proofs.lemmas.List.{append-nil, take_at, drop_at, take_all, length-drop}
 use Rattle.std.proofs.lemmas.Bool.{cases_lt}
 use Rattle.std.proofs.lemmas.List.Elements.{All-tail}
+use Rattle.std.proofs.Math.Bool.{and-false}
 use Rattle.rope_text.specs.declared.line_breaks.LineBreaks.{LineBreaks}
 use Rattle.rope_text.specs.Text.{byte_len, utf16_len}
 use Rattle.rope_text.specs.Breaks.{begins_with_lf, ends_in_cr, break_count}
@@ -12,7 +13,7 @@ use Rattle.rope_text.specs.Lines.{line_start}
 use Rattle.rope_text.specs.Conversions.{byte_to_char, utf16_to_char, char_to_line, byte_to_line}
 use Rattle.rope_text.specs.Cutting.{parts_crlf, KeepsCrlf, clip, cons_nonempty}
 use Rattle.rope_text.proofs.ClipLaws.{concat-clip, slice_range_past, slice_range_empty}
-use Rattle.rope_text.proofs.CuttingLaws.{concat-append, parts_crlf-append}
+use Rattle.rope_text.proofs.CuttingLaws.{concat-append, parts_crlf-append, begins_with_lf-take}
 use Rattle.rope_text.proofs.JoinLaws.{byte_to_char-append_left, byte_to_char-append_right, utf16_to_char-append_left, utf16_to_char-append_right, char_to_line-append_left, char_to_line-append_right, line_start-append_left, line_start-append_right, byte_to_line-append_left, byte_to_line-append_right}
 
 -- the text before a part, and the text after it
@@ -143,14 +144,10 @@ KeepsCrlf_seam p q full kept =
     let seam = KeepsCrlf_before (p ++ q) (length p) full kept in
     rw (take_at p q (length p) refl, drop_at p q (length p) refl) at seam
 
-never_before_none : (x : Bool) → (x && false) ≡ false
-never_before_none true = refl
-never_before_none false = refl
-
 pub KeepsCrlf-left : (p q : List (List ℕ)) → All (λ part. 0 < length part) (p ++ q)
     → KeepsCrlf (p ++ q) → KeepsCrlf p
 KeepsCrlf-left [] q full kept = tt
-KeepsCrlf-left (x ∷ []) q full kept = (never_before_none (ends_in_cr x), tt)
+KeepsCrlf-left (x ∷ []) q full kept = (and-false (ends_in_cr x), tt)
 KeepsCrlf-left (x ∷ [] ∷ p) q full kept = absurd (omega (arith, full 1 [] (omega arith)))
 KeepsCrlf-left (x ∷ (c ∷ y) ∷ p) q full kept = (
   kept.0,
@@ -187,11 +184,6 @@ ends_in_cr-drop (suc a) [] l = absurd (omega arith)
 ends_in_cr-drop (suc a) (x ∷ []) l = absurd (omega arith)
 ends_in_cr-drop (suc a) (x ∷ y ∷ xs) l = ends_in_cr-drop a (y ∷ xs) (omega arith)
 
-begins_with_lf-take : (n : ℕ) (xs : List ℕ) → 0 < n → begins_with_lf (take n xs) ≡ begins_with_lf xs
-begins_with_lf-take zero xs some = absurd (omega arith)
-begins_with_lf-take (suc n) [] some = refl
-begins_with_lf-take (suc n) (x ∷ xs) some = refl
-
 pub KeepsCrlf-clip : (chunks : List (List ℕ)) (a b : ℕ) → KeepsCrlf chunks
     → KeepsCrlf (clip chunks a b)
 KeepsCrlf-clip [] a b kept = tt
@@ -206,7 +198,7 @@ KeepsCrlf-clip (chunk ∷ chunks) a b kept =
       | inr past ↦ absurd (let none = slice_range_past chunk a b past in cc)
       | inl inside ↦ elim (cases_lt (length chunk) b) [
         | inr within ↦ rw (slice_range_empty (concat chunks) (a - length chunk) (b - length chunk)
-            (omega arith)) (never_before_none (ends_in_cr (x ∷ part)))
+            (omega arith)) (and-false (ends_in_cr (x ∷ part)))
         | inl over ↦
             let whole : slice_range chunk a b ≡ drop a chunk =
             take_all (b - a) (drop a chunk) (omega (arith, length-drop a chunk)) in

@@ -1,5 +1,5 @@
 -- Cuttings joined, counted and clipped.
-use Rattle.std.proofs.Common.{◌≡◌, ℕ, ◌-◌, ◌<◌, false, ◌&&◌, List, [], ◌∷◌, ◌++◌, length, sum_by, refl, ap, sym, ◌∙◌, arith, append_assoc, All}
+use Rattle.std.proofs.Common.{◌≡◌, ℕ, ◌-◌, ◌<◌, false, ◌&&◌, List, [], ◌∷◌, ◌++◌, length, sum_by, refl, ap, sym, ◌∙◌, arith, append_assoc, All, zero, suc, take}
 use Rattle.std.specs.List.{concat, slice_range}
 use Rattle.std.proofs.lemmas.List.{append-nil}
 use Rattle.std.proofs.lemmas.List.Elements.{All-nil, All-cons, All-tail}
@@ -23,10 +23,21 @@ ends_in_cr-append [] c t = refl
 ends_in_cr-append (a ∷ []) c t = refl
 ends_in_cr-append (a ∷ b ∷ s) c t = ends_in_cr-append (b ∷ s) c t
 
+pub begins_with_lf-take : (n : ℕ) (xs : List ℕ) → 0 < n
+    → begins_with_lf (take n xs) ≡ begins_with_lf xs
+begins_with_lf-take zero xs some = absurd (omega arith)
+begins_with_lf-take (suc n) [] some = refl
+begins_with_lf-take (suc n) (x ∷ xs) some = refl
+
 -- where the second text isn't empty, only it can end before LF
 pub parts_crlf-append : (s : List ℕ) (c : ℕ) (t u : List ℕ)
     → parts_crlf (s ++ c ∷ t) u ≡ parts_crlf (c ∷ t) u
 parts_crlf-append s c t u = ap (λ x. x && begins_with_lf u) (ends_in_cr-append s c t)
+
+-- where no CR meets LF after two joined texts, none does after the second
+pub apart_back : (s t u : List ℕ) → parts_crlf (s ++ t) u ≡ false → parts_crlf t u ≡ false
+apart_back s [] u apart = refl
+apart_back s (c ∷ t) u apart = sym (parts_crlf-append s c t u) ∙ apart
 
 -- cuttings joined where CR doesn't meet LF
 pub KeepsCrlf-append : (p q : List (List ℕ)) → All (λ chunk. 0 < length chunk) p → KeepsCrlf p
@@ -68,7 +79,7 @@ break_count-concat breaks (x ∷ chunks) kept =
     )
 
 -- a slice's chunks are a cutting of the slice
-clip_nonempty : (chunks : List (List ℕ)) (a b : ℕ)
+pub clip_nonempty : (chunks : List (List ℕ)) (a b : ℕ)
     → All (λ chunk. 0 < length chunk) (clip chunks a b)
 clip_nonempty [] a b = All-nil (λ chunk. 0 < length chunk)
 clip_nonempty (chunk ∷ chunks) a b =

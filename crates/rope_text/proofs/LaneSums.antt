@@ -7,7 +7,7 @@ use Rattle.std.proofs.lemmas.Simd.{length-zip2, Each1-weaker, Each1-replicate}
 use Rattle.std.proofs.Math.Nat.{mod-eq_of_lt}
 use Rattle.std.proofs.Math.Path.{subst}
 use Rattle.std.proofs.lemmas.List.{take_all}
-use Rattle.std.proofs.lemmas.List.FromFn.{length-range_with_len}
+use Rattle.std.proofs.lemmas.List.FromFn.{length-range_with_len, length-map-range_with_len}
 use Rattle.std.proofs.lemmas.List.Sums.{sum_by-cons, count_by-le-length}
 use lib.Lanes.{Each1, zip2, sum_l}
 use Rattle.rope_text.specs.declared.line_breaks.LineBreaks.{LineBreaks}
@@ -18,10 +18,10 @@ use Rattle.rope_text.specs.Bytes.{begins_char, begins_pair}
 use Rattle.rope_text.specs.ByteBreaks.{break_at, byte_break_count, breaks_at}
 use Rattle.rope_text.specs.Marks.{IsLanes, ascii_at, ahead}
 use Rattle.rope_text.specs.Runs.{IsSum, IsRun, multibyte_at, ascii_here, multibyte_here, multibyte_begin, places, chars_of, pairs_of, ascii_of, multibyte_of, high_of}
-use Rattle.rope_text.proofs.BitLaws.{ones_more, shift_more, no_marks}
+use Rattle.rope_text.proofs.BitLaws.{ones_more, no_marks, one_at_most}
 use Rattle.rope_text.proofs.Blocks.{byte_break_count-block, count_by-places}
 use Rattle.rope_text.proofs.UnicodeLanes.{no_multibyte_begin}
-use Rattle.std.proofs.lemmas.Nat.{zero_from_ones}
+use Rattle.std.proofs.lemmas.Nat.{zero_from_ones, shr-shr}
 
 -- ---- indices
 
@@ -197,11 +197,7 @@ sum_of_marks p (k ∷ ks) = ap (λ n. cond (p k) 1 0 + n) (sum_of_marks p ks)
 
 few_marks : (p : ℕ → Bool) (ks : List ℕ) → Each1 (λ x. x ≤ 1) (map (λ k. cond (p k) 1 0) ks)
 few_marks p [] = tt
-few_marks p (k ∷ ks) = (go (p k), few_marks p ks)
-  where
-    go : (t : Bool) → cond t 1 0 ≤ 1
-    go true = omega arith
-    go false = omega arith
+few_marks p (k ∷ ks) = (one_at_most (p k), few_marks p ks)
 
 -- 1 where the test holds
 pub ones_of : (p : ℕ → Bool) {v : List ℕ} (i : ℕ)
@@ -209,14 +205,10 @@ pub ones_of : (p : ℕ → Bool) {v : List ℕ} (i : ℕ)
 ones_of p {v} i lanes =
     let ks : List ℕ = range_with_len i 16 in
     record {
-      long = ap length lanes.same ∙ length-map-range i;
+      long = ap length lanes.same ∙ length-map-range_with_len (λ k. cond {A = ℕ} (p k) 1 0) i 16;
       few = subst (Each1 (λ x. x ≤ 1)) (sym lanes.same) (few_marks p ks);
       sum = ap sum_l lanes.same ∙ sum_of_marks p ks ∙ ap (count_by p) (places_are i 16);
     }
-  where
-    length-map-range : (j : ℕ) → length (map (λ k. cond {A = ℕ} (p k) 1 0) (range_with_len j 16))
-        ≡ 16
-    length-map-range j = refl
 
 abbrev wraps : ℕ → ℕ → ℕ
 wraps x y = (x + y) % 2 ^ 8
@@ -333,7 +325,7 @@ lowest mask k b i n marked before after = elim (cases_lt k n) [
     rest = λ m.
         omega (
           arith,
-          ap (λ x. ones_below x m) (shift_more mask k 1),
+          ap (λ x. ones_below x m) (shr-shr mask k 1),
           ones_more mask (k + 1) m ((k + 1) + m) refl,
           marked ((k + 1) + m),
           marked (k + 1),

@@ -5,27 +5,17 @@ use Rattle.std.specs.Option.{option_map}
 use Rattle.std.proofs.lemmas.Bool.{lt-ltb, le-ltb}
 use Rattle.std.proofs.lemmas.List.{same_from_push, length-reverse, length-drop, length-take-le}
 use Rattle.std.proofs.lemmas.Option.{slice_get_past}
+use Rattle.std.proofs.Math.Bool.{not-not}
 use Rattle.rope_text.specs.Cursor.{Cursor, item_after, item_before, place_after, place_before, next_item, after_next, prev_item, after_prev, reversed, size_left}
 use Rattle.rope_text.specs.Sides.{Sides, all_items, place, at_place, ahead, passed, turned, cursor_of, GoesRight, GoesLeft, GoesAhead, StepsAhead, StepsBack}
 
 cursor_ext : {X : Type 0} (c d : Cursor X) → c.items ≡ d.items → c.place ≡ d.place
     → c.forward ≡ d.forward → c ≡ d
-cursor_ext {X} c d a b e =
-    let f : List X → ℕ → Bool → Cursor X = λ items p forward. record {
-      items = items;
-      place = p;
-      forward = forward;
-    } in
-    ap (λ x. f x c.place c.forward) a ∙ ap (λ x. f d.items x c.forward) b
-    ∙ ap (λ x. f d.items d.place x) e
+cursor_ext c d a b e = rw (a, b, e) refl
 
-sides_ext : {X : Type 0} (s t : Sides X) → s.left ≡ t.left → s.right ≡ t.right
+pub sides_ext : {X : Type 0} (s t : Sides X) → s.left ≡ t.left → s.right ≡ t.right
     → s.is_backward ≡ t.is_backward → s ≡ t
-sides_ext {X} s t a b e =
-    let f : List X → List X → Bool → Sides X =
-    λ l r back. record { left = l; right = r; is_backward = back } in
-    ap (λ x. f x s.right s.is_backward) a ∙ ap (λ x. f t.left x s.is_backward) b
-    ∙ ap (λ x. f t.left t.right x) e
+sides_ext s t a b e = rw (a, b, e) refl
 
 item_at : {X : Type 0} (left : List X) (x : X) (right : List X)
     → slice_get (left ++ x ∷ right) (length left) ≡ Some x
@@ -34,10 +24,6 @@ item_at (y ∷ left) x right = item_at left x right
 
 no_item : {X : Type 0} (left : List X) → slice_get (left ++ []) (length left) ≡ None
 no_item left = slice_get_past (left ++ []) (length left) (omega (arith, length-append left []))
-
-not_not : (b : Bool) → not (not b) ≡ b
-not_not true = refl
-not_not false = refl
 
 -- a cursor turned round
 pub cursor_of-turned : {X : Type 0} (s : Sides X) → cursor_of (turned s) ≡ reversed (cursor_of s)
@@ -182,7 +168,7 @@ module _ {A X : Type 0} (view : A → X) where
   cursor_back s t r h =
       let e = cursor_ahead (turned s) (turned t) r (back_is_ahead s t r h) in
       cursor_ext (cursor_of t) (reversed (cursor_of (turned t))) refl refl
-      (sym (not_not (not t.is_backward))) ∙ ap reversed e
+      (sym (not-not (not t.is_backward))) ∙ ap reversed e
 
   -- a step that gave an item, and then the step back: an equal item, and the cursor unchanged
   nil_from_push : (xs : List X) (y : X) → xs ++ y ∷ [] ≡ [] → ⊥

@@ -1,8 +1,7 @@
 -- The faults of two neighbouring bytes, as three tables have them.
-use Rattle.std.proofs.Common.{◌≡◌, ℕ, zero, suc, ◌+◌, ◌*◌, ◌/◌, ◌^◌, ◌<◌, ◌≤◌, Bool, true, false, cond, not, eqb, ltb, leb, ◌&&◌, List, [], ◌∷◌, map, length, get_or, replicate, bit_and, count_by, w8, Fits, refl, ap, ap₂, ◌∙◌, arith, ⊎_elim}
+use Rattle.std.proofs.Common.{◌≡◌, ℕ, zero, suc, ◌+◌, ◌*◌, ◌/◌, ◌^◌, ◌<◌, ◌≤◌, Bool, true, false, cond, not, eqb, ltb, leb, ◌&&◌, List, [], ◌∷◌, map, length, get_or, replicate, bit_and, w8, Fits, refl, ap, ap₂, ◌∙◌, arith, ⊎_elim}
 use Rattle.std.proofs.lemmas.Bool.{both_ways, and_parts, cases_lt, eqb-true}
 use Rattle.std.proofs.lemmas.Bool.Decides.{nat_tests}
-use Rattle.std.proofs.lemmas.List.Sums.{sum_by-cons}
 use Rattle.std.proofs.lemmas.Simd.{swz_l, get_or-swz_l_below, zip2_of_maps}
 use lib.Lanes.{Each1, zip2}
 use Rattle.rope_text.specs.declared.utf8.TheConstants.{BY_FIRST_HIGH, BY_FIRST_LOW, BY_SECOND_HIGH}
@@ -36,20 +35,6 @@ each_below f y (a ∷ v) (suc n) small fits = (small a fits.0.fits, each_below f
 pub combined : (f : ℕ → ℕ → ℕ) {ks : List ℕ} {g h : ℕ → ℕ} {v w : List ℕ} → IsLanes ks g v
     → IsLanes ks h w → IsLanes ks (λ k. f (g k) (h k)) (zip2 f v w)
 combined f {ks} {g} {h} v w = record { same = zip2_of_maps f g h ks v.same w.same }
-
-pub none_either : (p q : ℕ → Bool) (ks : List ℕ) → ((k : ℕ) → p k ≡ false → q k ≡ false)
-    → count_by p ks ≡ 0 → count_by q ks ≡ 0
-none_either p q [] more none = refl
-none_either p q (k ∷ ks) more none =
-    let first = sum_by-cons (λ j. cond (p j) 1 0) k ks in
-    let second = sum_by-cons (λ j. cond (q j) 1 0) k ks in
-    let here : cond {A = ℕ} (q k) 1 0 ≡ 0 =
-    ap (λ (t : Bool). cond {A = ℕ} t 1 0) (more k (go (p k) (omega (arith, first, none)))) in
-    omega (arith, second, here, none_either p q ks more (omega (arith, first, none)))
-  where
-    go : (t : Bool) → cond {A = ℕ} t 1 0 ≡ 0 → t ≡ false
-    go true one = absurd (omega (arith, one))
-    go false one = refl
 
 -- ---- the entries of the tables
 

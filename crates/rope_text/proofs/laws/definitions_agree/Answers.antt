@@ -4,8 +4,9 @@ use Rattle.rope_text.proofs.PositionLaws.{position_to_char-char_to_position}
 use Rattle.rope_text.proofs.InfoLaws.{info_of-append}
 use Rattle.rope_text.proofs.ClipLaws.{slice_range-slice_range, clip-clip}
 use Rattle.rope_text.proofs.ByteSlices.{nested}
-use Rattle.rope_text.proofs.EditLaws.{removed-inserted, split_append}
+use Rattle.rope_text.proofs.EditLaws.{removed-inserted}
 use Rattle.rope_text.proofs.laws.definitions_agree.Goals as goal
+use Rattle.std.proofs.lemmas.List.{take-append-drop}
 
 pub returns-clause-greatest : goal.returns-clause-greatest
 returns-clause-greatest c = λ test n z. record {
@@ -35,4 +36,4 @@ pub returns-clause-byte_slices : goal.returns-clause-byte_slices
 returns-clause-byte_slices c = nested
 
 pub returns-clause-edits : goal.returns-clause-edits
-returns-clause-edits c = λ text i new l. (removed-inserted text i new l, split_append text i)
+returns-clause-edits c = λ text i new l. (removed-inserted text i new l, take-append-drop i text)

@@ -2,9 +2,10 @@ use Rattle.std.proofs.Common.{◌/◌, ◌^◌, not, cond, eqb, leb, ◌||◌, b
 use Rattle.std.proofs.lemmas.Nat.{and_le_r}
 use Rattle.rope_text.proofs.Marks.{compared_both, compared_left, computed, chosen, either, none_set}
 use Rattle.rope_text.proofs.Utf8Laws.{is_zero}
-use Rattle.rope_text.proofs.Utf8Tables.{each_below, combined, none_either, no_fault, faults_of, first_high_twice, first_low_twice, second_high_twice}
+use Rattle.rope_text.proofs.Utf8Tables.{each_below, combined, no_fault, faults_of, first_high_twice, first_low_twice, second_high_twice}
 use Rattle.rope_text.specs.Utf8.{is_fault}
 use Rattle.rope_text.proofs.utf8.has_fault.Goals as goal
+use Rattle.rope_text.proofs.LaneSums.{none_of_others}
 
 pub look_up-first_high-requires : goal.look_up-first_high-requires
 look_up-first_high-requires c =
@@ -35,7 +36,7 @@ returns c = λ ks f g h i long hz hb x y z b fine.
     let differ =
     compared_both (λ p q. not (eqb p q)) (combined bit_and (combined bit_and high low) second)
     in_long in
-    none_either (λ k. not (eqb (faults_of (h k) (i k))
+    none_of_others (λ k. not (eqb (faults_of (h k) (i k))
     (cond (leb 224 (g k) || leb 240 (f k)) 128 0))) (λ k. is_fault (f k) (g k) (h k) (i k)) ks
     (λ k none. no_fault (leb 224 (g k) || leb 240 (f k)) (h k) (i k) (hz k) (hb k) none)
     (none_set (omega (arith, long)) differ (is_zero _ fine))
