@@ -21,6 +21,7 @@ use Rattle.rope_text.specs.Runs.{IsSum, IsRun, multibyte_at, ascii_here, multiby
 use Rattle.rope_text.proofs.BitLaws.{ones_more, no_marks, one_at_most}
 use Rattle.rope_text.proofs.Blocks.{byte_break_count-block, count_by-places}
 use Rattle.rope_text.proofs.UnicodeLanes.{no_multibyte_begin}
+use Rattle.rope_text.proofs.Marks.{take_range}
 use Rattle.std.proofs.lemmas.Nat.{zero_from_ones, shr-shr}
 
 -- ---- indices
@@ -266,11 +267,6 @@ pub record IsLowest (mask k : ℕ) (b : ℕ → Bool) (i n : ℕ) : Type 0 where
   pub rest : (m : ℕ) → ones_below (mask / 2 ^ k / 2) m
       ≡ count_by b (take m (places (i + (k + 1)) (n - (k + 1))))
 
-take_places : (i m n k : ℕ) → k ≡ m + n → take m (range_with_len i k) ≡ range_with_len i m
-take_places i zero n k e = refl
-take_places i (suc m) n zero e = absurd (omega (arith, e))
-take_places i (suc m) n (suc k) e = ap (λ l. i ∷ l) (take_places (i + 1) m n k (omega (arith, e)))
-
 split_take : (q : ℕ → Bool) (i a n m : ℕ) → a ≤ n
     → count_by q (take (a + m) (range_with_len i n))
     ≡ count_by q (range_with_len i a) + count_by q (take m (range_with_len (i + a) (n - a)))
@@ -308,7 +304,7 @@ take_split q i n k m h = split_take q i k n m h
 take_front : (q : ℕ → Bool) (i n k : ℕ) → k ≤ n
     → count_by q (take k (places i n)) ≡ count_by q (places i k)
 unfolding places
-take_front q i n k h = ap (count_by q) (take_places i k (n - k) n (omega (arith, h)))
+take_front q i n k h = ap (count_by q) (take_range i n k h)
 
 take_past : (q : ℕ → Bool) (i n k : ℕ) → n ≤ k
     → count_by q (take k (places i n)) ≡ count_by q (places i n)

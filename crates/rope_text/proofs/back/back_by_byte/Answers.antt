@@ -1,5 +1,6 @@
-use Rattle.std.proofs.Common.{◌≡◌, ◌+◌, ◌≤◌, ◌-◌, ℕ, Bool, true, false, cond, ap, refl, sym, ◌∙◌, arith}
+use Rattle.std.proofs.Common.{◌≡◌, ◌+◌, ◌-◌, ℕ, Bool, true, false, cond, ap, refl, sym, ◌∙◌, arith}
 use mir.Val.{bool_byte}
+use Rattle.std.proofs.num.Orders.{Bool-small}
 use Rattle.rope_text.specs.ByteBreaks.{breaks_at}
 use Rattle.rope_text.specs.Scan.{GoesBack}
 use Rattle.rope_text.proofs.Backs.{never, by_byte}
@@ -7,17 +8,13 @@ use Rattle.rope_text.proofs.Blocks.{one_where}
 use Rattle.rope_text.proofs.back.back_by_byte.Goals.{After-is_mark-3}
 use Rattle.rope_text.proofs.back.back_by_byte.Goals as goal
 
-byte_few : (b : Bool) → bool_byte b ≤ 1
-byte_few true = omega arith
-byte_few false = omega arith
-
 pub overflow_add-back : goal.overflow_add-back
 overflow_add-back c =
-    omega (arith, c.requires.room.chars, c.requires.some, byte_few c.is_mark.result)
+    omega (arith, c.requires.room.chars, c.requires.some, Bool-small c.is_mark.result)
 
 pub overflow_add-back-2 : goal.overflow_add-back-2
 overflow_add-back-2 c =
-    omega (arith, c.requires.room.pairs, c.requires.some, byte_few c.is_mark-2.result)
+    omega (arith, c.requires.room.pairs, c.requires.some, Bool-small c.is_mark-2.result)
 
 -- where a break begins with it or not
 step : (c : After-is_mark-3) (b f : Bool) (left : ℕ)
