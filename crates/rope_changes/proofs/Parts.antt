@@ -1,20 +1,14 @@
 -- Replacements whose texts follow each other in one text: read, added and extended.
 use Rattle.std.proofs.Common.{◌≡◌, ℕ, zero, suc, ◌+◌, ◌-◌, ◌<◌, ◌≤◌, List, [], ◌∷◌, ◌++◌, length, take, drop, get_or, set, refl, ap, sym, ◌∙◌, subst, arith, length-append}
-use Rattle.std.specs.Str.{chars, IsUtf8, IsCharBoundary}
+use Rattle.std.specs.Str.{chars, IsUtf8}
 use Rattle.std.proofs.Math.Seq.{take-length, drop-length}
 use Rattle.std.proofs.lemmas.List.{take-append-le, drop-append-le, length-take-le, length-drop}
-use Rattle.std.proofs.lemmas.Str.{IsUtf8-append, IsCharBoundary-from_take, chars-append}
+use Rattle.std.proofs.lemmas.Str.{IsUtf8-append, chars-append}
 use Rattle.rope_text.proofs.Walks.{byte_len-chars}
 use Rattle.rope_changes.specs.Applied.{inserted_bytes}
 use Rattle.rope_changes.specs.Change.{Edit, appended}
 use Rattle.rope_changes.specs.Packed.{edits_of, Begins, AreCounted, AreLengthsOf, AreLengths}
 use Rattle.rope_changes.specs.declared.replacements.Lengths.{Lengths}
-
--- the text of the next replacement ends at a character
-pub next_boundary : (bytes : List ℕ) (n m : ℕ) → IsUtf8 bytes → Begins bytes n m
-    → IsCharBoundary bytes n
-next_boundary bytes n m text begins =
-    IsCharBoundary-from_take bytes n text begins.within begins.utf8
 
 pub count_edits : (ls : List Lengths) (bytes : List ℕ) → length (edits_of ls bytes) ≡ length ls
 count_edits [] bytes = refl

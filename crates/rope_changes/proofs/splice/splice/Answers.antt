@@ -1,7 +1,8 @@
-use Rattle.std.proofs.Common.{◌≡◌, ℕ, List, ◌≤◌, [], length, take, drop, ap, rules, arith, ◌∙◌, length-append}
+use Rattle.std.proofs.Common.{◌≡◌, ℕ, List, ◌≤◌, length, take, drop, ap, rules, arith, ◌∙◌, length-append}
 use Rattle.std.specs.Str.{chars}
 use Rattle.rope_text.specs.Edit.{inserted, removed}
 use Rattle.std.proofs.lemmas.List.{nil_from_length, length-take}
+use Rattle.std.proofs.lemmas.Str.{chars-nil}
 use Rattle.rope_text.specs.Text.{byte_len}
 use Rattle.ropey.proofs.Refusals.{insert_error-none}
 use Rattle.rope_changes.proofs.Spliced.{spliced_is}
@@ -19,10 +20,6 @@ returns-clause-ok c =
     new ∙ ap (λ t. inserted t start added) gone
     ∙ spliced_is old start end added c.requires.ordered c.requires.within
 
-no_chars : (l : List ℕ) → length l ≡ 0 → chars l ≡ []
-unfolding chars
-no_chars l none = ap chars (nil_from_length l none)
-
 removed_len : (t : List ℕ) (start end : ℕ) → start ≤ end → end ≤ length t
     → start ≤ length (removed t start end)
 removed_len t start end ordered within =
@@ -36,7 +33,7 @@ returns-then-is_err-clause-removes c none = elim c.then-is_err.branch [
       let old = c.args.rope.now.text in
       let gone : c.remove.new.self.text ≡ removed old c.args.start c.args.end = search rules in
       let len = removed_len old c.args.start c.args.end c.requires.ordered c.requires.within in
-      let nothing = no_chars c.args.text.now none in
+      let nothing = ap chars (nil_from_length c.args.text.now none) ∙ chars-nil in
       let can = insert_error-none c.remove.new.self.text c.args.start (chars c.args.text.now)
       (omega (arith, ap length gone, len))
       (omega (arith, ap byte_len nothing, c.remove.ensures.kept.2.content.fits)) in

@@ -1,7 +1,7 @@
 use Rattle.std.proofs.Common.{◌≡◌, ◌∷◌, List, subst}
+use Rattle.std.proofs.lemmas.Str.{IsCharBoundary-from_take}
 use Rattle.rope_changes.specs.Packed.{AreCounted}
 use Rattle.rope_changes.specs.declared.replacements.Lengths.{Lengths}
-use Rattle.rope_changes.proofs.Parts.{next_boundary}
 use Rattle.rope_changes.proofs.replacements.Reader.next.Goals as goal
 
 pub split_at-requires : goal.split_at-requires
@@ -10,4 +10,5 @@ split_at-requires c =
     let text = c.self.inside.text.now in
     let is : c.self.inside.lengths.now ≡ first ∷ c.in-Some.rest.now = c.in-Some.ensures.cases.0 in
     let counted = subst (λ (ls : List Lengths). AreCounted ls text) is c.self.invariant in
-    next_boundary text first.bytes first.inserted c.self.ranges.1.0.1 counted.0
+    let begins = counted.0 in
+    IsCharBoundary-from_take text first.bytes c.self.ranges.1.0.1 begins.within begins.utf8
