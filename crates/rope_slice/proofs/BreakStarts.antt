@@ -11,7 +11,7 @@ use Rattle.rope_tree.specs.declared.search.Unit.TheVariants.{LineBreak}
 use Rattle.rope_tree.specs.Tree.{Tree, IsTree, text}
 use Rattle.rope_slice.specs.Edge.{IsExcerpt}
 use Rattle.rope_slice.specs.Path.{Place, leaves, HoldsPlace}
-use Rattle.rope_slice.specs.Span.{IsSpan, IsSpanFrom, edge_at, clipped_at, clipped_place}
+use Rattle.rope_slice.specs.Span.{IsSpanFrom, clipped_at, clipped_place}
 use Rattle.rope_slice.specs.Starts.{IsAtBreak}
 use Rattle.rope_slice.proofs.ChunkStarts.{index_of_char}
 use Rattle.rope_slice.proofs.Kept.{excerpt_kept}
@@ -39,11 +39,7 @@ module _ (t : Tree) (start end : TextInfo) (tree : IsTree t)
         (omega (arith, m.count))
 
     pub span_at_break : IsSpanFrom p start.bytes end.bytes
-    span_at_break =
-        subst (λ (n : ℕ). IsSpan p n (edge_at (leaves p) start.bytes)
-        (edge_at (leaves p) end.bytes))
-        (ap (λ x. x.bytes) h.info_is)
-        (is_span t start end p front tree s e h.info_is ends.starts ends.ends)
+    span_at_break = is_span t start end p front tree s e h.info_is ends.starts ends.ends
 
     -- the index of the chunk
     index : chunk_index_at_line_break t.breaks (clip t.leaves start.chars end.chars) line

@@ -8,11 +8,14 @@ use Rattle.std.specs.Str.{encode_utf8_all}
 use Rattle.rope_text.specs.Text.{byte_len}
 use Rattle.rope_text.proofs.Measures.{IsMeasure-byte_len}
 use Rattle.rope_text.proofs.CuttingLaws.{concat-append}
+use Rattle.rope_text.proofs.SidesLaws.{sides_ext}
+use Rattle.rope_text.proofs.Apart.{some_char}
 use Rattle.rope_text.specs.Sides.{Sides, GoesLeft, GoesRight}
 use Rattle.rope_slice.specs.Path.{Place, IsNext, IsBeside, leaves}
 use Rattle.rope_slice.specs.Point.{IsChunkAt}
 use Rattle.rope_slice.specs.Bytes.{at_byte, IsByteCursor}
-use Rattle.rope_slice.proofs.Points.{leaves_next, here_solid, AreSolid_same, chunk_bytes, chunk_some, sides_same}
+use Rattle.rope_slice.proofs.Points.{here_solid, AreSolid_same, chunk_bytes, chunk_some}
+use Rattle.rope_slice.proofs.Spans.{leaves_next}
 
 -- a cursor with a byte to the left, or to the right, in its chunk, with the items of another cursor
 pub record IsReady (is_left back : Bool) (old : Sides ℕ) (p : Place) (chunk : List ℕ)
@@ -64,7 +67,7 @@ module _ (p q : Place) (chunk next : List ℕ) (n : IsNext p q) (h : IsChunkAt p
 
   pub page : (at to : ℕ) (back : Bool) → at ≡ length chunk → to ≡ 0
       → at_byte p chunk at back ≡ at_byte q next to back
-  page at to back e z = sides_same _ _ (page_left at to e z) (page_right at to e z) refl
+  page at to back e z = sides_ext _ _ (page_left at to e z) (page_right at to e z) refl
 
   -- the cursor there, and back, where it is not at the end of all the bytes
   pub ready_next : (at to before total : ℕ) (back : Bool) → IsByteCursor p chunk at before total
@@ -175,10 +178,6 @@ module _ (back : Bool) (old : Sides ℕ) (p : Place) (chunk : List ℕ) (at befo
       ∙ sym (append_assoc enc (take at chunk) (get_or chunk at 0 ∷ [])) in
       rw (← r.same) (right, left, refl)
 
-some_chars : (text : List ℕ) → 0 < byte_len text → 0 < length text
-some_chars [] h = absurd (omega arith)
-some_chars (c ∷ cs) h = omega arith
-
 -- a cursor at a byte of a text that consists of leaves
 module _ (text : List ℕ) (p : Place) (whole : concat (leaves p) ≡ text) (chunk : List ℕ)
     (h : IsChunkAt p chunk) (at : ℕ) where
@@ -223,5 +222,5 @@ module _ (text : List ℕ) (p : Place) (whole : concat (leaves p) ≡ text) (chu
     within = omega (arith, same);
     before_is = e;
     total_is = omega (arith, sizes, same);
-    solid = λ some. solid (some_chars text (omega arith));
+    solid = λ some. solid (some_char text (omega arith));
   }

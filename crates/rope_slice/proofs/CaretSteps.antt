@@ -2,7 +2,7 @@
 use Rattle.std.proofs.Common.{◌≡◌, ℕ, ◌+◌, ◌^◌, ◌<◌, ◌≤◌, false, List, [], ◌∷◌, ◌++◌, length, take, drop, refl, sym, ap, subst, ◌∙◌, arith, append_assoc, inl, inr}
 use Rattle.std.specs.List.{concat}
 use Rattle.std.proofs.lemmas.Bool.{cases_lt}
-use Rattle.std.proofs.lemmas.List.{take-append-le, drop-append-le, take-append-drop, drop-drop, length-drop, length-append, length-take-le}
+use Rattle.std.proofs.lemmas.List.{take-append-le, drop-append-le, take-append-drop, drop-drop, length-drop, length-append, length-take-le, nil_from_length}
 use Rattle.std.proofs.Math.Seq.{take-append-add, drop-append-add, take-add}
 use Rattle.rope_text.specs.declared.line_breaks.LineBreaks.{LineBreaks}
 use Rattle.rope_text.specs.declared.text_info.TextInfo.{TextInfo}
@@ -13,9 +13,9 @@ use Rattle.rope_text.specs.Lines.{line_start}
 use Rattle.rope_text.specs.Conversions.{byte_to_char}
 use Rattle.rope_text.specs.Cutting.{parts_crlf, KeepsCrlf}
 use Rattle.rope_text.specs.LineParts.{first_line}
-use Rattle.rope_text.proofs.ConversionLaws.{byte_to_char-le-length}
+use Rattle.rope_text.proofs.ConversionLaws.{byte_to_char-le-length, byte_to_char-char_to_byte}
 use Rattle.rope_text.proofs.InfoLaws.{info_of-append_apart}
-use Rattle.rope_text.proofs.CuttingLaws.{concat-append, parts_crlf-append}
+use Rattle.rope_text.proofs.CuttingLaws.{concat-append, apart_back}
 use Rattle.rope_text.proofs.LineLaws.{line_start-le-length}
 use Rattle.rope_text.proofs.LineSeams.{parts_crlf-take, first_line-left, first_line-right, first_line-all, no_break_at_all}
 use Rattle.rope_slice.specs.Kept.{IsPart}
@@ -24,7 +24,7 @@ use Rattle.rope_slice.proofs.InChunks.{in_chunk}
 use Rattle.rope_text.specs.LineParts.{after_byte}
 use Rattle.rope_slice.specs.Caret.{halves_at, HoldsAhead, IsCaret, PassesLine}
 use Rattle.rope_tree.specs.Search.{IsSmall}
-use Rattle.rope_slice.proofs.Carets.{some_break, here_apart, whole_text, size_two, size_front, front_place, small_of}
+use Rattle.rope_slice.proofs.Carets.{some_break, here_apart, whole_text, size_two, size_front, small_of}
 
 -- chunks of no text
 nothing_kept : (chunks : List (List ℕ)) → concat chunks ≡ [] → KeepsCrlf chunks
@@ -32,21 +32,13 @@ nothing_kept [] e = tt
 nothing_kept ([] ∷ chunks) e = (refl, nothing_kept chunks e)
 nothing_kept ((c ∷ chunk) ∷ chunks) e = absurd (let some = ap length e in omega arith)
 
-none_at_all : (text : List ℕ) → length text ≤ 0 → text ≡ []
-none_at_all [] l = refl
-none_at_all (c ∷ text) l = absurd (omega arith)
-
-pub apart_back : (x y r : List ℕ) → parts_crlf (x ++ y) r ≡ false → parts_crlf y r ≡ false
-apart_back x [] r a = refl
-apart_back x (c ∷ y) r a = sym (parts_crlf-append x c y r) ∙ a
-
 -- the position before a character of a slice
 module _ (c : Content) (p : Place) (at i b : ℕ) (kept : IsPart c)
     (text_is : concat (leaves p) ≡ c.text) (chunks_are : 0 < length c.text → leaves p ≡ c.chunks)
     (place : length (concat p.before) + at ≡ i) (within : at ≤ length p.here)
     (bytes : b ≡ byte_len (take at p.here)) where
   char_is : byte_to_char p.here b ≡ at
-  char_is = ap (byte_to_char p.here) bytes ∙ front_place p.here at within
+  char_is = ap (byte_to_char p.here) bytes ∙ byte_to_char-char_to_byte p.here at within
 
   parts : c.text ≡ concat p.before ++ (p.here ++ concat p.after)
   parts = sym text_is ∙ concat-append p.before (p.here ∷ p.after)
@@ -57,7 +49,7 @@ module _ (c : Content) (p : Place) (at i b : ℕ) (kept : IsPart c)
     chunks = record {
       kept = elim (cases_lt 0 (length c.text)) [
         | inl some ↦ subst KeepsCrlf (sym (chunks_are some)) kept.whole
-        | inr none ↦ nothing_kept (leaves p) (text_is ∙ none_at_all c.text none)
+        | inr none ↦ nothing_kept (leaves p) (text_is ∙ nil_from_length c.text (omega arith))
       ];
       fits = rw text_is kept.fits;
     };
@@ -134,7 +126,7 @@ module _ (breaks : LineBreaks) (p : Place) (b : ℕ) (g : IsCaret p b) (info : T
       let bytes : b + info.bytes ≡ byte_len (take (j + k) p.here) =
       omega (arith, size, g.between, ap (λ x. x.bytes) e) in
       let place : byte_to_char p.here (b + info.bytes) ≡ j + k = ap (byte_to_char p.here) bytes
-      ∙ front_place p.here (j + k) within in
+      ∙ byte_to_char-char_to_byte p.here (j + k) within in
       let line : first_line breaks (back ++ r) ≡ take k back =
       first_line-left breaks back r rest_apart (some_break breaks back info e some) in
       record {

@@ -1,7 +1,7 @@
 -- Lines over several chunks.
 use Rattle.std.proofs.Common.{◌≡◌, ℕ, ◌+◌, ◌^◌, ◌<◌, ◌≤◌, false, List, [], ◌∷◌, ◌++◌, length, take, drop, refl, sym, ap, subst, ◌∙◌, arith, append_assoc, inl, inr}
 use Rattle.std.specs.List.{concat}
-use Rattle.std.specs.Str.{chars, IsUtf8, IsCharBoundary}
+use Rattle.std.specs.Str.{chars, IsUtf8}
 use Rattle.std.proofs.lemmas.Bool.{cases_lt}
 use Rattle.std.proofs.lemmas.List.{append-nil, take_at, take-append-drop}
 use Rattle.rope_text.specs.declared.line_breaks.LineBreaks.{LineBreaks}
@@ -13,7 +13,7 @@ use Rattle.rope_text.specs.Lines.{line_start}
 use Rattle.rope_text.specs.Conversions.{byte_to_char}
 use Rattle.rope_text.specs.Cutting.{parts_crlf, KeepsCrlf}
 use Rattle.rope_text.specs.LineParts.{first_line}
-use Rattle.rope_text.proofs.TextParts.{chars_back, byte_len_boundary}
+use Rattle.rope_text.proofs.TextParts.{chars_back}
 use Rattle.rope_text.proofs.Measures.{IsMeasure-byte_len}
 use Rattle.rope_text.proofs.ConversionLaws.{byte_to_char-char_to_byte}
 use Rattle.rope_text.proofs.CuttingLaws.{concat-append, parts_crlf-append}
@@ -64,21 +64,10 @@ pub size_front : (n : ℕ) (t : List ℕ) → byte_len (take n t) ≤ byte_len t
 size_front n t = omega (arith, ap byte_len (take-append-drop n t), size_two (take n t) (drop n t))
 
 -- at a character boundary bytes may be cut, and the rest is the text from there on
-pub between_boundary : (bytes : List ℕ) (b : ℕ) → IsUtf8 bytes → IsBetween (chars bytes) b
-    → IsCharBoundary bytes b
-between_boundary bytes b utf8 between =
-    subst (λ (n : ℕ). IsCharBoundary bytes n) between
-    (byte_len_boundary bytes (byte_to_char (chars bytes) b) utf8)
-
 pub between_after : (bytes rest : List ℕ) (b : ℕ) → IsUtf8 bytes → IsBetween (chars bytes) b
     → rest ≡ drop b bytes → chars rest ≡ after_byte (chars bytes) b
 between_after bytes rest b utf8 between cut =
     chars_back bytes rest (chars bytes) (byte_to_char (chars bytes) b) b utf8 refl (sym between) cut
-
--- the bytes of a prefix give its length in characters
-pub front_place : (here : List ℕ) (n : ℕ) → n ≤ length here
-    → byte_to_char here (byte_len (take n here)) ≡ n
-front_place here n within = byte_to_char-char_to_byte here n within
 
 -- a first line with a break is of a text with one
 pub some_break : (breaks : LineBreaks) (text : List ℕ) (info : TextInfo)
@@ -99,7 +88,7 @@ line_in_next breaks p q more h n e some =
     let k : ℕ = line_start breaks q.here 1 in
     let within = line_start-le-length breaks q.here 1 in
     let place : byte_to_char q.here more.bytes ≡ k = ap (byte_to_char q.here) (ap (λ x. x.bytes) e)
-    ∙ front_place q.here k within in
+    ∙ byte_to_char-char_to_byte q.here k within in
     let ahead : concat p.after ≡ q.here ++ concat q.after = ap concat n.after in
     let front : concat q.before ≡ concat p.before ++ p.here =
     ap concat n.before ∙ concat-append p.before (p.here ∷ [])
@@ -128,6 +117,7 @@ line_in_next breaks p q more h n e some =
 pub start_of_chunk : (p : Place) → AreChunks p → IsCaret p 0
 start_of_chunk p h =
     record {
-      between = ap (λ j. byte_len (take j p.here)) (front_place p.here 0 (omega arith));
+      between =
+          ap (λ j. byte_len (take j p.here)) (byte_to_char-char_to_byte p.here 0 (omega arith));
       chunks = h;
     }

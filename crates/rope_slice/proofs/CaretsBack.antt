@@ -15,9 +15,9 @@ use Rattle.rope_text.specs.Conversions.{byte_to_char, char_to_line}
 use Rattle.rope_text.specs.Cutting.{parts_crlf, KeepsCrlf}
 use Rattle.rope_text.specs.LineParts.{last_start}
 use Rattle.rope_text.proofs.BreakLaws.{break_ends-nil}
-use Rattle.rope_text.proofs.ConversionLaws.{byte_to_char-byte_len, char_to_line-line_start, char_to_line_start}
+use Rattle.rope_text.proofs.ConversionLaws.{byte_to_char-byte_len, char_to_line-line_start, char_to_line_start, byte_to_char-char_to_byte}
 use Rattle.rope_text.proofs.InfoLaws.{info_of-append_apart}
-use Rattle.rope_text.proofs.CuttingLaws.{concat-append}
+use Rattle.rope_text.proofs.CuttingLaws.{concat-append, apart_back}
 use Rattle.rope_text.proofs.LineLaws.{line_start-le-length}
 use Rattle.rope_text.proofs.LineSeams.{never, break_count-apart, last_start-left, last_start-right, last_start_none}
 use Rattle.rope_text.proofs.InfoLaws.{same_info}
@@ -25,9 +25,8 @@ use Rattle.rope_slice.specs.Path.{Place, IsNext}
 use Rattle.rope_text.specs.LineParts.{before_byte, after_byte, last_line_byte, last_line_info}
 use Rattle.rope_slice.specs.Caret.{halves_at, AreChunks, IsCaret, PassesBack}
 use Rattle.rope_slice.proofs.Spans.{leaves_next}
-use Rattle.rope_slice.proofs.Carets.{apart_joined, apart_front, front_place, small_of, size_two, whole_text}
+use Rattle.rope_slice.proofs.Carets.{apart_joined, apart_front, small_of, size_two, whole_text}
 use Rattle.rope_tree.specs.Search.{IsSmall}
-use Rattle.rope_slice.proofs.CaretSteps.{apart_back}
 
 -- texts with too few breaks were passed backward, up to the start of a chunk; `left` breaks are
 -- left to pass
@@ -140,7 +139,8 @@ module _ (breaks : LineBreaks) (skip left : ℕ) (front back x y q : List ℕ) (
       let inside : take k p.here ≡ take k x = ap (take k) here_is ∙ take-append-le k x y within in
       let bytes : start ≡ byte_len (take k p.here) = start_is ∙ ap byte_len (sym inside) in
       let place : byte_to_char p.here start ≡ k =
-      ap (byte_to_char p.here) bytes ∙ front_place p.here k (let long = ap length here_is in
+      ap (byte_to_char p.here) bytes
+      ∙ byte_to_char-char_to_byte p.here k (let long = ap length here_is in
       let two = length-append x y in let l = within in omega arith) in
       let last : drop (last_start breaks front skip) front ≡ drop k x ++ q =
       ap (λ n. drop n front) line ∙ ap (drop (length before + k)) whole_is

@@ -10,7 +10,8 @@ use Rattle.rope_text.proofs.TextParts.{chars-take, chars-drop, byte_len_boundary
 use Rattle.rope_slice.specs.Path.{Place, IsNext, leaves}
 use Rattle.rope_slice.specs.Point.{IsChunkAt, IsCharBetween}
 use Rattle.rope_slice.specs.Chars.{IsCharCursor}
-use Rattle.rope_slice.proofs.Points.{leaves_next, here_solid, AreSolid_same, chunk_some}
+use Rattle.rope_slice.proofs.Points.{here_solid, AreSolid_same, chunk_some}
+use Rattle.rope_slice.proofs.Spans.{leaves_next}
 
 pub no_front : (text : List ℕ) → chars (take 0 text) ≡ []
 no_front text = chars-nil

@@ -1,5 +1,5 @@
 -- The part of a leaf inside an excerpt, and the counts before it.
-use Rattle.std.proofs.Common.{◌≡◌, ℕ, suc, ◌+◌, ◌-◌, ◌<◌, ◌≤◌, min, List, [], ◌++◌, length, take, drop, get_or, refl, sym, ap, ◌∙◌, arith, inl, inr, All}
+use Rattle.std.proofs.Common.{◌≡◌, ℕ, suc, ◌+◌, ◌-◌, ◌<◌, ◌≤◌, min, List, [], ◌++◌, length, take, drop, get_or, sym, ap, ◌∙◌, arith, inl, inr, All}
 use Rattle.std.specs.List.{concat, slice_range}
 use Rattle.std.specs.Str.{chars, IsUtf8, IsCharBoundary}
 use Rattle.std.proofs.lemmas.Bool.{cases_lt}
@@ -9,8 +9,7 @@ use Rattle.rope_text.specs.declared.line_breaks.LineBreaks.{LineBreaks}
 use Rattle.rope_text.specs.Text.{byte_len}
 use Rattle.rope_text.specs.Breaks.{break_count}
 use Rattle.rope_text.specs.Conversions.{char_to_line}
-use Rattle.rope_text.specs.Cutting.{IsCutting, KeepsCrlf, clip}
-use Rattle.rope_text.proofs.CuttingLaws.{IsCutting-clip}
+use Rattle.rope_text.specs.Cutting.{KeepsCrlf, clip}
 use Rattle.rope_text.specs.Lookup.{found_chunk, front_chunks, chunk_index_at_byte, chunk_index_at_char}
 use Rattle.rope_text.proofs.Measures.{IsMeasure-byte_len, IsMeasure-length, size_le, size_lt, size_le_all}
 use Rattle.rope_text.proofs.TextParts.{all_scalars-take, all_scalars-drop, byte_len_boundary}
@@ -19,6 +18,7 @@ use Rattle.rope_text.proofs.SliceLaws.{char_to_line-drop}
 use Rattle.rope_text.proofs.ClipLaws.{concat-clip}
 use Rattle.rope_text.proofs.LookupLaws.{breaks_before, chunk_index_at_byte_is, chunk_index_at_char_is}
 use Rattle.rope_text.proofs.ChunkLaws.{before, after, concat_at}
+use Rattle.rope_text.proofs.CuttingLaws.{clip_nonempty}
 use Rattle.std.proofs.Math.Seq.{take-append-add}
 use Rattle.rope_slice.specs.Found.{IsFoundChunk}
 use Rattle.rope_slice.proofs.Excerpts.{bytes_of_part, length_part, size_part, char_to_line_part}
@@ -212,15 +212,12 @@ module _ (breaks : LineBreaks) (chunks : List (List ℕ)) (a b k : ℕ) (l : k <
 
   -- it contains the index of the slice, or it is the last chunk of the slice and the index is the
   -- end
-  nonempty : All (λ chunk. 0 < length chunk) (clip chunks a b)
-  nonempty = let cut : IsCutting (slice_range (concat chunks) a b) (clip chunks a b) =
-      IsCutting-clip (concat chunks) chunks a b (record { joined = refl; nonempty = full }) in
-      cut.nonempty
-
   not_last : suc (length (clip (take k chunks) a b)) < length (clip chunks a b)
       → length (before chunks k) + length (get_or chunks k []) < b
   not_last more =
-      let less = front_less (clip chunks a b) (length (clip (take k chunks) a b)) nonempty more in
+      let less =
+      front_less (clip chunks a b) (length (clip (take k chunks) a b)) (clip_nonempty chunks a b)
+      more in
       omega (
         arith,
         chars_upto,

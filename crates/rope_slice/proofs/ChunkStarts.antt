@@ -23,6 +23,7 @@ use Rattle.rope_text.proofs.LookupLaws.{chunk_index_at_byte_is, chunk_index_at_c
 use Rattle.rope_text.specs.Lines.{line_count}
 use Rattle.rope_text.proofs.LineLaws.{line_start_first}
 use Rattle.rope_text.proofs.Measures.{IsMeasure-byte_len}
+use Rattle.rope_text.proofs.Apart.{some_char}
 use Rattle.rope_text.specs.Conversions.{char_to_line}
 use Rattle.rope_tree.specs.declared.search.Unit.{Unit}
 use Rattle.rope_tree.specs.declared.search.Unit.TheVariants.{Byte, Char, CodeUnit, LineBreak}
@@ -101,11 +102,6 @@ first_full : (chunks : List (List ℕ)) → All (λ chunk. 0 < length chunk) chu
 first_full [] full some = absurd (omega arith)
 first_full (chunk ∷ chunks) full some =
     omega (arith, full 0 [] (omega arith), length-append chunk [])
-
--- a text with a byte has a character
-some_byte : (text : List ℕ) → 0 < byte_len text → 0 < length text
-some_byte [] some = absurd (omega arith)
-some_byte (c ∷ cs) some = omega arith
 
 -- a chunk that has the last byte has the last character
 pub ends_by_bytes : (p : Place) (text : List ℕ) → concat (leaves p) ≡ text
@@ -254,7 +250,7 @@ module _ (breaks : LineBreaks) (p : Place) (text : List ℕ) (chunks : List (Lis
         → StandsAt breaks chunks (chunk_place unit chunks idx)
         (at_chunk p (info.chars == 0) false false) bytes chars count
     starts_before Byte i bytes chars count a less low high =
-        let some : 0 < length text = some_byte text (omega arith) in
+        let some : 0 < length text = some_char text (omega arith) in
         let all : byte_len (concat chunks) ≡ byte_len text = ap byte_len cut.joined in
         let k : ℕ = chunk_index_at_byte chunks idx in
         subst (λ (n : ℕ). StandsAt breaks chunks n (at_chunk p (info.chars == 0) false false) bytes

@@ -1,8 +1,9 @@
 -- A chunk of a clip: its number, and the counts before it.
-use Rattle.std.proofs.Common.{◌≡◌, ℕ, zero, suc, ◌+◌, ◌-◌, ◌<◌, min, List, [], ◌∷◌, ◌++◌, length, take, drop, get_or, refl, sym, ap, ◌∙◌, arith, inl, inr, All}
+use Rattle.std.proofs.Common.{◌≡◌, ℕ, suc, ◌+◌, ◌-◌, ◌<◌, min, List, [], ◌∷◌, ◌++◌, length, take, drop, get_or, refl, sym, ap, ◌∙◌, arith, inl, inr, All}
 use Rattle.std.specs.List.{concat, slice_range}
 use Rattle.std.proofs.lemmas.Bool.{cases_lt}
 use Rattle.std.proofs.lemmas.List.{take_all, append_assoc, length-append, take_at, length-drop, length-take, take-take}
+use Rattle.std.proofs.Math.Seq.{split_at, get_or-append_seam}
 use Rattle.rope_text.specs.Cutting.{clip, cons_nonempty}
 use Rattle.rope_text.specs.Lookup.{front_chunks}
 use Rattle.rope_text.proofs.Measures.{IsMeasure, size_le}
@@ -35,17 +36,6 @@ clip-append (x ∷ p) q a b =
     ∙ cons_nonempty-append (slice_range x a b) (clip p (a - length x) (b - length x))
     (clip q ((a - length x) - length (concat p)) ((b - length x) - length (concat p)))
     ∙ (rw (from, to) refl)
-
-pub split_at : (parts : List (List ℕ)) (k : ℕ) → k < length parts
-    → parts ≡ take k parts ++ (get_or parts k [] ∷ drop (suc k) parts)
-split_at [] k l = absurd (omega arith)
-split_at (x ∷ parts) zero l = refl
-split_at (x ∷ parts) (suc k) l = ap (λ r. x ∷ r) (split_at parts k (omega arith))
-
-get_or_middle : (p : List (List ℕ)) (s : List ℕ) (q : List (List ℕ))
-    → get_or (p ++ (s ∷ q)) (length p) [] ≡ s
-get_or_middle [] s q = refl
-get_or_middle (x ∷ p) s q = get_or_middle p s q
 
 -- a part of a front of the text
 pub slice_of_front : (text : List ℕ) (m a b : ℕ)
@@ -141,7 +131,7 @@ clipped chunks a b k l some full starts ends =
     clip (drop (suc k) chunks) ((a - length x) - length y) ((b - length x) - length y) in
     let long : 0 < length s = omega (arith, length-slice_range y (a - length x) (b - length x)) in
     let parts : clip chunks a b ≡ p ++ (s ∷ r) =
-    ap (λ cs. clip cs a b) (split_at chunks k l)
+    ap (λ cs. clip cs a b) (split_at chunks k [] l)
     ∙ clip-append (take k chunks) (y ∷ drop (suc k) chunks) a b
     ∙ ap (λ cs. p ++ cs) (cons_some s r long) in
     let first : concat p ≡ slice_range x a b = concat-clip (take k chunks) a b in
@@ -149,7 +139,7 @@ clipped chunks a b k l some full starts ends =
     let within : length p < length (clip chunks a b) =
     omega (arith, ap length parts, length-append p (s ∷ r)) in
     let chunk : get_or (clip chunks a b) (length p) [] ≡ s =
-    ap (λ cs. get_or cs (length p) []) parts ∙ get_or_middle p s r in
+    ap (λ cs. get_or cs (length p) []) parts ∙ get_or-append_seam p s r [] in
     let front : front_chunks (clip chunks a b) (length p) ≡ slice_range x a b =
     ap (λ cs. concat (take (length p) cs)) parts ∙ ap concat (take_at p (s ∷ r) (length p) refl)
     ∙ first in

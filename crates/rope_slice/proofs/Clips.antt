@@ -4,9 +4,6 @@ use Rattle.std.specs.List.{concat, slice_range}
 use Rattle.std.proofs.lemmas.List.{take_all, length-append}
 use Rattle.std.proofs.lemmas.List.Elements.{All-tail}
 use Rattle.rope_text.specs.Cutting.{clip, single_chunk}
-use Rattle.rope_text.specs.Text.{byte_len}
-use Rattle.rope_text.specs.Conversions.{byte_to_char}
-use Rattle.rope_text.proofs.Measures.{IsMeasure-byte_len, front_greatest, front_fits, front-le-length}
 use Rattle.rope_text.proofs.ClipLaws.{slice_range_past, slice_range-slice_range, clip-clip}
 
 -- a clip that ends past the end keeps all
@@ -22,6 +19,15 @@ clip_all ((c ∷ cs) ∷ chunks) b full l =
     rw (kept, none) (ap (λ r. chunk ∷ r)
     (clip_all chunks (b - length chunk) (All-tail (λ part. 0 < length part) chunk chunks full)
     (omega arith)))
+
+-- nothing remains of chunks before an index
+pub clip_past : (chunks : List (List ℕ)) (a b : ℕ) → length (concat chunks) ≤ a
+    → clip chunks a b ≡ []
+clip_past [] a b l = refl
+clip_past (chunk ∷ chunks) a b l =
+    let long = length-append chunk (concat chunks) in
+    rw (slice_range_past chunk a b (omega arith))
+    (clip_past chunks (a - length chunk) (b - length chunk) (omega arith))
 
 -- a part of a text that is one chunk is one chunk, or none
 pub single_chunk-clip : (text : List ℕ) (a b : ℕ)
@@ -47,16 +53,3 @@ pub whole_clip : (chunks : List (List ℕ)) (x y : ℕ) → All (λ chunk. 0 < l
     → y ≡ length (concat chunks) → clip chunks x y ≡ chunks
 whole_clip chunks x y full from to =
     rw (from, to) (clip_all chunks (length (concat chunks)) full (omega arith))
-
-pub no_chars : (text : List ℕ) → length text ≡ 0 → text ≡ []
-no_chars [] none = refl
-no_chars (c ∷ text) none = absurd (omega arith)
-
--- a later byte is in a later character, or in the same one
-pub byte_to_char-mono : (text : List ℕ) (m n : ℕ) → m ≤ n
-    → byte_to_char text m ≤ byte_to_char text n
-unfolding byte_to_char
-byte_to_char-mono text m n l =
-    front_greatest byte_len IsMeasure-byte_len text n (byte_to_char text m)
-    (front-le-length byte_len IsMeasure-byte_len text m)
-    (let fits = front_fits byte_len IsMeasure-byte_len text m in omega arith)

@@ -1,21 +1,21 @@
 -- The counts up to an index, from the leaf that contains it.
-use Rattle.std.proofs.Common.{◌≡◌, ℕ, zero, suc, ◌+◌, ◌-◌, ◌<◌, ◌≤◌, Bool, true, false, ◌&&◌, List, [], ◌∷◌, ◌++◌, length, take, drop, refl, sym, ap, ◌∙◌, arith}
+use Rattle.std.proofs.Common.{◌≡◌, ℕ, ◌+◌, ◌-◌, ◌<◌, ◌≤◌, false, List, ◌++◌, length, take, drop, refl, sym, ap, ◌∙◌, arith, subst}
 use Rattle.std.specs.List.{concat}
-use Rattle.std.proofs.lemmas.List.{take-append-drop, length-take-le, append_cancel_left, length-append, drop-append-le}
+use Rattle.std.proofs.lemmas.List.{take-append-drop, length-take-le, append_cancel_left, length-append, drop-append-le, take_at}
 use Rattle.std.proofs.Math.Seq.{drop-append-add}
 use Rattle.rope_text.specs.declared.text_info.TextInfo.{TextInfo}
 use Rattle.rope_text.specs.Text.{surrogate_count}
 use Rattle.rope_text.specs.TextInfo.{info_of}
-use Rattle.rope_text.specs.Breaks.{ends_in_cr, break_count}
+use Rattle.rope_text.specs.Breaks.{break_count}
 use Rattle.rope_text.specs.Lines.{line_start}
 use Rattle.rope_text.specs.Cutting.{parts_crlf}
 use Rattle.rope_text.specs.Conversions.{char_to_byte, char_to_line, line_to_byte}
-use Rattle.rope_text.proofs.CuttingLaws.{concat-append, parts_crlf-append}
+use Rattle.rope_text.proofs.CuttingLaws.{concat-append, apart_back}
 use Rattle.rope_text.proofs.ChunkLaws.{before, after, KeepsCrlf_before, KeepsCrlf_at}
 use Rattle.rope_text.proofs.BreakLaws.{break_count-append}
 use Rattle.rope_text.proofs.InfoLaws.{surrogate_count-append, same_info}
 use Rattle.rope_text.proofs.LineLaws.{line_start-le-length}
-use Rattle.rope_text.proofs.LineSeams.{break_count-front}
+use Rattle.rope_text.proofs.LineSeams.{break_count-front, parts_crlf-take}
 use Rattle.rope_tree.specs.declared.search.Unit.TheVariants.{Char, LineBreak}
 use Rattle.rope_tree.specs.Tree.{Tree, text, IsTree}
 use Rattle.rope_tree.specs.Found.{IsFound}
@@ -23,20 +23,11 @@ use Rattle.rope_tree.proofs.FoundLaws.{lies_at, front_in, found_char, found_char
 use Rattle.rope_tree.proofs.LeafLaws.{nonempty_leaves}
 use Rattle.rope_slice.specs.Edge.{start_info, end_info, IsLeafFrom}
 
-front_apart : (s leaf rest : List ℕ) (k : ℕ) → 0 < length leaf → parts_crlf s (leaf ++ rest) ≡ false
+front_apart : (s leaf rest : List ℕ) (k : ℕ) → parts_crlf s (leaf ++ rest) ≡ false
     → parts_crlf s (take k leaf) ≡ false
-front_apart s [] rest k some apart = absurd (omega arith)
-front_apart s (c ∷ leaf) rest zero some apart = never (ends_in_cr s)
-  where
-    never : (x : Bool) → (x && false) ≡ false
-    never true = refl
-    never false = refl
-front_apart s (c ∷ leaf) rest (suc k) some apart = apart
-
-back_apart : (s t rest : List ℕ) → parts_crlf (s ++ t) rest ≡ false → 0 < length t
-    → parts_crlf t rest ≡ false
-back_apart s [] rest apart some = absurd (omega arith)
-back_apart s (c ∷ t) rest apart some = sym (parts_crlf-append s c t rest) ∙ apart
+front_apart s leaf rest k apart =
+    parts_crlf-take s leaf k (subst (λ t. parts_crlf s t ≡ false) (take_at leaf rest _ refl)
+    (parts_crlf-take s (leaf ++ rest) (length leaf) apart))
 
 module _ (i : ℕ) (t : Tree) (leaf : List ℕ) (front : TextInfo) (tree : IsTree t)
     (f : IsFound Char i t leaf front) where
@@ -79,14 +70,12 @@ module _ (i : ℕ) (t : Tree) (leaf : List ℕ) (front : TextInfo) (tree : IsTre
   pub seam_before : parts_crlf (before t.leaves f.index) (take (i - front.chars) leaf) ≡ false
   seam_before =
       let at = lies_at Char i t leaf front f in
-      let within = (found_char i t leaf front f).0 in
       let rest : concat (drop f.index t.leaves) ≡ leaf ++ after t.leaves f.index =
       append_cancel_left (before t.leaves f.index) (concat (drop f.index t.leaves))
       (leaf ++ after t.leaves f.index)
       (sym (concat-append (take f.index t.leaves) (drop f.index t.leaves))
       ∙ ap concat (take-append-drop f.index t.leaves) ∙ at.around) in
       front_apart (before t.leaves f.index) leaf (after t.leaves f.index) (i - front.chars)
-      (omega arith)
       (ap (parts_crlf (before t.leaves f.index)) (sym rest)
       ∙ KeepsCrlf_before t.leaves f.index (nonempty_leaves t.leaves tree.leaves.each)
       tree.leaves.whole)
@@ -186,6 +175,6 @@ module _ (line : ℕ) (t : Tree) (leaf : List ℕ) (front : TextInfo) (tree : Is
             ∙ ap (drop (length (before t.leaves f.index) + k)) at.around
             ∙ drop-append-add (before t.leaves f.index) (leaf ++ next) k
             ∙ drop-append-le k leaf next short;
-        apart = back_apart (take k leaf) (drop k leaf) next
+        apart = λ _. apart_back (take k leaf) (drop k leaf) next
             (ap (λ s. parts_crlf s next) (take-append-drop k leaf) ∙ seam);
       }

@@ -46,8 +46,11 @@ module _ (breaks : LineBreaks) (text : List ℕ) (start end place : TextInfo)
       (omega (arith, m.chars))))
 
   -- a start of a line in the tree, after the excerpt's own start
-  module _ (l : ℕ) (later : 0 < l) (place_is : place
-      ≡ info_of breaks (take (line_start breaks text (start.break_count + l)) text)) where
+  module _ (l line : ℕ) (later : 0 < l) (line_is : line ≡ start.break_count + l)
+      (counts : place ≡ info_of breaks (take (line_start breaks text line) text)) where
+    place_is : place ≡ info_of breaks (take (line_start breaks text (start.break_count + l)) text)
+    place_is = counts ∙ ap (λ n. info_of breaks (take (line_start breaks text n) text)) line_is
+
     place_chars : place.chars ≡ line_start breaks text (start.break_count + l)
     place_chars = ap (λ x. x.chars) place_is
         ∙ length-take-le (line_start breaks text (start.break_count + l)) text

@@ -1,9 +1,9 @@
 -- The counts and the conversions of characters within a text, by those of the text.
-use Rattle.std.proofs.Common.{◌≡◌, ℕ, zero, suc, ◌+◌, ◌-◌, ◌<◌, ◌≤◌, min, List, [], ◌∷◌, ◌++◌, length, take, drop, refl, sym, ap, ◌∙◌, arith, inl, inr, append_assoc, length-append}
+use Rattle.std.proofs.Common.{◌≡◌, ℕ, ◌+◌, ◌-◌, ◌<◌, ◌≤◌, min, List, ◌++◌, length, take, drop, refl, sym, ap, ◌∙◌, arith, inl, inr, append_assoc, length-append}
 use Rattle.std.specs.List.{slice_range}
 use Rattle.std.specs.Str.{encode_utf8_all}
 use Rattle.std.proofs.lemmas.Bool.{cases_lt}
-use Rattle.std.proofs.lemmas.List.{take-append-drop, length-take-le, length-drop, take_all, drop-take, take_at, drop_at}
+use Rattle.std.proofs.lemmas.List.{take-append-drop, length-take-le, length-drop, take_all, drop-take, take_at, drop_at, take-take}
 use Rattle.std.proofs.lemmas.Str.{encodes-append}
 use Rattle.std.proofs.Math.Seq.{take-add}
 use Rattle.rope_text.specs.declared.line_breaks.LineBreaks.{LineBreaks}
@@ -15,13 +15,7 @@ use Rattle.rope_text.proofs.Measures.{IsMeasure, IsMeasure-byte_len, IsMeasure-u
 use Rattle.rope_text.proofs.JoinLaws.{front-append_left, front-append_right}
 use Rattle.rope_text.proofs.SliceLaws.{char_to_line-drop, char_to_line-take, break_count-drop, line_start-drop, line_start-take}
 use Rattle.rope_text.proofs.ConversionLaws.{byte_to_line-byte_to_char}
-
--- the text before a slice and the slice are the text before its end
-pub front_and_part : (text : List ℕ) (a b : ℕ) → a ≤ b
-    → take a text ++ slice_range text a b ≡ take b text
-front_and_part text a b l =
-    let same : b ≡ a + (b - a) = omega arith in
-    sym (ap (λ n. take n text) same ∙ take-add a (b - a) text)
+use Rattle.rope_text.proofs.LinesJoin.{take-slice_range}
 
 -- a slice is the text before its end without the text before its start
 pub part_of_front : (text : List ℕ) (a b : ℕ) → a ≤ b → slice_range text a b ≡ drop a (take b text)
@@ -32,7 +26,7 @@ part_of_front text a b l =
 pub around_part : (text : List ℕ) (a b : ℕ) → a ≤ b
     → text ≡ take a text ++ (slice_range text a b ++ drop b text)
 around_part text a b l =
-    sym (take-append-drop b text) ∙ ap (λ s. s ++ drop b text) (sym (front_and_part text a b l))
+    sym (take-append-drop b text) ∙ ap (λ s. s ++ drop b text) (sym (take-slice_range text a b l))
     ∙ append_assoc (take a text) (slice_range text a b) (drop b text)
 
 pub length_part : (text : List ℕ) (a b : ℕ) → b ≤ length text
@@ -43,7 +37,7 @@ length_part text a b within =
 -- a size that adds up
 pub size_part : (size : List ℕ → ℕ) → IsMeasure size → (text : List ℕ) (a b : ℕ) → a ≤ b
     → size (take b text) ≡ size (take a text) + size (slice_range text a b)
-size_part size m text a b l = ap size (sym (front_and_part text a b l))
+size_part size m text a b l = ap size (sym (take-slice_range text a b l))
     ∙ m.joined (take a text) (slice_range text a b)
 
 -- the bytes of a part of a text are a part of its bytes
@@ -119,13 +113,7 @@ byte_to_char-less text n less = elim (cases_lt (byte_to_char text n) (length tex
 pub front_of_part : (text : List ℕ) (a b i : ℕ) → i ≤ b - a
     → take (a + i) text ≡ take a text ++ take i (slice_range text a b)
 front_of_part text a b i l = take-add a i text
-    ∙ ap (λ s. take a text ++ s) (sym (take-take-le i (b - a) (drop a text) l))
-  where
-    take-take-le : (i n : ℕ) (xs : List ℕ) → i ≤ n → take i (take n xs) ≡ take i xs
-    take-take-le zero n xs l = refl
-    take-take-le (suc i) zero xs l = absurd (omega arith)
-    take-take-le (suc i) (suc n) [] l = refl
-    take-take-le (suc i) (suc n) (x ∷ xs) l = ap (λ r. x ∷ r) (take-take-le i n xs (omega arith))
+    ∙ ap (λ s. take a text ++ s) (sym (take-take i (b - a) (drop a text) l))
 
 pub size_of_front : (size : List ℕ → ℕ) → IsMeasure size → (text : List ℕ) (a b i : ℕ) → i ≤ b - a
     → size (take (a + i) text) ≡ size (take a text) + size (take i (slice_range text a b))

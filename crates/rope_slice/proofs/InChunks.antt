@@ -2,27 +2,20 @@
 use Rattle.std.proofs.Common.{◌≡◌, ℕ, suc, ◌+◌, ◌-◌, ◌<◌, ◌≤◌, List, [], ◌∷◌, ◌++◌, length, take, drop, get_or, refl, sym, ap, ◌∙◌, arith, inl, inr}
 use Rattle.std.specs.List.{concat, slice_range}
 use Rattle.std.proofs.lemmas.Bool.{cases_lt}
-use Rattle.std.proofs.lemmas.List.{append-nil, length-append, length-drop, take_all, take-take}
+use Rattle.std.proofs.lemmas.List.{append-nil, length-drop, take_all, take-take}
+use Rattle.std.proofs.Math.Seq.{split_at}
 use Rattle.rope_text.specs.Cutting.{clip, single_chunk}
 use Rattle.rope_text.specs.Text.{byte_len}
 use Rattle.rope_text.proofs.Measures.{IsMeasure-byte_len, size_lt}
-use Rattle.rope_text.proofs.ClipLaws.{clip_empty, slice_range_empty, concat-clip, length-slice_range, slice_range-slice_range, clip-clip, slice_range_past}
+use Rattle.rope_text.proofs.ClipLaws.{clip_empty, slice_range_empty, concat-clip, length-slice_range, slice_range-slice_range, clip-clip}
 use Rattle.rope_text.specs.declared.text_info.TextInfo.{TextInfo}
 use Rattle.rope_tree.specs.declared.search.Unit.{Unit}
 use Rattle.rope_tree.specs.Tree.{Tree, text}
 use Rattle.rope_tree.specs.Found.{IsFound}
 use Rattle.rope_tree.proofs.FoundLaws.{lies_at}
 use Rattle.rope_slice.specs.InChunk.{IsInChunk}
-use Rattle.rope_slice.proofs.Clips.{single_chunk-clip}
-use Rattle.rope_slice.proofs.ClippedChunks.{clip-append, split_at}
-
--- nothing remains of chunks before an index
-clip_past : (chunks : List (List ℕ)) (a b : ℕ) → length (concat chunks) ≤ a → clip chunks a b ≡ []
-clip_past [] a b l = refl
-clip_past (chunk ∷ chunks) a b l =
-    let long = length-append chunk (concat chunks) in
-    rw (slice_range_past chunk a b (omega arith))
-    (clip_past chunks (a - length chunk) (b - length chunk) (omega arith))
+use Rattle.rope_slice.proofs.Clips.{single_chunk-clip, clip_past}
+use Rattle.rope_slice.proofs.ClippedChunks.{clip-append}
 
 concat-single : (text : List ℕ) → concat (single_chunk text) ≡ text
 concat-single [] = refl
@@ -57,7 +50,7 @@ pub in_nth_chunk : (chunks : List (List ℕ)) (n k i : ℕ) (held : List ℕ) �
     → held ≡ drop k (get_or chunks n [])
     → IsInChunk (concat chunks) chunks i held
 in_nth_chunk chunks n k i held l within place same =
-    let parts = sym (split_at chunks n l) in
+    let parts = sym (split_at chunks n [] l) in
     let it = in_chunk (take n chunks) (get_or chunks n []) (drop (suc n) chunks) k within in
     let here = rw parts at it in
     rw (place, same) here

@@ -1,10 +1,11 @@
 -- The invariant of every slice: of a plain text, and of an excerpt of a tree's.
-use Rattle.std.proofs.Common.{◌≡◌, ℕ, ◌-◌, ◌^◌, ◌<◌, Bool, true, false, ◌&&◌, List, [], ◌∷◌, ◌++◌, length, drop, refl, arith, All}
+use Rattle.std.proofs.Common.{◌≡◌, ℕ, ◌-◌, ◌^◌, ◌<◌, true, List, [], ◌∷◌, length, drop, refl, arith, All}
 use Rattle.std.specs.List.{concat, slice_range}
 use Rattle.std.specs.Str.{all_scalars, chars}
 use Rattle.std.proofs.lemmas.List.{append-nil}
-use Rattle.std.proofs.lemmas.Bool.{and_from}
 use Rattle.std.proofs.lemmas.List.Elements.{All-nil, All-cons, All-head, All-tail}
+use Rattle.std.proofs.Math.Bool.{and-false}
+use Rattle.std.proofs.str.Laws.{scalars-append}
 use Rattle.rope_text.specs.declared.line_breaks.LineBreaks.{LineBreaks}
 use Rattle.rope_text.specs.declared.text_info.TextInfo.{TextInfo}
 use Rattle.rope_text.specs.Text.{byte_len}
@@ -14,7 +15,6 @@ use Rattle.rope_text.proofs.CuttingLaws.{IsCutting-clip}
 use Rattle.rope_text.proofs.ChunkLaws.{KeepsCrlf-clip}
 use Rattle.rope_text.proofs.ClipLaws.{concat-clip}
 use Rattle.rope_text.proofs.TextParts.{all_scalars-take, all_scalars-drop}
-use Rattle.rope_text.proofs.FirstBytes.{first_scalar, rest_scalars}
 use Rattle.rope_tree.specs.Leaves.{IsLeafText}
 use Rattle.rope_tree.specs.Tree.{Tree, text, IsTree}
 use Rattle.rope_tree.proofs.LeafLaws.{nonempty_leaves}
@@ -24,11 +24,6 @@ use Rattle.rope_slice.specs.Slice.{text_of, chunks_of}
 use Rattle.rope_slice.specs.declared.slice.RopeSlice.{RopeSlice}
 use Rattle.rope_slice.specs.declared.slice.RopeSlice.TheVariants.{InTree, Alone}
 use Rattle.rope_slice.proofs.Measured.{measured}
-use lib.Utf8.{scalar}
-
-never : (x : Bool) → (x && false) ≡ false
-never true = refl
-never false = refl
 
 single_cut : (text : List ℕ) → IsCutting text (single_chunk text)
 single_cut [] = record { joined = refl; nonempty = All-nil (λ chunk. 0 < length chunk) }
@@ -41,7 +36,7 @@ single_cut (c ∷ text) = record {
 
 single_whole : (text : List ℕ) → KeepsCrlf (single_chunk text)
 single_whole [] = tt
-single_whole (c ∷ text) = (never (ends_in_cr (c ∷ text)), tt)
+single_whole (c ∷ text) = (and-false (ends_in_cr (c ∷ text)), tt)
 
 pub plain_kept : (breaks : LineBreaks) (text : List ℕ) → all_scalars text ≡ true
     → byte_len text < 2 ^ 63
@@ -59,14 +54,7 @@ chunks_join (InTree e) = concat-clip e.node.now.leaves e.start.chars e.end.chars
 chunks_join (Alone p) = (single_cut (chars p.text.now)).joined
 
 -- the text of a tree's leaves is one of scalar values
-scalars-append : (s t : List ℕ) → all_scalars s ≡ true → all_scalars t ≡ true
-    → all_scalars (s ++ t) ≡ true
-scalars-append [] t a b = b
-scalars-append (c ∷ s) t a b =
-    and_from (scalar c) (all_scalars (s ++ t)) (first_scalar c s a)
-    (scalars-append s t (rest_scalars c s a) b)
-
-scalars-concat : (leaves : List (List ℕ)) → All IsLeafText leaves
+pub scalars-concat : (leaves : List (List ℕ)) → All IsLeafText leaves
     → all_scalars (concat leaves) ≡ true
 scalars-concat [] a = refl
 scalars-concat (leaf ∷ leaves) a =

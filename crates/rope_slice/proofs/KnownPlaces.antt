@@ -6,11 +6,11 @@ use Rattle.std.proofs.lemmas.List.{take-append-le}
 use Rattle.std.proofs.Math.Seq.{take-append-add}
 use Rattle.rope_text.specs.Text.{byte_len}
 use Rattle.rope_text.specs.Conversions.{byte_to_char, char_to_byte}
-use Rattle.rope_text.proofs.ConversionLaws.{byte_to_char-le-length}
+use Rattle.rope_text.proofs.ConversionLaws.{byte_to_char-le-length, byte_to_char-char_to_byte}
 use Rattle.rope_text.proofs.CuttingLaws.{concat-append}
 use Rattle.rope_text.proofs.JoinLaws.{byte_to_char-append_left, byte_to_char-append_right}
 use Rattle.rope_slice.specs.Path.{Place, leaves}
-use Rattle.rope_slice.proofs.Carets.{front_place, size_two}
+use Rattle.rope_slice.proofs.Carets.{size_two}
 
 -- the first characters of two texts are in the first of them, if their bytes are
 chars_within : (s t : List ℕ) (b : ℕ) → b ≤ byte_len s → byte_to_char (s ++ t) b ≤ length s
@@ -18,7 +18,8 @@ chars_within s t b few = elim (cases_lt b (byte_len s)) [
   | inl less ↦ omega (arith, byte_to_char-append_left s t b less, byte_to_char-le-length s b)
   | inr most ↦
       let none : byte_to_char t (b - byte_len s) ≡ 0 =
-      ap (byte_to_char t) (omega (arith, few, most)) ∙ front_place t 0 (omega arith) in
+      ap (byte_to_char t) (omega (arith, few, most))
+      ∙ byte_to_char-char_to_byte t 0 (omega arith) in
       omega (arith, byte_to_char-append_right s t b most, none)
 ]
 
@@ -38,7 +39,7 @@ module _ (p : Place) (t : List ℕ) (chars bytes front : ℕ) (text_is : concat 
   inside = byte_to_char rest (bytes - byte_len (concat p.before))
 
   chars_are : chars ≡ length (concat p.before) + inside
-  chars_are = sym (ap (byte_to_char t) bytes_are ∙ front_place t chars within)
+  chars_are = sym (ap (byte_to_char t) bytes_are ∙ byte_to_char-char_to_byte t chars within)
       ∙ ap (λ x. byte_to_char x bytes) parts
       ∙ byte_to_char-append_right (concat p.before) rest bytes starts
 

@@ -11,9 +11,9 @@ use Rattle.rope_text.proofs.InfoLaws.{info_of-append_apart}
 use Rattle.rope_text.proofs.LineLaws.{line_start_mono}
 use Rattle.rope_text.proofs.LineSeams.{parts_crlf-take, line_start_apart, first_line-drop, first_line-left}
 use Rattle.rope_text.proofs.InfoLaws.{break_count-le-length}
+use Rattle.rope_text.proofs.LinesJoin.{take-slice_range}
 use Rattle.rope_tree.specs.Tree.{Tree, text}
 use Rattle.rope_slice.specs.Edge.{IsLeafFrom}
-use Rattle.rope_slice.proofs.Excerpts.{front_and_part}
 
 -- the counts up to the next line's start
 pub next_counts : (breaks : LineBreaks) (text : List ℕ) (l : ℕ) → l < line_count breaks text
@@ -24,7 +24,7 @@ next_counts breaks text l within =
     let s : ℕ = line_start breaks text l in
     let e : ℕ = line_start breaks text (l + 1) in
     ap (info_of breaks) (sym
-    (front_and_part text s e (line_start_mono breaks text l (l + 1) (omega arith))))
+    (take-slice_range text s e (line_start_mono breaks text l (l + 1) (omega arith))))
     ∙ info_of-append_apart breaks (take s text) (slice_range text s e)
     (parts_crlf-take (take s text) (drop s text) (e - s) (line_start_apart breaks text l))
 

@@ -1,9 +1,8 @@
 -- The position of a byte in the leaf that contains it.
-use Rattle.std.proofs.Common.{◌≡◌, ℕ, ◌+◌, ◌-◌, ◌<◌, ◌≤◌, ◌↔◌, true, List, ◌++◌, length, take, drop, refl, sym, ap, subst, ◌∙◌, arith, inl, inr}
+use Rattle.std.proofs.Common.{◌≡◌, ℕ, ◌+◌, ◌-◌, ◌<◌, ◌≤◌, ◌↔◌, true, List, ◌++◌, length, take, drop, refl, sym, ap, subst, ◌∙◌, arith}
 use Rattle.std.specs.List.{slice_range}
 use Rattle.std.specs.Str.{chars, IsUtf8, IsCharBoundary}
-use Rattle.std.proofs.lemmas.Bool.{cases_lt}
-use Rattle.std.proofs.lemmas.List.{take_all, take_at, length-append}
+use Rattle.std.proofs.lemmas.List.{take_at, length-append}
 use Rattle.std.proofs.Math.Seq.{drop-append_seam}
 use Rattle.rope_text.specs.declared.text_info.TextInfo.{TextInfo}
 use Rattle.rope_text.specs.Text.{byte_len}
@@ -13,7 +12,6 @@ use Rattle.rope_text.proofs.ByteSlices.{boundary_is, is_boundary, boundary_in, b
 use Rattle.rope_text.proofs.ChunkLaws.{before, after}
 use Rattle.rope_text.proofs.ConversionLaws.{byte_to_char-char_to_byte}
 use Rattle.rope_text.proofs.Fronts.{front_at}
-use Rattle.rope_text.proofs.Measures.{IsMeasure-byte_len, front_fits}
 use Rattle.rope_text.proofs.TextParts.{byte_len_boundary}
 use Rattle.rope_tree.specs.Tree.{Tree, text, IsTree}
 use Rattle.rope_tree.specs.declared.search.Unit.TheVariants.{Byte, Char}
@@ -23,6 +21,7 @@ use Rattle.rope_slice.specs.Edge.{IsExcerpt}
 use Rattle.rope_slice.specs.LeafPlace.{IsLeafPlace}
 use Rattle.rope_slice.proofs.ClippedChunks.{before_is_front}
 use Rattle.rope_slice.proofs.Measured.{measured}
+use Rattle.rope_slice.proofs.Excerpts.{byte_to_char-less}
 
 -- a byte begins a character of a text exactly where its bytes may be cut
 pub cut_of_boundary : (bs text : List ℕ) (b : ℕ) → IsUtf8 bs → chars bs ≡ text
@@ -41,17 +40,6 @@ boundary_of_cut bs text b utf8 same cut =
     let place : byte_to_char text b ≡ f.0 = ap (byte_to_char text) (sym size)
     ∙ byte_to_char-char_to_byte text f.0 within in
     is_boundary text b (ap (λ i. byte_len (take i text)) place ∙ size)
-
--- a byte of a text is in one of its characters
-byte_to_char-less : (text : List ℕ) (b : ℕ) → b < byte_len text → byte_to_char text b < length text
-unfolding byte_to_char
-byte_to_char-less text b less = elim (cases_lt (byte_to_char text b) (length text)) [
-  | inl lt ↦ lt
-  | inr not ↦ absurd (
-      let fits = front_fits byte_len IsMeasure-byte_len text b in
-      let all = ap byte_len (take_all (byte_to_char text b) text not) in
-      omega arith)
-]
 
 -- the leaf that contains a byte contains its character
 module _ (b : ℕ) (t : Tree) (leaf : List ℕ) (front : TextInfo) (tree : IsTree t)

@@ -25,7 +25,7 @@ use Rattle.rope_slice.proofs.ClippedChunks.{size_of_part, cons_some}
 use Rattle.rope_slice.proofs.Measured.{Measured, measured}
 use Rattle.rope_slice.proofs.LeafParts.{leaf_in, meets_byte, meets_char}
 use Rattle.rope_slice.specs.Path.{Place, leaves, HoldsPlace}
-use Rattle.rope_slice.specs.Span.{alone, edge_at, clipped_place, clipped_at, IsWithin, IsSpan, IsSpanFrom}
+use Rattle.rope_slice.specs.Span.{alone, clipped_place, clipped_at, IsWithin, IsSpanFrom}
 use Rattle.rope_slice.specs.Starts.{AreBefore, IsItem, IsHolding, size_in}
 use Rattle.rope_slice.proofs.Spans.{bytes_before_within, leaves_clipped, some_leaf}
 use Rattle.rope_text.specs.declared.line_breaks.LineBreaks.{LineBreaks}
@@ -124,8 +124,8 @@ module _ (t : Tree) (start end : TextInfo) (p : Place) (info : TextInfo) (tree :
   end_chars = ap (byte_to_char (concat (leaves p))) within.to_bytes
       ∙ byte_to_char-char_to_byte (concat (leaves p)) end.chars within.within
 
-  pub is_span : IsSpan p info.bytes (edge_at (leaves p) start.bytes) (edge_at (leaves p) end.bytes)
-  is_span = rw (start_chars, end_chars) record {
+  pub is_span : IsSpanFrom p start.bytes end.bytes
+  is_span = rw (start_chars, end_chars, sym bytes_are) record {
     some = λ _. within;
     none = λ none. absurd (omega (arith, s.some));
     ordered = omega (arith, s.some);
@@ -375,9 +375,7 @@ module _ (t : Tree) (start end : TextInfo) (tree : IsTree t)
   meets = meets_in t start end s idx place p info e unit i at h
 
   pub span_here : IsSpanFrom p start.bytes end.bytes
-  span_here =
-      subst (λ (n : ℕ). IsSpan p n (edge_at (leaves p) start.bytes) (edge_at (leaves p) end.bytes))
-      (ap (λ x. x.bytes) h.info_is) (is_span t start end p info tree s e h.info_is meets.0 meets.1)
+  span_here = is_span t start end p info tree s e h.info_is meets.0 meets.1
 
   pub holds_here : idx ≤ size_in unit (slice_range (text t) start.chars end.chars)
       → IsHolding unit idx (record {

@@ -14,7 +14,8 @@ use Rattle.rope_text.proofs.LineLaws.{line_start-le-length, line_start_mono}
 use Rattle.rope_text.proofs.LineSeams.{line_start_apart, break_count-front, first_line-drop, last_start-take}
 use Rattle.rope_slice.proofs.LeafLines.{next_counts}
 use Rattle.rope_text.proofs.InfoLaws.{same_info}
-use Rattle.rope_slice.proofs.Excerpts.{front_and_part, part_of_front, length_part}
+use Rattle.rope_text.proofs.LinesJoin.{take-slice_range}
+use Rattle.rope_slice.proofs.Excerpts.{part_of_front, length_part}
 use Rattle.std.proofs.lemmas.Bool.{cases_lt}
 use Rattle.rope_slice.specs.InChunk.{IsInChunk}
 use Rattle.rope_slice.proofs.InChunks.{in_chunk_end}
@@ -65,7 +66,7 @@ module _ (c : Content) (h : Halves) (before : TextInfo) (l total : ℕ) (breaks 
         within = omega arith;
         total_is = s.total_is;
         front_is = front ∙ ap (λ t. t ++ first_line breaks h.back) s.front_is
-            ∙ ap (λ t. take a c.text ++ t) passed_is ∙ front_and_part c.text a b order;
+            ∙ ap (λ t. take a c.text ++ t) passed_is ∙ take-slice_range c.text a b order;
         back_is = sym (drop-append_seam (first_line breaks h.back) new.back)
             ∙ ap (drop (length (first_line breaks h.back))) (sym back)
             ∙ ap (λ n. drop n h.back) long

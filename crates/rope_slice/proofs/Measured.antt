@@ -16,8 +16,10 @@ use Rattle.rope_text.proofs.TextParts.{lf_first}
 use Rattle.std.proofs.lemmas.Bool.{cases_Bool}
 use Rattle.rope_text.specs.declared.line_breaks.LineBreaks.TheVariants.{Lf, CrLf, Unicode}
 use Rattle.rope_text.proofs.InfoLaws.{surrogate_count-append, break_count-le-length, same_info}
+use Rattle.rope_text.proofs.BitLaws.{one_at_most}
+use Rattle.rope_text.proofs.LinesJoin.{take-slice_range}
 use Rattle.rope_slice.specs.Edge.{start_info, end_info, IsExcerpt}
-use Rattle.rope_slice.proofs.Excerpts.{length_part, size_part, break_count_part, front_and_part}
+use Rattle.rope_slice.proofs.Excerpts.{length_part, size_part, break_count_part}
 
 pub record Measured (breaks : LineBreaks) (text : List ℕ) (start end : TextInfo) : Type 0 where
   pub some : start.chars < end.chars
@@ -49,10 +51,6 @@ never : (x y : Bool) → cond {A = ℕ} ((x && false) && y) 1 0 ≡ 0
 never true y = refl
 never false y = refl
 
-at_most_one : (b : Bool) → cond {A = ℕ} b 1 0 ≤ 1
-at_most_one true = omega arith
-at_most_one false = omega arith
-
 -- the LF after a CR ends a break
 shared_le : (breaks : LineBreaks) (s t : List ℕ)
     → cond {A = ℕ} (joins_break breaks s t) 1 0 ≤ break_count breaks t
@@ -62,7 +60,7 @@ shared_le breaks s t = elim (cases_Bool (begins_with_lf t)) [
       ap (break_count breaks) (lf_first t lf) ∙ break_count-cons breaks 10 (drop 1 t)
       ∙ ap (λ (b : Bool). cond {A = ℕ} b 1 0 + break_count breaks (drop 1 t))
       (lf_ends breaks (drop 1 t)) in
-      omega (arith, at_most_one (joins_break breaks s t))
+      omega (arith, one_at_most (joins_break breaks s t))
   | inr other ↦
       let none : cond {A = ℕ} (joins_break breaks s t) 1 0 ≡ 0 =
       ap (λ (b : Bool). cond {A = ℕ} ((ends_in_cr s && b) && is_break_char breaks 13) 1 0) other
@@ -118,7 +116,7 @@ measured breaks text start end s =
       start_units = omega arith;
       pairs = omega (
         arith,
-        ap surrogate_count (front_and_part text a b (omega arith)),
+        ap surrogate_count (take-slice_range text a b (omega arith)),
         surrogate_count-append (take a text) (slice_range text a b),
       );
       all_units = omega (arith, size_le_all utf16_len IsMeasure-utf16_len text b);

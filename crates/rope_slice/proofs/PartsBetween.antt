@@ -18,12 +18,13 @@ use Rattle.rope_text.proofs.SliceLaws.{breaks_apart}
 use Rattle.rope_slice.specs.Edge.{start_info, end_info, IsExcerpt}
 use Rattle.rope_slice.proofs.Measured.{measured}
 use Rattle.rope_text.proofs.InfoLaws.{same_info}
-use Rattle.rope_slice.proofs.Excerpts.{front_and_part, length_part, break_count_part, char_to_line_part, size_part}
+use Rattle.rope_slice.proofs.Excerpts.{length_part, break_count_part, char_to_line_part, size_part}
 use Rattle.rope_slice.proofs.Clips.{part_of_part}
 use Rattle.rope_text.specs.Lines.{line_start, line_count}
 use Rattle.rope_text.specs.LineParts.{part_between, line_of}
 use Rattle.rope_text.proofs.LineLaws.{line_start-le-length, line_start_mono}
 use Rattle.rope_text.proofs.LineSeams.{line_start_apart}
+use Rattle.rope_text.proofs.LinesJoin.{take-slice_range}
 
 -- the character that starts at a byte
 pub char_at_byte : (text : List ℕ) (b i : ℕ) → i ≤ length text → b ≡ byte_len (take i text)
@@ -45,7 +46,7 @@ pub between_sum : (breaks : LineBreaks) (text : List ℕ) (from to : TextInfo)
 between_sum breaks text from to first last l apart =
     let i : ℕ = from.chars in
     let part : List ℕ = slice_range text i to.chars in
-    last ∙ ap (info_of breaks) (sym (front_and_part text i to.chars l))
+    last ∙ ap (info_of breaks) (sym (take-slice_range text i to.chars l))
     ∙ info_of-append_apart breaks (take i text) part
     (parts_crlf-take (take i text) (drop i text) (to.chars - i) apart)
     ∙ ap (λ x. info_sum x (info_of breaks part)) (sym first)
@@ -75,7 +76,7 @@ module _ (breaks : LineBreaks) (text : List ℕ) (start end : TextInfo)
       let own : List ℕ = slice_range text a end.chars in
       let same = front_of_own i (omega arith) in
       let bytes = size_part byte_len IsMeasure-byte_len text a (a + i) (omega arith) in
-      let pairs = ap surrogate_count (front_and_part text a (a + i) (omega arith)) in
+      let pairs = ap surrogate_count (take-slice_range text a (a + i) (omega arith)) in
       let sum = surrogate_count-append (take a text) (slice_range text a (a + i)) in
       let count = char_to_line_part breaks text a end.chars s.some s.within i less in
       let own_breaks =
@@ -101,7 +102,7 @@ module _ (breaks : LineBreaks) (text : List ℕ) (start end : TextInfo)
       let j : ℕ = to.chars in
       let same = front_of_own j l in
       let bytes = size_part byte_len IsMeasure-byte_len text a (a + j) (omega arith) in
-      let pairs = ap surrogate_count (front_and_part text a (a + j) (omega arith)) in
+      let pairs = ap surrogate_count (take-slice_range text a (a + j) (omega arith)) in
       let sum = surrogate_count-append (take a text) (slice_range text a (a + j)) in
       let count = break_count_part breaks text a (a + j) (omega arith) (omega (arith, m.within)) in
       same_info (info_sum start to) (end_info breaks text (a + j))
@@ -152,14 +153,9 @@ sums_between breaks text base from to s fits =
     )
 
 -- equal contents
-abbrev content : List ℕ → List (List ℕ) → LineBreaks → Content
-content text chunks breaks = record { text = text; chunks = chunks; breaks = breaks }
-
 pub same_content : (c d : Content) → c.text ≡ d.text → c.chunks ≡ d.chunks → c.breaks ≡ d.breaks
     → c ≡ d
-same_content c d text chunks breaks =
-    ap (λ t. content t c.chunks c.breaks) text ∙ ap (λ p. content d.text p c.breaks) chunks
-    ∙ ap (λ s. content d.text d.chunks s) breaks
+same_content c d text chunks breaks = rw (text, chunks, breaks) refl
 
 -- the counts up to an index, given by their own number of characters
 pub counts_at : (breaks : LineBreaks) (text : List ℕ) (n : ℕ) (info : TextInfo) → n ≤ length text

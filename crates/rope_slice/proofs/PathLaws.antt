@@ -5,7 +5,7 @@ use Rattle.std.proofs.lemmas.Bool.{cases_lt}
 use Rattle.std.proofs.lemmas.List.{append-nil, take_all, take_more, drop_more, take_at, length-append, length-take-le, get_or-append-add, get_or_append_left}
 use Rattle.std.proofs.lemmas.List.Elements.{All-get_or, All-take, All-drop, All-nil, All-cons, All-head, All-tail}
 use Rattle.std.proofs.lemmas.Str.{length-le-encodes}
-use Rattle.std.proofs.Math.Seq.{drop-append-add, get_or-append_seam}
+use Rattle.std.proofs.Math.Seq.{drop-append-add, get_or-append_seam, split_at}
 use Rattle.rope_text.specs.declared.line_breaks.LineBreaks.{LineBreaks}
 use Rattle.rope_text.specs.declared.text_info.TextInfo.{TextInfo}
 use Rattle.rope_text.specs.declared.TheConstants.{MAX_CHILDREN}
@@ -24,7 +24,8 @@ use Rattle.rope_tree.specs.Tree.{Tree, text, joined, leaves_of, height_of, break
 use Rattle.rope_tree.proofs.Descents.{Descends, count_of-nil}
 use Rattle.rope_tree.proofs.LeafLaws.{nonempty_leaves}
 use Rattle.rope_tree.proofs.LookupDescent.{IsOnDescent, at_start, at_end, further}
-use Rattle.rope_slice.proofs.ClippedChunks.{split_at}
+use Rattle.rope_tree.proofs.LeafCounts.{lowest}
+use Rattle.rope_tree.proofs.MoveLaws.{one_text}
 use Rattle.rope_slice.specs.Path.{Place, leaves, IsNext, HoldsPlace}
 use Rattle.rope_slice.specs.Descent.{place_at, IsLow, AreInList, IsDescent}
 use Rattle.rope_slice.specs.Starts.{IsItem}
@@ -101,7 +102,7 @@ nth ls k = record { before = take k ls; here = get_or ls k []; after = drop (k +
 pub leaves_nth : (ls : List (List ℕ)) (k : ℕ) → k < length ls → leaves (nth ls k) ≡ ls
 leaves_nth ls k within =
     let next : k + 1 ≡ suc k = omega arith in
-    rw next (sym (split_at ls k within))
+    rw next (sym (split_at ls k [] within))
 
 abbrev place : List (List ℕ) → List ℕ → List (List ℕ) → Place
 place b h a = record { before = b; here = h; after = a }
@@ -361,20 +362,7 @@ paths_next t nodes more at to leaf x start next w v e =
 
 -- leaves side by side: each tree has one
 single : (t : Tree) (b : LineBreaks) → IsChild b 0 t → t.leaves ≡ get_or t.leaves 0 [] ∷ []
-single t b c = one t.leaves (omega (arith, c.some, c.tree.lone c.at_height))
-  where
-    one : (xs : List (List ℕ)) → length xs ≡ 1 → xs ≡ get_or xs 0 [] ∷ []
-    one [] e = absurd (omega (arith, e))
-    one (x ∷ []) e = refl
-    one (x ∷ (y ∷ xs)) e = absurd (omega (arith, e))
-
-count_of_leaves : (ts : List Tree) (b : LineBreaks) → All (IsChild b 0) ts
-    → length (leaves_of ts) ≡ length ts
-count_of_leaves [] b all = refl
-count_of_leaves (t ∷ ts) b all =
-    let own = ap length (single t b (All-head (IsChild b 0) t ts all)) in
-    let rest = count_of_leaves ts b (All-tail (IsChild b 0) t ts all) in
-    omega (arith, own, rest, length-append t.leaves (leaves_of ts))
+single t b c = let is = one_text b t c in is ∙ ap (λ ls. get_or ls 0 [] ∷ []) (sym is)
 
 leaf_of_list : (ts : List Tree) (b : LineBreaks) → All (IsChild b 0) ts → (i : ℕ) (d : Tree)
     → i < length ts → (get_or ts i d).leaves ≡ get_or (leaves_of ts) i [] ∷ []
@@ -423,8 +411,8 @@ children_listed : (ls left right : List (List ℕ)) (b : LineBreaks) (ts : List 
     → ls ≡ left ++ (leaves_of ts ++ right) → All (IsChild b 0) ts → k < length ts
     → length ts ≤ MAX_CHILDREN → AreInList ls (length (left ++ leaves_of (take k ts))) ts k
 children_listed ls left right b ts k whole all within few =
-    let count = count_of_leaves ts b all in
-    let front = count_of_leaves (take k ts) b (All-take (IsChild b 0) k ts all) in
+    let count = lowest b ts all in
+    let front = lowest b (take k ts) (All-take (IsChild b 0) k ts all) in
     let short = length-take-le k ts (omega (arith, within)) in
     let index : length (left ++ leaves_of (take k ts)) ≡ length left + k =
     omega (arith, length-append left (leaves_of (take k ts)), front, short) in

@@ -1,14 +1,15 @@
 -- A character of a text between two of its bytes.
 use Rattle.std.proofs.Common.{All, None, Bool, false, ◌≡◌, ℕ, ◌+◌, ◌-◌, ◌<◌, true, List, [], ◌∷◌, ◌++◌, length, take, drop, get_or, refl, ap, subst, sym, ◌∙◌, arith, append_assoc, length-append, length-take, length-drop}
-use Rattle.std.proofs.lemmas.List.{get_or_at, append-nil, take-append-drop, take_at, drop_at, drop_more}
+use Rattle.std.proofs.lemmas.List.{append-nil, take-append-drop, take_at, drop_at, drop_more}
 use Rattle.std.proofs.lemmas.Str.{encodes-chars, length-le-encodes, cons_from_encodes, chars_past_char, chars-append, encode_ascii, length-encode, len_utf8_bounds, IsUtf8-encode, IsUtf8-past_char, IsUtf8-take, IsUtf8-drop, IsCharBoundary-at_seam, IsCharBoundary-from_take, IsCharBoundary-before_ascii, chars-nil}
 use Rattle.std.specs.Char.{encode_utf8, IsScalar}
 use Rattle.std.specs.Str.{chars, IsUtf8, IsCharBoundary, all_scalars, encode_utf8_all}
 use Rattle.rope_text.proofs.FirstBytes.{first_scalar}
 use Rattle.std.specs.Bool.{MatchBool}
 use Rattle.rope_text.specs.Sides.{Sides, GoesLeft, GoesRight}
-use Rattle.rope_slice.specs.Path.{Place, IsNext, leaves}
+use Rattle.rope_slice.specs.Path.{Place, leaves}
 use Rattle.rope_slice.specs.Point.{IsCharBetween, IsChunkAt, AreSolid}
+use Rattle.rope_slice.proofs.Spans.{some_leaf}
 
 first_is_scalar : (bs ys : List ℕ) (c : ℕ) → IsUtf8 bs → bs ≡ encode_utf8 c ++ ys → IsScalar c
 first_is_scalar bs ys c u e =
@@ -88,20 +89,9 @@ char_between_front bs xs at c u cut text h =
     char_between bs (drop at bs) (length xs) at c u start (ap (drop (length xs)) whole
     ∙ drop_at xs (encode_utf8 c ++ drop at bs) (length xs) refl) (sym size)
 
--- the next leaf is among the same leaves
-pub leaves_next : (p q : Place) → IsNext p q → leaves q ≡ leaves p
-leaves_next p q n =
-    ap (λ x. x ++ (q.here ∷ q.after)) n.before
-    ∙ append_assoc p.before (p.here ∷ []) (q.here ∷ q.after)
-    ∙ ap (λ x. p.before ++ (p.here ∷ x)) (sym n.after)
-
 -- a leaf of a text that has items
 pub here_solid : (p : Place) (total : ℕ) → AreSolid p total → 0 < total → 0 < length p.here
-here_solid p total solid some =
-    let at : get_or (leaves p) (length p.before) [] ≡ p.here =
-    get_or_at p.before p.here p.after [] (length p.before) refl in
-    subst (λ leaf. 0 < length leaf) at
-    (solid some (length p.before) [] (omega (arith, length-append p.before (p.here ∷ p.after))))
+here_solid p total solid some = some_leaf p (solid some)
 
 pub AreSolid_same : (p q : Place) (total : ℕ) → leaves q ≡ leaves p → AreSolid p total
     → AreSolid q total
@@ -116,11 +106,6 @@ pub chunk_some : (p : Place) (bytes : List ℕ) → IsChunkAt p bytes → 0 < le
     → 0 < length bytes
 chunk_some p bytes h some =
     omega (arith, length-le-encodes p.here, ap length (chunk_bytes p bytes h))
-
--- two cursors with equal sides
-pub sides_same : {X : Type 0} (s t : Sides X) → s.left ≡ t.left → s.right ≡ t.right
-    → s.is_backward ≡ t.is_backward → s ≡ t
-sides_same s t l r b = rw (l, r, b) refl
 
 -- where there is none on that side, it stays
 pub stays_put : {X : Type 0} (is_left : Bool) (old new : Sides X) → new ≡ old

@@ -8,15 +8,15 @@ use Rattle.std.proofs.lemmas.List.{append-nil, length-append, nil_from_length, t
 use Rattle.std.proofs.Math.Seq.{take-append-add, take-nil, get_or-append_seam}
 use Rattle.rope_text.specs.Text.{byte_len}
 use Rattle.rope_text.specs.Conversions.{byte_to_char}
-use Rattle.rope_text.proofs.ConversionLaws.{byte_to_char-char_to_byte}
-use Rattle.rope_tree.proofs.FoundLaws.{byte_to_char_end}
+use Rattle.rope_text.proofs.ConversionLaws.{byte_to_char-char_to_byte, byte_to_char-byte_len}
 use Rattle.rope_text.specs.Cutting.{clip, cons_nonempty}
 use Rattle.rope_text.proofs.Measures.{IsMeasure-byte_len, size_le, size_lt, size_le_all}
 use Rattle.rope_text.proofs.CuttingLaws.{concat-append}
-use Rattle.rope_text.proofs.ClipLaws.{clip_empty, concat-clip, length-slice_range, slice_range_past}
+use Rattle.rope_text.proofs.ClipLaws.{clip_empty, concat-clip, length-slice_range}
 use Rattle.rope_slice.specs.Path.{Place, IsNext, leaves}
 use Rattle.rope_slice.specs.Span.{alone, Edge, edge_at, clipped_place, clipped_at, IsWithin, IsSpan, IsSpanFrom}
 use Rattle.rope_slice.proofs.ClippedChunks.{clip-append, cons_some, size_of_part}
+use Rattle.rope_slice.proofs.Clips.{clip_past}
 
 -- the bytes of a text's middle part up to an index of the text
 pub middle_bytes : (x y z : List ℕ) (i : ℕ) → i ≤ length x + length y
@@ -34,15 +34,6 @@ middle_bytes x y z i most = elim (cases_lt i (length x)) [
       ∙ ap (λ s. x ++ s) (take-append-le m y z (omega arith)) in
       omega (arith, ap byte_len cut, IsMeasure-byte_len.joined x (take m y))
 ]
-
--- leaves that end before the part
-pub clip_passed : (chunks : List (List ℕ)) (a b : ℕ) → length (concat chunks) ≤ a
-    → clip chunks a b ≡ []
-clip_passed [] a b l = refl
-clip_passed (chunk ∷ chunks) a b l =
-    let long = length-append chunk (concat chunks) in
-    rw (slice_range_past chunk a b (omega arith))
-    (clip_passed chunks (a - length chunk) (b - length chunk) (omega arith))
 
 -- none of the leaves is empty, so this one is not
 pub some_leaf : (p : Place) → All (λ leaf. 0 < length leaf) (leaves p) → 0 < length p.here
@@ -201,7 +192,7 @@ module _ (p : Place) (start : ℕ) (from to : Edge) (w : IsWithin p start from t
           w.start_is,
           w.from_bytes,
         ))
-    | inr past ↦ clip_passed p.before from.chars to.chars past
+    | inr past ↦ clip_past p.before from.chars to.chars past
   ]
 
 -- the next leaf
@@ -430,13 +421,9 @@ span_after old new from to false h goes stays =
     subst (λ (p : Place). IsSpanFrom p from to) (sym stays) h
 
 -- a text as the only leaf
-alone_by : (before after : List (List ℕ)) (here text : List ℕ) → before ≡ [] → here ≡ text
-    → after ≡ [] → record { before = before; here = here; after = after } ≡ alone text
-alone_by before after here text b h a = cc
-
 pub alone_is : (p : Place) (text : List ℕ) → p.before ≡ [] → p.here ≡ text → p.after ≡ []
     → p ≡ alone text
-alone_is p text before here after = alone_by p.before p.after p.here text before here after
+alone_is p text before here after = rw (before, here, after) refl
 
 module _ (text : List ℕ) where
   joined : concat (leaves (alone text)) ≡ text
@@ -446,7 +433,7 @@ module _ (text : List ℕ) where
   alone_start = byte_to_char-char_to_byte (concat (leaves (alone text))) 0 (omega arith)
 
   alone_end : byte_to_char (concat (leaves (alone text))) (byte_len text) ≡ length text
-  alone_end = ap (λ s. byte_to_char s (byte_len text)) joined ∙ byte_to_char_end text
+  alone_end = ap (λ s. byte_to_char s (byte_len text)) joined ∙ byte_to_char-byte_len text
 
   pub alone_span : IsSpan (alone text) 0 (edge_at (leaves (alone text)) 0)
       (edge_at (leaves (alone text)) (byte_len text))

@@ -1,7 +1,6 @@
 use Rattle.std.proofs.Common.{◌≡◌, ◌+◌, ◌-◌, ◌<◌, ◌∙◌, ℕ, take, sym, ap, arith, inl, inr}
 use Rattle.std.specs.Str.{chars}
 use Rattle.rope_text.specs.Text.{byte_len}
-use Rattle.rope_text.specs.declared.text_info.TextInfo.{TextInfo}
 use Rattle.rope_text.specs.TextInfo.{info_of, info_sum}
 use Rattle.rope_text.specs.Lines.{line_start}
 use Rattle.rope_text.specs.Breaks.{break_count}
@@ -24,16 +23,6 @@ use Rattle.rope_text.proofs.LineLaws.{line_start-le-length, line_start_first}
 use Rattle.rope_slice.proofs.ExcerptLines.{line_later, line_place_within, line_counts, own_line}
 use Rattle.rope_slice.proofs.excerpt.Excerpt.around_line.Goals.{After-line_start_at, After-counts_to-start, Else-line-eq0}
 use Rattle.rope_slice.proofs.excerpt.Excerpt.around_line.Goals as goal
-
-start_is : (c : After-line_start_at) → c.line_start_at.result.0
-    ≡ info_of c.args.self.now.node.now.breaks
-    (take (line_start c.args.self.now.node.now.breaks (text c.args.self.now.node.now)
-    (c.args.self.now.start.break_count + c.args.line_idx)) (text c.args.self.now.node.now))
-start_is c =
-    let breaks = breaks_of c.args.self.now in
-    let t = text c.args.self.now.node.now in
-    c.line_start_at.ensures.before
-    ∙ ap (λ l. info_of breaks (take (line_start breaks t l) t)) c.place.ensures.value
 
 sum_is : (c : Else-line-eq0) → info_sum c.line_start_at.result.0 c.of_first_line-line.result
     ≡ info_of c.args.self.now.node.now.breaks
@@ -64,18 +53,6 @@ small c =
     small_info c.args.self.now.node.now.breaks (take next t)
     (omega (arith, size_le_all byte_len IsMeasure-byte_len t next, c.place.ensures.tree.fits))
 
-next_is : (c : Else-line-eq0) (end : TextInfo)
-    → end ≡ info_sum c.line_start_at.result.0 c.of_first_line-line.result
-    → end ≡ info_of c.args.self.now.node.now.breaks
-    (take (line_start c.args.self.now.node.now.breaks (text c.args.self.now.node.now)
-    (c.args.self.now.start.break_count + (c.args.line_idx + 1))) (text c.args.self.now.node.now))
-next_is c end joined =
-    let breaks = breaks_of c.args.self.now in
-    let t = text c.args.self.now.node.now in
-    let same : c.place.result + 1 ≡ c.args.self.now.start.break_count + (c.args.line_idx + 1) =
-    omega (arith, c.place.ensures.value) in
-    joined ∙ sum_is c ∙ ap (λ l. info_of breaks (take (line_start breaks t l) t)) same
-
 pub returns-then-line_idx-eq0-clause-start : goal.returns-then-line_idx-eq0-clause-start
 returns-then-line_idx-eq0-clause-start c =
     let breaks = breaks_of c.args.self.now in
@@ -100,18 +77,18 @@ plus-requires c = let here = (goal.at.plus-requires c).Else-line-eq0 in
 
 pub counts_to-start-requires-clause-later : goal.counts_to-start-requires-clause-later
 counts_to-start-requires-clause-later c =
-    line_later _ _ _ _ _ c.args.self.now.is_excerpt c.args.line_idx (omega arith)
-    (start_is (goal.at.counts_to-start-requires-clause-later c).After-line_start_at)
+    line_later _ _ _ _ _ c.args.self.now.is_excerpt c.args.line_idx _ (omega arith)
+    c.place.ensures.value c.line_start_at.ensures.before
 
 pub counts_to-start-requires-clause-within : goal.counts_to-start-requires-clause-within
 counts_to-start-requires-clause-within c =
-    line_place_within _ _ _ _ _ c.args.self.now.is_excerpt c.args.line_idx (omega arith)
-    (start_is (goal.at.counts_to-start-requires-clause-within c).After-line_start_at)
+    line_place_within _ _ _ _ _ c.args.self.now.is_excerpt c.args.line_idx _ (omega arith)
+    c.place.ensures.value c.line_start_at.ensures.before
 
 pub counts_to-start-requires-clause-counts : goal.counts_to-start-requires-clause-counts
 counts_to-start-requires-clause-counts c =
-    line_counts _ _ _ _ _ c.args.self.now.is_excerpt c.args.line_idx (omega arith)
-    (start_is (goal.at.counts_to-start-requires-clause-counts c).After-line_start_at)
+    line_counts _ _ _ _ _ c.args.self.now.is_excerpt c.args.line_idx _ (omega arith)
+    c.place.ensures.value c.line_start_at.ensures.before
 
 pub overflow_add-line_idx : goal.overflow_add-line_idx
 overflow_add-line_idx c =
@@ -128,50 +105,47 @@ overflow_add-line_idx c =
 pub counts_to-end-requires-clause-later : goal.counts_to-end-requires-clause-later
 counts_to-end-requires-clause-later c =
     let end =
-    next_is (goal.at.counts_to-end-requires-clause-later c).Else-line-eq0 c.plus.result
-    c.plus.ensures.sum in
-    line_later _ _ _ _ _ c.args.self.now.is_excerpt (c.args.line_idx + 1) (omega arith) end
+    c.plus.ensures.sum ∙ sum_is (goal.at.counts_to-end-requires-clause-later c).Else-line-eq0 in
+    line_later _ _ _ _ _ c.args.self.now.is_excerpt (c.args.line_idx + 1)
+    (c.place.result + 1) (omega arith) (omega (arith, c.place.ensures.value)) end
 
 pub counts_to-end-requires-clause-within : goal.counts_to-end-requires-clause-within
 counts_to-end-requires-clause-within c =
     let end =
-    next_is (goal.at.counts_to-end-requires-clause-within c).Else-line-eq0 c.plus.result
-    c.plus.ensures.sum in
-    line_place_within _ _ _ _ _ c.args.self.now.is_excerpt (c.args.line_idx + 1) (omega arith) end
+    c.plus.ensures.sum ∙ sum_is (goal.at.counts_to-end-requires-clause-within c).Else-line-eq0 in
+    line_place_within _ _ _ _ _ c.args.self.now.is_excerpt (c.args.line_idx + 1)
+    (c.place.result + 1) (omega arith) (omega (arith, c.place.ensures.value)) end
 
 pub counts_to-end-requires-clause-counts : goal.counts_to-end-requires-clause-counts
 counts_to-end-requires-clause-counts c =
     let end =
-    next_is (goal.at.counts_to-end-requires-clause-counts c).Else-line-eq0 c.plus.result
-    c.plus.ensures.sum in
-    line_counts _ _ _ _ _ c.args.self.now.is_excerpt (c.args.line_idx + 1) (omega arith) end
+    c.plus.ensures.sum ∙ sum_is (goal.at.counts_to-end-requires-clause-counts c).Else-line-eq0 in
+    line_counts _ _ _ _ _ c.args.self.now.is_excerpt (c.args.line_idx + 1)
+    (c.place.result + 1) (omega arith) (omega (arith, c.place.ensures.value)) end
 
 pub returns-then-line-eq0-clause-start : goal.returns-then-line-eq0-clause-start
 returns-then-line-eq0-clause-start c =
     c.counts_to-start.ensures.value
-    ∙ own_line _ _ _ _ _ c.args.self.now.is_excerpt c.args.line_idx (omega arith)
-    (start_is (goal.at.returns-then-line-eq0-clause-start c).After-line_start_at)
+    ∙ own_line _ _ _ _ _ c.args.self.now.is_excerpt c.args.line_idx _ (omega arith)
+    c.place.ensures.value c.line_start_at.ensures.before
 
 pub returns-clause-start : goal.returns-clause-start
 returns-clause-start c = c.counts_to-start.ensures.value
-    ∙ own_line _ _ _ _ _ c.args.self.now.is_excerpt c.args.line_idx (omega arith)
-    (start_is (goal.at.returns-clause-start c).After-line_start_at)
+    ∙ own_line _ _ _ _ _ c.args.self.now.is_excerpt c.args.line_idx _ (omega arith)
+    c.place.ensures.value c.line_start_at.ensures.before
 
 pub returns-clause-end : goal.returns-clause-end
 returns-clause-end c =
-    let end =
-    next_is (goal.at.returns-clause-end c).Else-line-eq0 c.plus.result c.plus.ensures.sum in
+    let end = c.plus.ensures.sum ∙ sum_is (goal.at.returns-clause-end c).Else-line-eq0 in
     c.counts_to-end.ensures.value
-    ∙ own_line _ _ _ _ _ c.args.self.now.is_excerpt (c.args.line_idx + 1) (omega arith) end
+    ∙ own_line _ _ _ _ _ c.args.self.now.is_excerpt (c.args.line_idx + 1)
+    (c.place.result + 1) (omega arith) (omega (arith, c.place.ensures.value)) end
 
 -- the rest of the leaf is inside the chunk there, or the line starts at the end
-held_in : (c : After-counts_to-start) → c.line_start_at.result.0
-    ≡ info_of c.args.self.now.node.now.breaks
-    (take (line_start c.args.self.now.node.now.breaks (text c.args.self.now.node.now)
-    (c.args.self.now.start.break_count + c.args.line_idx)) (text c.args.self.now.node.now))
+held_in : (c : After-counts_to-start)
     → IsInChunk (text_of c.args.self.now) (chunks_of c.args.self.now) c.counts_to-start.result.chars
     (chars c.line_start_at.result.1.now)
-held_in c start =
+held_in c =
     let s = c.args.self.now in
     let t = text s.node.now in
     let m = measured _ _ _ _ s.is_excerpt in
@@ -180,7 +154,9 @@ held_in c start =
     ap (λ x. x.chars) c.line_start_at.ensures.before
     ∙ length-take-le (line_start s.node.now.breaks t c.place.result) t
     (line_start-le-length s.node.now.breaks t c.place.result) in
-    let later = line_later _ _ _ _ _ s.is_excerpt c.args.line_idx (omega arith) start in
+    let later =
+    line_later _ _ _ _ _ s.is_excerpt c.args.line_idx _ (omega arith) c.place.ensures.value
+    c.line_start_at.ensures.before in
     let size = ap (λ x. x.chars) c.counts_to-start.ensures.value
     ∙ length-take (place - s.start.chars) (text_of s) in
     elim (cases_lt place s.end.chars) [
@@ -198,9 +174,7 @@ held_in c start =
 pub returns-then-line-eq0-clause-held : goal.returns-then-line-eq0-clause-held
 returns-then-line-eq0-clause-held c =
     held_in (goal.at.returns-then-line-eq0-clause-held c).After-counts_to-start
-    (start_is (goal.at.returns-then-line-eq0-clause-held c).After-line_start_at)
 
 pub returns-clause-held : goal.returns-clause-held
 returns-clause-held c =
     held_in (goal.at.returns-clause-held c).After-counts_to-start
-    (start_is (goal.at.returns-clause-held c).After-line_start_at)

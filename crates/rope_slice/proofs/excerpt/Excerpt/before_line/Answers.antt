@@ -1,24 +1,13 @@
-use Rattle.std.proofs.Common.{◌≡◌, ◌+◌, ◌∙◌, take, length, sym, ap, arith}
+use Rattle.std.proofs.Common.{◌∙◌, take, length, sym, ap, arith}
 use Rattle.std.proofs.lemmas.List.{take_all}
 use Rattle.rope_text.specs.TextInfo.{info_of}
 use Rattle.rope_text.specs.Lines.{line_start}
-use Rattle.rope_tree.specs.Tree.{text}
 use Rattle.rope_text.proofs.LineLaws.{line_start_first, line_start_past}
 use Rattle.rope_slice.specs.Excerpt.{text_of, breaks_of}
 use Rattle.rope_slice.proofs.Measured.{measured}
 use Rattle.rope_slice.proofs.ExcerptLines.{line_later, line_place_within, line_counts, own_line}
 use Rattle.rope_slice.proofs.excerpt.Excerpt.before_line.Goals.{After-line_start_at}
 use Rattle.rope_slice.proofs.excerpt.Excerpt.before_line.Goals as goal
-
-here : (c : After-line_start_at) → c.line_start_at.result.0
-    ≡ info_of c.args.self.now.node.now.breaks
-    (take (line_start c.args.self.now.node.now.breaks (text c.args.self.now.node.now)
-    (c.args.self.now.start.break_count + c.args.line_idx)) (text c.args.self.now.node.now))
-here c =
-    let breaks = breaks_of c.args.self.now in
-    let t = text c.args.self.now.node.now in
-    c.line_start_at.ensures.before
-    ∙ ap (λ l. info_of breaks (take (line_start breaks t l) t)) c.place-place.ensures.value
 
 pub returns-then-line_idx-eq0 : goal.returns-then-line_idx-eq0
 returns-then-line_idx-eq0 c =
@@ -33,23 +22,23 @@ line_start_at-requires-clause-within c = let m = measured _ _ _ _ c.args.self.no
 
 pub counts_to-requires-clause-later : goal.counts_to-requires-clause-later
 counts_to-requires-clause-later c =
-    line_later _ _ _ _ _ c.args.self.now.is_excerpt c.args.line_idx (omega arith)
-    (here (goal.at.counts_to-requires-clause-later c).After-line_start_at)
+    line_later _ _ _ _ _ c.args.self.now.is_excerpt c.args.line_idx _ (omega arith)
+    c.place-place.ensures.value c.line_start_at.ensures.before
 
 pub counts_to-requires-clause-within : goal.counts_to-requires-clause-within
 counts_to-requires-clause-within c =
-    line_place_within _ _ _ _ _ c.args.self.now.is_excerpt c.args.line_idx (omega arith)
-    (here (goal.at.counts_to-requires-clause-within c).After-line_start_at)
+    line_place_within _ _ _ _ _ c.args.self.now.is_excerpt c.args.line_idx _ (omega arith)
+    c.place-place.ensures.value c.line_start_at.ensures.before
 
 pub counts_to-requires-clause-counts : goal.counts_to-requires-clause-counts
 counts_to-requires-clause-counts c =
-    line_counts _ _ _ _ _ c.args.self.now.is_excerpt c.args.line_idx (omega arith)
-    (here (goal.at.counts_to-requires-clause-counts c).After-line_start_at)
+    line_counts _ _ _ _ _ c.args.self.now.is_excerpt c.args.line_idx _ (omega arith)
+    c.place-place.ensures.value c.line_start_at.ensures.before
 
 pub returns : goal.returns
 returns c = c.counts_to.ensures.value
-    ∙ own_line _ _ _ _ _ c.args.self.now.is_excerpt c.args.line_idx (omega arith)
-    (here (goal.at.returns c).After-line_start_at)
+    ∙ own_line _ _ _ _ _ c.args.self.now.is_excerpt c.args.line_idx _ (omega arith)
+    c.place-place.ensures.value c.line_start_at.ensures.before
 
 pub returns-then-line_idx-info : goal.returns-then-line_idx-info
 returns-then-line_idx-info c =

@@ -3,8 +3,8 @@ use Rattle.rope_text.specs.Edit.{is_char_boundary}
 use Rattle.rope_text.specs.Conversions.{byte_to_char}
 use Rattle.rope_text.specs.Text.{byte_len}
 use Rattle.rope_text.proofs.ByteSlices.{end_is_boundary}
+use Rattle.rope_text.proofs.ConversionLaws.{byte_to_char-byte_len}
 use Rattle.rope_tree.specs.Tree.{text}
-use Rattle.rope_tree.proofs.FoundLaws.{byte_to_char_end}
 use Rattle.rope_slice.specs.Edge.{end_info}
 use Rattle.rope_slice.specs.Excerpt.{text_of}
 use Rattle.rope_slice.proofs.Measured.{measured}
@@ -17,7 +17,7 @@ returns-then-byte_idx-info-clause-some c =
     let m = measured _ _ _ _ s.is_excerpt in
     let size : c.args.byte_idx ≡ byte_len own = c.if-byte_idx-info.true
     ∙ ap (λ x. x.bytes) c.info.ensures.value in
-    let last = ap (byte_to_char own) size ∙ byte_to_char_end own in
+    let last = ap (byte_to_char own) size ∙ byte_to_char-byte_len own in
     let end : s.end.chars ≡ s.start.chars + byte_to_char own c.args.byte_idx =
     omega (arith, last, m.chars) in
     s.is_excerpt.end_is ∙ ap (end_info s.node.now.breaks (text s.node.now)) end

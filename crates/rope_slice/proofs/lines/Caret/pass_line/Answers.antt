@@ -1,15 +1,19 @@
 use Rattle.std.proofs.Common.{◌≡◌, ◌∙◌, ap, sym, subst, refl, arith}
+use Rattle.std.specs.Str.{chars}
+use Rattle.rope_text.specs.Conversions.{byte_to_char}
 use Rattle.rope_text.specs.TextInfo.{info_of, info_sum, HasSum}
 use Rattle.rope_text.specs.LineParts.{first_line, after_byte}
-use Rattle.rope_slice.proofs.Carets.{between_boundary, between_after, start_of_chunk}
+use Rattle.rope_tree.proofs.NodeTexts.{boundary_at}
+use Rattle.rope_slice.proofs.Carets.{between_after, start_of_chunk}
 use Rattle.rope_slice.proofs.CaretSteps.{info_small, place_fits, pass_inside, more_small, pass_over}
 use Rattle.rope_slice.proofs.lines.Caret.pass_line.Goals.{After-of_first_line-first}
 use Rattle.rope_tree.proofs.Infos.{sum_of_small}
 use Rattle.rope_slice.proofs.lines.Caret.pass_line.Goals as goal
 
 pub range_from-held-requires : goal.range_from-held-requires
-range_from-held-requires c = λ _. between_boundary c.chunk.result.now c.self.inside.inside
-    c.chunk.utf8 (rw c.chunk.ensures c.self.invariant.between)
+range_from-held-requires c = λ _. boundary_at c.chunk.result.now
+    (byte_to_char (chars c.chunk.result.now) c.self.inside.inside) c.self.inside.inside c.chunk.utf8
+    (sym (rw c.chunk.ensures c.self.invariant.between))
 
 first_is : (c : After-of_first_line-first) → c.of_first_line-first.result ≡ info_of c.args.breaks
     (first_line c.args.breaks (after_byte c.self.inside.span.here c.self.inside.inside))

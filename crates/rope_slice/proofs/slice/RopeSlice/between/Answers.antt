@@ -27,21 +27,16 @@ use Rattle.rope_text.proofs.TextParts.{chars_front}
 use Rattle.rope_text.proofs.Walks.{byte_len-chars}
 use Rattle.rope_slice.proofs.InChunks.{EndsInChunk, ends_in_chunk}
 use Rattle.rope_slice.proofs.ChunkParts.{chars_of_part, boundary_of}
-use Rattle.rope_slice.proofs.Excerpts.{front_and_part}
 use Rattle.rope_slice.proofs.slice.RopeSlice.between.Goals.{Then-info-held, In-InTree, After-range-text, After-range-text-in-Alone}
 use Rattle.rope_text.proofs.InfoLaws.{part_of_sum}
+use Rattle.rope_text.proofs.LinesJoin.{take-slice_range}
 use Rattle.rope_slice.proofs.slice.RopeSlice.between.Goals as goal
 
 -- the counts of the part
-sum_is : (own : Content) (from to : TextInfo) → from ≡ info_of own.breaks (take from.chars own.text)
-    → to ≡ info_of own.breaks (take to.chars own.text) → from.chars ≤ to.chars
-    → parts_crlf (take from.chars own.text) (drop from.chars own.text) ≡ false
-    → to ≡ info_sum from (info_of own.breaks (slice_range own.text from.chars to.chars))
-sum_is own from to = between_sum own.breaks own.text from to
-
 pub minus-info-requires : goal.minus-info-requires
 minus-info-requires c =
-    part_of_sum _ _ _ (sum_is (content_of c.args.self.now) c.args.from c.args.to c.requires.from_is
+    let own = content_of c.args.self.now in
+    part_of_sum _ _ _ (between_sum own.breaks own.text c.args.from c.args.to c.requires.from_is
     c.requires.to_is c.requires.ordered c.requires.apart)
 
 counts_are : (own : Content) (from to info : TextInfo)
@@ -54,7 +49,7 @@ counts_are : (own : Content) (from to info : TextInfo)
 counts_are own from to info first last ordered apart rest =
     let i : ℕ = from.chars in
     rest own.breaks (take i own.text) (slice_range own.text i to.chars) (last
-    ∙ ap (info_of own.breaks) (sym (front_and_part own.text i to.chars ordered))) first
+    ∙ ap (info_of own.breaks) (sym (take-slice_range own.text i to.chars ordered))) first
     (parts_crlf-take (take i own.text) (drop i own.text) (to.chars - i) apart)
 
 -- a part that ends in the chunk

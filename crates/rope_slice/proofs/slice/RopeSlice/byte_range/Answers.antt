@@ -10,7 +10,7 @@ use Rattle.rope_text.specs.Conversions.{byte_to_char}
 use Rattle.rope_text.specs.Cutting.{single_chunk}
 use Rattle.rope_text.specs.Edit.{is_char_boundary}
 use Rattle.rope_text.specs.LineParts.{part_between}
-use Rattle.rope_text.proofs.ByteSlices.{boundary_is}
+use Rattle.rope_text.proofs.ByteSlices.{boundary_is, byte_to_char-mono}
 use Rattle.rope_text.proofs.ClipLaws.{slice_range_empty, clip_empty}
 use Rattle.rope_text.proofs.ConversionLaws.{byte_to_char-le-length}
 use Rattle.rope_tree.specs.Tree.{text}
@@ -19,7 +19,7 @@ use Rattle.rope_slice.specs.Slice.{content_of, text_of, chunks_of}
 use Rattle.rope_slice.specs.Excerpt as of_excerpt
 use Rattle.rope_slice.specs.Plain as of_plain
 use Rattle.rope_slice.proofs.ChunkParts.{chars_of_part}
-use Rattle.rope_slice.proofs.Clips.{part_of_part, clip_of_clip, single_chunk-clip, byte_to_char-mono}
+use Rattle.rope_slice.proofs.Clips.{part_of_part, clip_of_clip, single_chunk-clip}
 use Rattle.rope_slice.proofs.LeafPlaces.{cut_of_boundary, boundary_of_cut}
 use Rattle.rope_slice.proofs.Measured.{measured}
 use Rattle.rope_slice.proofs.PartsBetween.{same_content}

@@ -1,23 +1,24 @@
 use Rattle.std.proofs.Common.{◌∙◌, ap, sym, arith}
 use Rattle.std.proofs.lemmas.Str.{chars-nil}
+use Rattle.std.proofs.lemmas.List.{nil_from_length}
 use Rattle.rope_text.specs.Cutting.{single_chunk}
 use Rattle.rope_text.specs.Text.{byte_len}
 use Rattle.rope_tree.specs.Tree.{text}
 use Rattle.rope_tree.proofs.EmptyTrees.{no_leaves_of}
 use Rattle.rope_tree.proofs.LeafLaws.{nonempty_leaves}
-use Rattle.rope_slice.proofs.Clips.{no_chars, whole_part, whole_clip}
+use Rattle.rope_slice.proofs.Clips.{whole_part, whole_clip}
 use Rattle.rope_slice.proofs.Measured.{whole_excerpt}
 use Rattle.rope_slice.proofs.slice.RopeSlice.of_node.Goals as goal
 
 pub returns-then-end-eq0-clause-text : goal.returns-then-end-eq0-clause-text
 returns-then-end-eq0-clause-text c = c.from_str_with.ensures.text ∙ chars-nil
-    ∙ sym (no_chars (text c.args.node.now) (sym (ap (λ x. x.chars) c.info-end.ensures.value)
+    ∙ sym (nil_from_length (text c.args.node.now) (sym (ap (λ x. x.chars) c.info-end.ensures.value)
     ∙ c.if-end-eq0.true))
 
 pub returns-then-end-eq0-clause-chunks : goal.returns-then-end-eq0-clause-chunks
 returns-then-end-eq0-clause-chunks c =
     let none =
-    no_chars (text c.args.node.now) (sym (ap (λ x. x.chars) c.info-end.ensures.value)
+    nil_from_length (text c.args.node.now) (sym (ap (λ x. x.chars) c.info-end.ensures.value)
     ∙ c.if-end-eq0.true) in
     c.from_str_with.ensures.chunks ∙ ap single_chunk chars-nil
     ∙ sym (no_leaves_of c.args.node.now c.info-end.ensures.tree (ap byte_len none))
