@@ -1,6 +1,6 @@
 -- What lies before a character, by what is left following it, and the parts of that.
-use Rattle.std.proofs.Common.{◌≡◌, ℕ, ◌+◌, ◌-◌, ◌≤◌, ◌<◌, ◌^◌, nat_le, List, length, take, drop, sym, ap, ◌∙◌, arith}
-use Rattle.std.proofs.lemmas.List.{take-append-drop, length-take-le}
+use Rattle.std.proofs.Common.{◌≡◌, ℕ, ◌+◌, ◌-◌, ◌≤◌, ◌<◌, ◌^◌, nat_le, List, length, take, sym, ap, ◌∙◌, arith}
+use Rattle.std.proofs.lemmas.List.{length-take-le}
 use Rattle.std.proofs.lemmas.List.Sums.{count_by-le-length}
 use Rattle.std.proofs.lemmas.Str.{length-le-encodes}
 use Rattle.std.specs.List.{slice_range}
@@ -8,41 +8,24 @@ use Rattle.rope_text.specs.declared.line_breaks.LineBreaks.{LineBreaks}
 use Rattle.rope_text.specs.declared.text_info.TextInfo.{TextInfo}
 use Rattle.rope_text.specs.Conversions.{line_to_char}
 use Rattle.rope_text.specs.Lines.{line_start}
-use Rattle.rope_text.specs.Text.{byte_len, utf16_len, surrogate_count}
+use Rattle.rope_text.specs.Text.{byte_len, surrogate_count}
 use Rattle.rope_text.specs.Content.{Content}
 use Rattle.rope_text.specs.Cutting.{clip}
 use Rattle.rope_text.specs.LineParts.{part_between}
-use Rattle.rope_text.proofs.Measures.{IsMeasure, IsMeasure-byte_len, IsMeasure-utf16_len}
+use Rattle.rope_text.proofs.Measures.{IsMeasure-byte_len, size_parts}
 use Rattle.rope_text.proofs.ClipLaws.{slice_range-slice_range, clip-clip}
 use Rattle.rope_text.proofs.LineLaws.{line_start-le-length}
 use Rattle.rope_text.proofs.LineSeams.{line_start_apart}
 use Rattle.rope_text.proofs.SliceLaws.{breaks_apart}
 use Rattle.rope_slice.specs.Edge.{line_info}
 use Rattle.rope_slice.specs.Sliced.{IsSlice}
+use Rattle.rope_slice.proofs.PartsBetween.{same_content}
 use Rattle.ropey_c.specs.Before.{IsBefore}
-
-size_parts : (size : List ℕ → ℕ) → IsMeasure size → (text : List ℕ) (i : ℕ)
-    → size (take i text) + size (drop i text) ≡ size text
-size_parts size m text i = sym (m.joined (take i text) (drop i text))
-    ∙ ap size (take-append-drop i text)
-
-pub byte_parts : (text : List ℕ) (i : ℕ)
-    → byte_len (take i text) + byte_len (drop i text) ≡ byte_len text
-byte_parts text i = size_parts byte_len IsMeasure-byte_len text i
-
-pub utf16_parts : (text : List ℕ) (i : ℕ)
-    → utf16_len (take i text) + utf16_len (drop i text) ≡ utf16_len text
-utf16_parts text i = size_parts utf16_len IsMeasure-utf16_len text i
 
 -- a slice is the part between its bounds
 pub slice_is : (whole part : Content) (a b : ℕ) → IsSlice whole a b part
     → part ≡ part_between whole a b
-slice_is whole part a b s =
-    let of : List ℕ → List (List ℕ) → LineBreaks → Content =
-    λ text chunks breaks. record { text = text; chunks = chunks; breaks = breaks } in
-    ap (λ t. of t part.chunks part.breaks) s.text
-    ∙ ap (λ c. of (slice_range whole.text a b) c part.breaks) s.chunks
-    ∙ ap (of (slice_range whole.text a b) (clip whole.chunks a b)) s.breaks
+slice_is whole part a b s = same_content _ _ s.text s.chunks s.breaks
 
 -- the first characters of what is left from a on are those up to b
 pub part_of_rest : (whole part : Content) (a b len : ℕ) → a ≤ b → b ≤ len
@@ -94,6 +77,6 @@ units_fit breaks text l info same fits =
       ap (λ x. x.utf16_surrogates) same,
       bytes,
       pairs,
-      byte_parts text (line_start breaks text l),
+      size_parts byte_len IsMeasure-byte_len text (line_start breaks text l),
       fits,
     )

@@ -4,33 +4,17 @@ use lib.Dec.{leb}
 use Rattle.std.specs.Bool.{MatchBool}
 use Rattle.std.proofs.lemmas.Bool.{cases_lt, le-leb, lt-leb}
 use Rattle.std.proofs.lemmas.Bool.Decides.{nat_tests}
-use Rattle.std.proofs.lemmas.List.{take-append-drop}
 use Rattle.rope_text.specs.Text.{byte_len}
 use Rattle.rope_text.specs.Conversions.{byte_to_char}
 use Rattle.rope_text.specs.Edit.{byte_range_error, size_error, removed}
 use Rattle.rope_text.specs.declared.error.Error.TheVariants.{TooLong}
-use Rattle.rope_text.proofs.Measures.{IsMeasure-byte_len, size_le, front_greatest, front_fits, front-le-length}
-use Rattle.rope_text.proofs.ByteSlices.{is_range}
+use Rattle.rope_text.proofs.Measures.{IsMeasure-byte_len, size_le, size_parts}
+use Rattle.rope_text.proofs.ByteSlices.{is_range, byte_to_char-mono}
 
 -- the characters of a range of bytes are in order
 pub chars_ordered : (text : List ℕ) (a b : ℕ) → byte_range_error text (Some a) (Some b) ≡ None
     → byte_to_char text a ≤ byte_to_char text b
-unfolding byte_to_char
-chars_ordered text a b fine =
-    let range = is_range text a b fine in
-    let fits = front_fits byte_len IsMeasure-byte_len text a in
-    front_greatest byte_len IsMeasure-byte_len text b (byte_to_char text a)
-    (front-le-length byte_len IsMeasure-byte_len text a) (omega (arith, range.ordered, fits))
-
--- the bytes before a place
-pub bytes_before-le : (text : List ℕ) (a b : ℕ) → a ≤ b
-    → byte_len (take a text) ≤ byte_len (take b text)
-bytes_before-le text a b l = size_le byte_len IsMeasure-byte_len text a b l
-
-bytes_around : (text : List ℕ) (b : ℕ) → byte_len (take b text) + byte_len (drop b text)
-    ≡ byte_len text
-bytes_around text b = sym (IsMeasure-byte_len.joined (take b text) (drop b text))
-    ∙ ap byte_len (take-append-drop b text)
+chars_ordered text a b fine = byte_to_char-mono text a b (is_range text a b fine).ordered
 
 -- what stays without a range
 pub removed_bytes : (text : List ℕ) (a b : ℕ) → a ≤ b
@@ -39,11 +23,16 @@ pub removed_bytes : (text : List ℕ) (a b : ℕ) → a ≤ b
 removed_bytes text a b l =
     let stays : byte_len (removed text a b) ≡ byte_len (take a text) + byte_len (drop b text) =
     IsMeasure-byte_len.joined (take a text) (drop b text) in
-    omega (arith, stays, bytes_around text b, bytes_before-le text a b l)
+    omega (
+      arith,
+      stays,
+      size_parts byte_len IsMeasure-byte_len text b,
+      size_le byte_len IsMeasure-byte_len text a b l,
+    )
 
 pub cut_within : (text : List ℕ) (a b : ℕ)
     → byte_len (take b text) - byte_len (take a text) ≤ byte_len text
-cut_within text a b = omega (arith, bytes_around text b)
+cut_within text a b = omega (arith, size_parts byte_len IsMeasure-byte_len text b)
 
 -- a text of so many bytes beside others of `w` is too long, or isn't
 pub room_told : (w l a b : ℕ) → w < 2 ^ 63 → w ≡ a → b ≡ l
@@ -57,15 +46,6 @@ room_told w l a b fits at_a at_b =
           subst Told (sym (lt-leb _ _ more)) (rw long refl)
       | inr less ↦ let short : nat_lt (a + b) (2 ^ 63) ≡ true = grind (arith, nat_tests) in
           subst Told (sym (le-leb _ _ less)) (rw short refl)
-    ]
-
--- a size that is not refused
-pub fits_from : (n : ℕ) → size_error n ≡ None → n < 2 ^ 63
-fits_from n fine =
-    elim (cases_lt n (2 ^ 63)) [
-      | inl less ↦ less
-      | inr more ↦ let long : nat_lt n (2 ^ 63) ≡ false =
-          grind (arith, nat_tests) in absurd (cc)
     ]
 
 -- a text following another, whose bytes are counted

@@ -6,13 +6,7 @@ use Rattle.std.proofs.Math.Seq.{take-append_seam}
 use Rattle.std.proofs.Math.Nat.{min-eq_left, min-eq_right, eq-or-lt_of_le}
 use Rattle.std.proofs.lemmas.List.{length-append, length-set, drop-set-lt, drop-drop, take_more_set, length-map}
 use Rattle.ropey_c.specs.Filling.{EachGives, FillsBy}
-
--- calls of `next` and one more
-pub one_more : {S A : Type 0} (steps : S → Option A → S → Type 0) (s : S) (xs : List A) (t : S)
-    (x : A) (u : S) → Yields steps s xs t → steps t (Some x) u → Yields steps s (xs ++ x ∷ []) u
-one_more steps s [] t x u none step = (u, subst (λ a. steps a (Some x) u) (sym none) step, refl)
-one_more steps s (y ∷ ys) t x u more step =
-    (more.0, more.1, one_more steps more.0 ys t x u more.2 step)
+use Rattle.ropey.proofs.TextsGiven.{Yields-push}
 
 each_more : {A B : Type 0} (gives : A → B → Type 0) (xs : List A) (ys : List B) (x : A) (y : B)
     → EachGives gives xs ys → gives x y → EachGives gives (xs ++ x ∷ []) (ys ++ y ∷ [])
@@ -41,7 +35,7 @@ module _ {S A B : Type 0} (steps : S → Option A → S → Type 0) (gives : A �
       let more : take (count + 1) (slice_set now count value) ≡ take count now ++ value ∷ [] =
       take_more_set now count value in_room in record {
         items = i.items ++ item ∷ [];
-        given = one_more steps s i.items t item u i.given step;
+        given = Yields-push steps s i.items t item u i.given step;
         count_is = ap (λ n. n + 1) i.count_is ∙ sym (length-append i.items (item ∷ []));
         written = subst (EachGives gives (i.items ++ item ∷ [])) (sym more)
             (each_more gives i.items (take count now) item value i.written gave);

@@ -3,18 +3,20 @@
 use Rattle.std.proofs.Common.{◌≡◌, ℕ, List, [], ◌∷◌, ◌++◌, refl, sym}
 use seplogic.Ra.Ura.{Ura}
 use base.Share
+use base.Share.{halves as share_halves}
 use base.Logic.{SProp, ent, sep, emp, id⊢, never_e, upd_i}
 use base.Fml.{Lft, Share, Fml, ftrue, feq, fsep, fseps, fex, fwand, fupd, fdead, fbor, fobor, flft, fshr_bor}
 use base.Before.{before}
 use contract.BorrowLft.{meet_⊑_left}
 use ghost.Rules.{Halves}
+use mir.Val.{Val, vstruct, vcons, vnil}
 use types.Logic.{Logic, sem}
 use types.Kit.{Item, Goal, Seq, ‵, ◌⊛◌, given, learn, later, ◌$◌, ◌∵◌, !, qed, by, move, keep, drop, use0, use1, use2, use3, split, fsplit, fsplit3, fjoin, fpick, fpack, feq_i, feq_l, rewrite, await, suffices, updating, now, assume, done}
 use types.Tokens.{shr_bor-open, obor_alter, bor_fracture}
 use types.Na.{before-Incl, before_lent}
 use denote.RattleType.{RattleType, RowLaws}
-use denote.Memory.{hidden_shr}
-use denote.RawPtr.{Ptr, block_ptr, null_ptr, Testable}
+use denote.Memory.{hidden_shr, cell_at, cell_cut, cell_join}
+use denote.RawPtr.{Ptr, block_ptr, null_ptr, Testable, ptr_val}
 use denote.Sharing.{ShrLaws}
 use denote.SharingLaws.{contraction}
 use denote.Opens.{hide}
@@ -22,6 +24,23 @@ use denote.Steps.{nothing}
 use denote.Struct.Lending.{lent_at, lent_at_shr_laws}
 use Rattle.std.specs.Prelude.{Option, None, Some}
 use Rattle.ropey_c.specs.Handles.{held_lent, lent_for, lasts}
+
+-- the machine value of a lent pointer
+abbrev pub word : Ptr → Val
+word p = vstruct (vcons (ptr_val p) vnil)
+
+module _ (L : RattleType) where
+  -- a share of the memory in which a lent pointer lies
+  abbrev pub cell_of : Ptr → ℕ → ℕ → Share → Fml
+  cell_of p b o q = cell_at q L.mir (word p ∷ []) b o
+
+  pub cell_halves : {M : Type 1} {𝓤 : Ura M} (𝓛 : Logic 𝓤) (p : Ptr) (b o : ℕ)
+      → Halves 𝓤 𝓛.H 𝓛.A (cell_of p b o)
+  cell_halves 𝓛 p b o = record {
+    cut = λ q. cell_cut 𝓛 q (Share.left q) (Share.right q) (share_halves q) L.mir (word p ∷ []) b o;
+    join = λ q. cell_join 𝓛 q (Share.left q) (Share.right q) (share_halves q) L.mir (word p ∷ []) b
+        o;
+  }
 
 module _ (R : RattleType) where
   -- what a `&` at κ gives of it

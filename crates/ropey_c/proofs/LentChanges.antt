@@ -1,17 +1,14 @@
 -- A `&` to a lent handle of changes holds a `&` to changes. Assumes `Logic`.
 use Rattle.std.proofs.Common.{◌≡◌, ℕ, List, [], ◌∷◌, ◌++◌, subst, refl}
 use seplogic.Ra.Ura.{Ura}
-use mir.Val.{Val, vstruct, vcons, vnil, of_list}
-use base.Share
-use base.Share.{halves as share_halves}
+use mir.Val.{Val, vstruct, of_list}
 use base.Logic.{ent, sep}
 use base.Fml.{Lft, Share, Fml, fsep, flft}
-use ghost.Rules.{Halves}
 use types.Logic.{Logic, sem}
 use types.Kit.{Item, Goal, Seq, Step, step, ‵, ◌$◌, ◌∵◌, !, qed, by, move, drop, fsplit, fjoin, fpick, fpack, feq_i, feq_l, rewrite, done}
 use denote.RattleType.{RattleType, Valss}
 use denote.Builtin.{RawPtr}
-use denote.Memory.{part_of, part_at, cell_at, cell_cut, cell_join, hidden_shr}
+use denote.Memory.{part_of, part_at, cell_at, hidden_shr}
 use denote.RawPtr.{Ptr, ptr_val}
 use denote.Opens.{unhide}
 use denote.Steps.{nothing}
@@ -21,7 +18,7 @@ use Rattle.rope_changes.specs.contracts.ChangeSet as change_set
 use Rattle.rope_changes.proofs.change_set.ChangeSet.TheLaws as change_set_laws
 use Rattle.ropey_c.specs.ChangeHandles.{changes_lent}
 use Rattle.ropey_c.specs.contracts.lent_changes.LentChanges as lent
-use Rattle.ropey_c.proofs.Lending.{Told, lent_told}
+use Rattle.ropey_c.proofs.Lending.{Told, lent_told, word, cell_of, cell_halves}
 
 abbrev pub R : RattleType
 R = change_set.the_row
@@ -29,13 +26,9 @@ R = change_set.the_row
 abbrev pub Lent : RattleType
 Lent = lent.the_row
 
--- the machine value of a lent handle
-abbrev pub word : Ptr → Val
-word p = vstruct (vcons (ptr_val p) vnil)
-
 -- a share of the memory in which a lent handle lies
 abbrev pub lent_cell : Ptr → ℕ → ℕ → Share → Fml
-lent_cell p b o q = cell_at q Lent.mir (word p ∷ []) b o
+lent_cell = cell_of Lent
 
 module _ {M : Type 1} {𝓤 : Ura M} {𝓛 : Logic 𝓤} {K : Type 0} {Γ : List (Item 𝓤)} {G : Goal 𝓤 𝓛.H}
   where
@@ -57,14 +50,6 @@ module _ {M : Type 1} {𝓤 : Ura M} {𝓛 : Logic 𝓤} {K : Type 0} {Γ : List
 
 module _ {M : Type 1} {𝓤 : Ura M} (𝓛 : Logic 𝓤) where
   open 𝓛 use {H, A}
-
-  pub cell_halves : (p : Ptr) (b o : ℕ) → Halves 𝓤 H A (lent_cell p b o)
-  cell_halves p b o = record {
-    cut = λ q. cell_cut 𝓛 q (Share.left q) (Share.right q) (share_halves q) Lent.mir (word p ∷ []) b
-        o;
-    join = λ q. cell_join 𝓛 q (Share.left q) (Share.right q) (share_halves q) Lent.mir (word p ∷ [])
-        b o;
-  }
 
   module _ (d : Lent.Denot) (b o : ℕ) where
     abbrev Φ : Share → Fml
@@ -95,4 +80,4 @@ module _ {M : Type 1} {𝓤 : Ura M} (𝓛 : Logic 𝓤) where
         (H.⇛ (Told R 𝓛 d.ptr (lent_cell d.ptr b o) κ q d.held))
     lent_tells κ q = qed 𝓛 (‵ (hidden_shr Lent κ d b o) ∷ ‵ (flft κ q) ∷ []) ∵ unhide ! $
         by ! (lent_told R change_set_laws.the_row_laws.shr_laws 𝓛 d.ptr d.held Φ cell
-        (cell_halves d.ptr b o) part_out part_in κ q)
+        (cell_halves Lent 𝓛 d.ptr b o) part_out part_in κ q)

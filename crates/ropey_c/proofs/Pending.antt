@@ -9,19 +9,7 @@ use Rattle.std.proofs.lemmas.Bool.{and_parts, cases_lt}
 use Rattle.std.proofs.lemmas.List.{length-take, length-drop, take_at, take-take, take-append-le, take-append-drop, length-take-le, take_all, take_min}
 use Rattle.std.proofs.lemmas.Str.{IsUtf8-encode, length-encode, len_utf8_bounds, chars-append, utf8_valid_len_le}
 use Rattle.rope_text.specs.Read.{text_front, text_rest}
-use Rattle.rope_text.proofs.ReadLaws.{IsUtf8-text_front, longest, utf8_valid_len-append, text_rest-append}
-
-pub length-text_front : (bs : List ℕ) → length (text_front bs) ≡ utf8_valid_len bs
-length-text_front bs = length-take-le (utf8_valid_len bs) bs (utf8_valid_len_le bs)
-
--- nothing of the rest is text
-pub rest_stays : (bs : List ℕ) → utf8_valid_len (text_rest bs) ≡ 0
-rest_stays bs =
-    let u = IsUtf8-text_front bs in
-    let e : utf8_valid_len bs ≡ length (text_front bs) + utf8_valid_len (text_rest bs) =
-    ap utf8_valid_len (sym (take-append-drop (utf8_valid_len bs) bs))
-    ∙ utf8_valid_len-append (text_front bs) (text_rest bs) u in
-    omega (arith, e, length-text_front bs)
+use Rattle.rope_text.proofs.ReadLaws.{IsUtf8-text_front, longest, utf8_valid_len-append, text_rest-append, length-text_front, rest_stays}
 
 -- what is left following the longest front that is text
 pub left_is : (bytes front : List ℕ) → front ≡ text_front bytes

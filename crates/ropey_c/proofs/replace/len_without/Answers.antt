@@ -1,5 +1,7 @@
 use Rattle.std.proofs.Common.{arith}
-use Rattle.ropey_c.proofs.Bytes.{bytes_before-le, cut_within, removed_bytes}
+use Rattle.rope_text.specs.Text.{byte_len}
+use Rattle.rope_text.proofs.Measures.{IsMeasure-byte_len, size_le}
+use Rattle.ropey_c.proofs.Bytes.{cut_within, removed_bytes}
 use Rattle.ropey_c.proofs.replace.len_without.Goals as goal
 
 pub overflow_sub-cut : goal.overflow_sub-cut
@@ -8,7 +10,8 @@ overflow_sub-cut c =
       arith,
       c.char_to_byte-2.ensures,
       c.char_to_byte.ensures,
-      bytes_before-le c.args.rope.now.text c.args.start c.args.end c.requires.ordered,
+      size_le byte_len IsMeasure-byte_len c.args.rope.now.text c.args.start c.args.end
+          c.requires.ordered,
     )
 
 pub overflow_sub-result : goal.overflow_sub-result

@@ -1,9 +1,9 @@
 use Rattle.std.proofs.Common.{refl, ap, ◌∙◌, arith}
 use Rattle.rope_text.specs.Text.{byte_len, utf16_len}
 use Rattle.rope_text.specs.Breaks.{break_count}
+use Rattle.rope_text.proofs.Measures.{IsMeasure-byte_len, IsMeasure-utf16_len, size_parts}
 use Rattle.rope_text.proofs.SliceLaws.{break_count-drop}
 use Rattle.rope_slice.specs.Slice.{text_of}
-use Rattle.ropey_c.proofs.Before.{byte_parts, utf16_parts}
 use Rattle.ropey_c.proofs.slices.before_rest.Goals as goal
 
 pub overflow_sub-result : goal.overflow_sub-result
@@ -13,7 +13,7 @@ overflow_sub-result c =
       c.len_bytes.ensures.value,
       c.len_bytes-2.ensures.value,
       ap byte_len c.requires.rest,
-      byte_parts c.args.rope.now.text c.args.char_idx,
+      size_parts byte_len IsMeasure-byte_len c.args.rope.now.text c.args.char_idx,
     )
 
 pub overflow_sub-result-2 : goal.overflow_sub-result-2
@@ -23,7 +23,7 @@ overflow_sub-result-2 c =
       c.len_utf16_cu.ensures,
       c.len_utf16_cu-2.ensures,
       ap utf16_len c.requires.rest,
-      utf16_parts c.args.rope.now.text c.args.char_idx,
+      size_parts utf16_len IsMeasure-utf16_len c.args.rope.now.text c.args.char_idx,
     )
 
 pub overflow_sub-result-3 : goal.overflow_sub-result-3
@@ -49,7 +49,7 @@ returns c =
         c.len_bytes.ensures.value,
         c.len_bytes-2.ensures.value,
         ap byte_len c.requires.rest,
-        byte_parts c.args.rope.now.text c.args.char_idx,
+        size_parts byte_len IsMeasure-byte_len c.args.rope.now.text c.args.char_idx,
       );
       chars = refl;
       utf16 = omega (
@@ -57,7 +57,7 @@ returns c =
         c.len_utf16_cu.ensures,
         c.len_utf16_cu-2.ensures,
         ap utf16_len c.requires.rest,
-        utf16_parts c.args.rope.now.text c.args.char_idx,
+        size_parts utf16_len IsMeasure-utf16_len c.args.rope.now.text c.args.char_idx,
       );
       line_breaks =
           omega (

@@ -2,8 +2,9 @@ use Rattle.std.proofs.Common.{◌≡◌, ◌∙◌, ℕ, ◌-◌, ◌<◌, List,
 use Rattle.std.proofs.lemmas.List.{length-take, length-drop, take_all}
 use Rattle.std.specs.Str.Lossy.{utf8_valid_len}
 use Rattle.rope_text.specs.Read.{text_front}
+use Rattle.rope_text.proofs.ReadLaws.{length-text_front}
 use Rattle.ropey_c.specs.Intake.{Taking}
-use Rattle.ropey_c.proofs.Pending.{length-text_front, past}
+use Rattle.ropey_c.proofs.Pending.{past}
 use Rattle.ropey_c.proofs.Takings.{Settles, takes_split, takes_head}
 use Rattle.ropey_c.proofs.intake.Intake.join.Goals as goal
 

@@ -2,8 +2,9 @@ use Rattle.std.proofs.Common.{◌≡◌, ◌++◌, length, ap, arith}
 use Rattle.std.specs.Str.{chars}
 use Rattle.rope_text.specs.Text.{byte_len}
 use Rattle.rope_text.proofs.Walks.{byte_len-chars}
+use Rattle.rope_text.proofs.EditLaws.{size_error-fits}
 use Rattle.ropey_c.specs.Intake.{Taking}
-use Rattle.ropey_c.proofs.Bytes.{fits_from, byte_len-following}
+use Rattle.ropey_c.proofs.Bytes.{byte_len-following}
 use Rattle.ropey_c.proofs.Pending.{none_waits}
 use Rattle.ropey_c.proofs.intake.Intake.settle.Goals as goal
 
@@ -24,7 +25,7 @@ invariant_of-self-2 c =
     (byte_len-chars front c.front-front.utf8) in
     record {
       taken_is = λ _. omega (arith, is, first, second, ap byte_len c.in-Ok.ensures.ok.0);
-      fits = omega (arith, is, shown_text, fits_from _ c.if-not-has_room.ensures);
+      fits = omega (arith, is, shown_text, size_error-fits _ c.if-not-has_room.ensures);
       short = omega (arith, c.if-left-gt3.false);
       no_text = none_waits _ _ _ _ c.front-front.ensures c.copy_from_slice.ensures.after;
       sound = λ _. c.in-Ok.ensures.ok.1;

@@ -24,8 +24,8 @@ use Rattle.std.proofs.VecSteps.Shapes.{after}
 use Rattle.std.proofs.raw_atomic.Walks.{proved, leaves}
 use Rattle.std.proofs.option.Made.{Some-of, none_of}
 use Rattle.std.specs.Prelude.{None, Some}
-use Rattle.ropey_c.proofs.Lending.{shown, shows_as}
-use Rattle.ropey_c.proofs.LentChanges.{R, Lent, lent_cell, lent_tells, cell_halves}
+use Rattle.ropey_c.proofs.Lending.{shown, shows_as, cell_halves}
+use Rattle.ropey_c.proofs.LentChanges.{R, Lent, lent_cell, lent_tells}
 use Rattle.ropey_c.specs.contracts.lent_changes.LentChanges.changes.{ended, clauses}
 use Rattle.ropey_c.specs.contracts.lent_changes.LentChanges.changes.Key.{name as #self}
 use Rattle.ropey_c.proofs.lent_changes.LentChanges.changes.Statement.{statement}
@@ -61,7 +61,7 @@ changes_spec 𝓤 𝓛 𝓜 𝓡 wired =
     split ! $
     move ! (1 ∷ []) $ shows_as R ! d.ptr d.held κ
     (λ is e. rewrite ! 0 (λ (p : Ptr). ‵ (fshr_bor κ (lent_cell p rb ro))) is refl $
-    shr_bor-open ! tt (cell_halves 𝓛 null_ptr rb ro) (λ s.
+    shr_bor-open ! tt (cell_halves Lent 𝓛 null_ptr rb ro) (λ s.
     sets ! (of_opd ! (load ! (through ! refl (fld ! refl (stop !)))
     (look_in ! 1 (sub ! 0 refl (whole !))))) refl (tt, record { fits = lit< tt }) $
     obor_close ! tt $ drop ! $
@@ -84,7 +84,7 @@ changes_spec 𝓤 𝓛 𝓜 𝓡 wired =
     (λ b o x is e ok. let u = vptr b o in let v : Val = live 1 (vcons u vnil) in let r : Ref.Denot =
     record { ref_ptr = (b, o); now = x } in
     rewrite ! 1 (λ (p : Ptr). ‵ (fshr_bor κ (lent_cell p rb ro))) is refl $ move ! (1 ∷ 2 ∷ []) $
-    shr_bor-open ! tt (cell_halves 𝓛 (block_ptr b o) rb ro) (λ s.
+    shr_bor-open ! tt (cell_halves Lent 𝓛 (block_ptr b o) rb ro) (λ s.
     sets ! (of_opd ! (load ! (through ! refl (fld ! refl (stop !)))
     (look_in ! 1 (sub ! 0 refl (whole !))))) refl (tt, tt) $ obor_close ! tt $ drop ! $
     sets ! (of_opd ! (get ! refl)) refl (tt, tt) $
