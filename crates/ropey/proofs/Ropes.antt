@@ -1,37 +1,22 @@
 -- A tree is a rope.
-use Rattle.std.proofs.Common.{◌≡◌, ℕ, zero, suc, ◌-◌, ◌*◌, ◌^◌, ◌<◌, ◌≤◌, true, List, [], ◌∷◌, ◌++◌, length, refl, sym, ap, ◌∙◌, ◌+◌, ◌/◌, subst, arith, All}
-use Rattle.std.specs.List.{concat}
-use Rattle.std.specs.Str.{all_scalars, chars}
+use Rattle.std.proofs.Common.{◌≡◌, ℕ, zero, suc, ◌-◌, ◌*◌, ◌^◌, ◌<◌, ◌≤◌, true, [], ◌∷◌, length, refl, sym, ap, ◌∙◌, ◌+◌, ◌/◌, subst, arith}
+use Rattle.std.specs.Str.{chars}
 use Rattle.std.proofs.Math.Nat.{pow-succ', mul-le-mul_right}
 use Rattle.std.proofs.lemmas.Bool.{and_from}
 use Rattle.std.proofs.lemmas.List.{append-nil, nil_from_length}
-use Rattle.std.proofs.lemmas.List.Elements.{All-head, All-tail, All-weaker}
+use Rattle.std.proofs.lemmas.List.Elements.{All-weaker}
 use Rattle.std.proofs.lemmas.Str.{length-le-encodes, chars-encodes}
 use Rattle.rope_text.specs.Text.{byte_len}
 use Rattle.rope_text.specs.Cutting.{IsChunkSize}
 use Rattle.rope_text.specs.Content as of_content
 use Rattle.rope_text.proofs.DenseLaws.{few_chunks}
-use Rattle.rope_text.proofs.FirstBytes.{first_scalar, rest_scalars}
 use Rattle.rope_tree.specs.Leaves.{IsLeafText}
 use Rattle.rope_tree.specs.Tree.{Tree, text, IsTree}
 use Rattle.rope_tree.proofs.LeafLaws.{leaf_sizes, leaves_le}
 use Rattle.rope_tree.proofs.TreeLaws.{low_tree}
 use Rattle.ropey.specs.View.{RopeView, IsRope, HasFewChunks, content, view_of}
 use lib.Utf8.{scalar, encode}
-
-scalars-append : (s t : List ℕ) → all_scalars s ≡ true → all_scalars t ≡ true
-    → all_scalars (s ++ t) ≡ true
-scalars-append [] t a b = b
-scalars-append (c ∷ s) t a b =
-    and_from (scalar c) (all_scalars (s ++ t)) (first_scalar c s a)
-    (scalars-append s t (rest_scalars c s a) b)
-
-scalars-concat : (leaves : List (List ℕ)) → All IsLeafText leaves
-    → all_scalars (concat leaves) ≡ true
-scalars-concat [] a = refl
-scalars-concat (leaf ∷ leaves) a =
-    scalars-append leaf (concat leaves) (All-head IsLeafText leaf leaves a).scalars
-    (scalars-concat leaves (All-tail IsLeafText leaf leaves a))
+use Rattle.rope_slice.proofs.Kept.{scalars-concat}
 
 -- the invariant of a rope, by its tree
 pub content_of : (t : Tree) → IsTree t → of_content.IsRope (content (view_of t))

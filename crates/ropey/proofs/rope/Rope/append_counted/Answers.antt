@@ -2,8 +2,9 @@
 use Rattle.std.proofs.Common.{rules, ◌++◌, length, sym, ap, ◌∙◌, arith}
 use Rattle.std.proofs.lemmas.List.{append-nil}
 use Rattle.rope_tree.specs.Tree.{text}
+use Rattle.rope_tree.proofs.FormLaws.{no_text}
 use Rattle.ropey.proofs.Ropes.{rope_of}
-use Rattle.ropey.proofs.Refusals.{append_error-none, no_text}
+use Rattle.ropey.proofs.Refusals.{append_error-none}
 use Rattle.ropey.proofs.rope.Rope.append_counted.Goals as goal
 
 pub returns-then-len_bytes-eq0-clause-ok : goal.returns-then-len_bytes-eq0-clause-ok
