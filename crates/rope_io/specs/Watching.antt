@@ -13,12 +13,16 @@ watched_failed w = w.failed
 
 -- the failure of the last call
 abbrev pub watched_failure : {T : Type 0} → Watched T → Option Failure
-watched_failure w = w.failure
+watched_failure w = w.log.last
 
 -- the number of failed calls
 abbrev pub watched_failures : {T : Type 0} → Watched T → ℕ
-watched_failures w = w.failures
+watched_failures w = w.log.count
 
 -- the device without its mark
 abbrev pub unmarked : {T : Type 0} → Watched T → Watched T
-unmarked w = record { inner = w.inner; failed = false; failure = None; failures = w.failures }
+unmarked w = record {
+  inner = w.inner;
+  failed = false;
+  log = record { last = None; count = w.log.count };
+}

@@ -6,6 +6,9 @@ ghost use Rattle.rope_io.specs.declared.device.Failure.{Failure};
 ghost use Rattle.rope_io.specs.Failing.{failure_of, write_failure, count_failure};
 ghost use Rattle.rope_io.specs.Watching.{watched_inner, watched_failed, watched_failure, watched_failures, unmarked};
 
+mod failure_log;
+
+use failure_log::FailureLog;
 use std::io::{self, Read, Write};
 
 /// The failure of a read or a write.
@@ -94,8 +97,7 @@ pub trait Sink: Mark {
 pub struct Watched<T> {
     inner: T,
     failed: bool,
-    failure: Option<Failure>,
-    failures: u64,
+    log: FailureLog,
 }
 
 impl<T> Watched<T> {
@@ -109,8 +111,7 @@ impl<T> Watched<T> {
         Watched {
             inner,
             failed: false,
-            failure: None,
-            failures: 0,
+            log: FailureLog::new(),
         }
     }
 
@@ -130,8 +131,7 @@ impl<T> Watched<T> {
             ≡ count_failure (Some failure) (watched_failures self.old) }
     {
         self.failed = true;
-        self.failure = Some(failure);
-        self.failures = self.failures.saturating_add(1);
+        self.log.record(&Some(failure));
     }
 }
 
@@ -152,7 +152,7 @@ impl<T> Mark for Watched<T> {
 
     fn clear(&mut self) {
         self.failed = false;
-        self.failure = None;
+        self.log.record(&None);
     }
 
     fn failed(&self) -> bool {
@@ -168,7 +168,7 @@ impl<T: Read> Source for Watched<T> {
     fn take(&mut self, buf: &mut [u8]) -> io::Result<usize> {
         let taken = self.inner.read(buf);
         match &taken {
-            Ok(_) => self.failure = None,
+            Ok(_) => self.log.record(&None),
             Err(error) => self.fail(Failure::Returned(*error)),
         }
         taken
@@ -184,7 +184,7 @@ impl<T: Write> Sink for Watched<T> {
         let given = self.inner.write(buf);
         match &given {
             Ok(0) if !buf.is_empty() => self.fail(Failure::TookNone),
-            Ok(_) => self.failure = None,
+            Ok(_) => self.log.record(&None),
             Err(error) => self.fail(Failure::Returned(*error)),
         }
         given
