@@ -1,10 +1,9 @@
 -- A decoding under way.
-use Rattle.std.proofs.Common.{◌≡◌, ℕ, ◌+◌, ◌-◌, ◌*◌, ◌^◌, ◌<◌, ◌≤◌, min, Bool, true, false, List, [], ◌∷◌, ◌++◌, length, take, drop, refl, sym, ap, subst, ◌∙◌, append_assoc, arith, inl, inr, zero-add, cond, Option, Some, None, Result, Ok, Err}
-use Rattle.std.proofs.Math.Seq.{paste, take-add}
-use Rattle.std.proofs.lemmas.Bool.{cond-true, lt-ltb, ltb-true}
+use Rattle.std.proofs.Common.{◌≡◌, ℕ, ◌+◌, ◌-◌, ◌^◌, ◌<◌, ◌≤◌, min, Bool, true, false, List, [], ◌∷◌, ◌++◌, length, take, drop, refl, sym, ap, subst, ◌∙◌, append_assoc, arith, inl, inr, cond, Option, Some, None, Result, Ok, Err}
+use Rattle.std.proofs.Math.Seq.{take-add}
+use Rattle.std.proofs.lemmas.Bool.{ltb-true}
 use Rattle.std.proofs.lemmas.Grind.{flat_map-append}
-use Rattle.std.proofs.lemmas.List.{append-nil, length-append, length-drop, length-take-le, take-append-drop, drop-take}
-use Rattle.std.proofs.lemmas.List.Edits.{take-paste}
+use Rattle.std.proofs.lemmas.List.{append-nil, length-append, length-drop, length-take-le, take-append-drop}
 use Rattle.std.proofs.lemmas.Str.{chars-encodes, encodes-append}
 use Rattle.std.proofs.str.Laws.{scalars-append}
 use Rattle.std.specs.Char.{encode_utf8}
@@ -15,14 +14,15 @@ use Rattle.std.specs.Str.{all_scalars, chars, encode_utf8_all}
 use Rattle.rope_text.specs.Edit.{size_error}
 use Rattle.rope_text.specs.Text.{byte_len}
 use Rattle.rope_text.specs.declared.error.Error.{Error}
+use Rattle.rope_io.proofs.Buffers as buffers
+pub use Rattle.rope_io.proofs.Readings.{size_fits}
 use Rattle.rope_files.specs.Decoding.{IsDecoded, Settles, Parts, IsSettleError, IsEndError}
-use Rattle.rope_files.specs.Layouts.{BeginsWith, char_bytes, laid_out, IsPart, EndsHalf, EndsUnpaired}
+use Rattle.rope_files.specs.Layouts.{BeginsWith, char_bytes, laid_out, EndsHalf, EndsUnpaired}
 use Rattle.rope_files.specs.Reading.{IsOpen, Answers, Gives}
 use Rattle.rope_files.specs.declared.error.ReadAnyError.{ReadAnyError}
 use Rattle.rope_files.specs.declared.error.ReadAnyError.TheVariants.{Read, NoMark, InvalidUtf8, UnpairedSurrogate, HalfCodeUnit, Rope}
 use Rattle.rope_files.specs.declared.layout.Layout.{Layout}
 use Rattle.rope_files.specs.declared.layout.Layout.TheVariants.{Bytes, CodeUnits}
-use Rattle.rope_files.proofs.Fronts.{length-laid_out}
 
 pub laid_out-append : (l : Layout) (xs ys : List ℕ)
     → laid_out l (xs ++ ys) ≡ laid_out l xs ++ laid_out l ys
@@ -126,15 +126,8 @@ length-laid_more l text more = ap length (laid_out-append l text more)
 -- the rest of a buffer, moved to its front
 pub moved_rest : (buf moved : List ℕ) (n f : ℕ) → n ≤ f → f ≤ length buf
     → moved ≡ copy_within buf n f 0 → take (length (take f buf) - n) moved ≡ drop n (take f buf)
-moved_rest buf moved n f h g same =
-    let k : ℕ = f - n in
-    let e : f ≡ n + k = omega arith in
-    let size : length (take f buf) ≡ f = length-take-le f buf g in
-    let p : take k (paste buf 0 (drop n buf) k) ≡ take k (drop n buf) =
-    subst (λ j. take j (paste buf 0 (drop n buf) k) ≡ take k (drop n buf)) (zero-add k)
-    (take-paste buf 0 (drop n buf) k (omega arith) (omega (arith, length-drop n buf))) in
-    ap (λ j. take (j - n) moved) size ∙ ap (λ xs. take k xs) same ∙ p ∙ sym (drop-take n k buf)
-    ∙ ap (λ j. drop n (take j buf)) (sym e)
+moved_rest buf moved n f h g same = ap (λ j. take (j - n) moved) (length-take-le f buf g)
+    ∙ ap (take (f - n)) same ∙ buffers.moved_rest buf n f h g
 
 size_small_at : (b : Bool) (e : Error) → cond b None (Some e) ≡ None → b ≡ true
 size_small_at true e h = refl
@@ -142,9 +135,6 @@ size_small_at false e h = cc
 
 pub size_small : (n : ℕ) → size_error n ≡ None → n < 2 ^ 63
 size_small n e = ltb-true n (2 ^ 63) (size_small_at _ _ e)
-
-pub size_fits : (n : ℕ) → n < 2 ^ 63 → size_error n ≡ None
-size_fits n h = cond-true _ _ _ (lt-ltb n (2 ^ 63) h)
 
 -- the text in them is added
 pub read_on : (l : Layout) (mark : ℕ) (start new : Option (List ℕ))

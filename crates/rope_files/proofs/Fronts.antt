@@ -1,5 +1,5 @@
 -- Single characters in UTF-16 and Latin-1.
-use Rattle.std.proofs.Common.{inl, inr, ◌/◌, ◌%◌, ◌≡◌, ℕ, ◌+◌, ◌-◌, ◌*◌, ◌<◌, ◌≤◌, Bool, true, false, cond, List, [], ◌∷◌, ◌++◌, length, take, drop, get_or, refl, sym, ap, ◌∙◌, arith, Option, Some, None}
+use Rattle.std.proofs.Common.{inl, inr, ◌/◌, ◌%◌, ◌≡◌, ℕ, ◌+◌, ◌-◌, ◌*◌, ◌<◌, ◌≤◌, List, [], ◌∷◌, ◌++◌, length, take, drop, get_or, refl, sym, ap, ◌∙◌, arith}
 use Rattle.std.proofs.Math.Seq.{take-add}
 use Rattle.std.proofs.lemmas.Bool.{cases_lt, lt-ltb, le-ltb}
 use Rattle.std.proofs.lemmas.List.{append-nil, length-append}
@@ -7,7 +7,6 @@ use Rattle.std.proofs.lemmas.Str.{length-encode, len_utf8_bounds}
 use Rattle.std.proofs.str.Utf16.{one_unit, two_units, pair_units}
 use Rattle.std.proofs.Math.Utf8.{low_scalar}
 use Rattle.std.specs.Char.{IsScalar, len_utf8, encode_utf8}
-use Rattle.std.specs.Char.Escape.{encode_utf16}
 use Rattle.std.specs.List.{flat_map}
 use Rattle.std.specs.Str.{encode_utf8_all}
 use Rattle.rope_files.specs.Encodings.{low_first, high_first}
@@ -91,7 +90,7 @@ begins_two o bs u v c h first second low from below s e = record {
   most = omega (arith, length-encode c, len_utf8_bounds c);
 }
 
-length-unit : (o : ByteOrder) (u : ℕ) → length (unit_bytes o u) ≡ 2
+pub length-unit : (o : ByteOrder) (u : ℕ) → length (unit_bytes o u) ≡ 2
 length-unit Little u = refl
 length-unit Big u = refl
 

@@ -1,9 +1,9 @@
 -- The bytes of a text are those of no other text.
-use Rattle.std.proofs.Common.{◌≡◌, ℕ, ◌+◌, ◌-◌, ◌/◌, ◌%◌, ◌<◌, ◌≤◌, ◌⊎◌, Bool, true, ◌&&◌, List, [], ◌∷◌, ◌++◌, length, refl, sym, ap, subst, ◌∙◌, append_assoc, arith, inl, inr, Option, Some, Result, Ok, Err, IfOk, ◌*◌, false, IsTrue, take, drop, length-drop, nat_eq, None}
+use Rattle.std.proofs.Common.{◌≡◌, ℕ, ◌+◌, ◌-◌, ◌/◌, ◌%◌, ◌<◌, ◌≤◌, ◌⊎◌, Bool, true, List, [], ◌∷◌, ◌++◌, length, refl, sym, ap, subst, ◌∙◌, append_assoc, arith, inl, inr, Option, Some, Result, Ok, Err, IfOk, IsTrue, take, drop, length-drop, nat_eq, None}
 use Rattle.std.proofs.Math.Utf8.{scalar_cases}
 use Rattle.std.proofs.lemmas.Bool.{cases_lt, and_parts, and_from, false≢true, le-leb, leb-true, lt-ltb, ltb-true}
 use Rattle.std.proofs.lemmas.Bool.Decides.{Decides-eqb}
-use Rattle.std.proofs.lemmas.List.{append-nil, length-append, take-append-drop, take-append-le}
+use Rattle.std.proofs.lemmas.List.{append_cancel_left, append-nil, length-append, take-append-drop, take-append-le}
 use Rattle.std.proofs.lemmas.Slice.Eq.{starts_is}
 use Rattle.std.proofs.Math.Seq.{take-append_seam}
 use Rattle.std.proofs.lemmas.Str.{encodes_same, length-encode, len_utf8_bounds, utf8_valid_len-IsUtf8, IsUtf8-encode}
@@ -23,6 +23,8 @@ use Rattle.rope_files.specs.declared.error.ReadAnyError.{ReadAnyError}
 use Rattle.rope_files.specs.declared.error.ReadAnyError.TheVariants.{Read, NoMark, InvalidUtf8, UnpairedSurrogate, HalfCodeUnit, Rope}
 use Rattle.ropey.specs.View.{RopeView, IsRope}
 use Rattle.rope_files.proofs.Files.{front_same, reads_encoding, reads_whole, spelled_in, spelled_utf8}
+use Rattle.rope_files.proofs.Fronts.{length-unit}
+use Rattle.rope_files.proofs.Unpaired.{unit_before, after_two}
 use Rattle.rope_files.specs.Layouts.{unit_bytes, char_bytes, code_unit, laid_out, IsUnpaired, EndsUnpaired, EndsHalf}
 use Rattle.rope_files.specs.declared.encoding.Encoding.{Encoding}
 use Rattle.rope_files.specs.declared.encoding.Encoding.TheVariants.{Utf8, Utf8Bom, Utf16Le, Utf16LeBom, Utf16Be, Utf16BeBom, Latin1}
@@ -97,10 +99,6 @@ char_same (CodeUnits o) c d r t p q e = elim (cases_lt c 0x1_0000) [
   ]
 ]
 
-two_long : (o : ByteOrder) (u : ℕ) → length (unit_bytes o u) ≡ 2
-two_long Little u = refl
-two_long Big u = refl
-
 some_bytes : (l : Layout) (c : ℕ) → 1 ≤ length (char_bytes l c)
 some_bytes Bytes c = omega arith
 some_bytes (CodeUnits o) c = elim (cases_lt c 0x1_0000) [
@@ -109,14 +107,14 @@ some_bytes (CodeUnits o) c = elim (cases_lt c 0x1_0000) [
     ap length (one_spelled o c [] below),
     length-append (char_bytes (CodeUnits o) c) [],
     length-append (unit_bytes o c) [],
-    two_long o c,
+    length-unit o c,
   )
   | inr from ↦ omega (
     arith,
     ap length (two_spelled o c [] from),
     length-append (char_bytes (CodeUnits o) c) [],
     length-append (unit_bytes o (first_of c)) (unit_bytes o (second_of c) ++ []),
-    two_long o (first_of c),
+    length-unit o (first_of c),
   )
 ]
 
@@ -144,13 +142,9 @@ unmarked_same Utf16Be xs ys p q h = laid_same (CodeUnits Big) xs ys p q h
 unmarked_same Utf16BeBom xs ys p q h = laid_same (CodeUnits Big) xs ys p q h
 unmarked_same Latin1 xs ys p q h = laid_same Bytes xs ys p q h
 
-same_rest : (m xs ys : List ℕ) → m ++ xs ≡ m ++ ys → xs ≡ ys
-same_rest [] xs ys e = e
-same_rest (x ∷ m) xs ys e = let rest : m ++ xs ≡ m ++ ys = cc in same_rest m xs ys rest
-
 pub texts_are_told : (e : Encoding) (xs ys : List ℕ) → all_scalars xs ≡ true → all_scalars ys ≡ true
     → encode e xs ≡ encode e ys → xs ≡ ys
-texts_are_told e xs ys p q h = unmarked_same e xs ys p q (same_rest (mark_of e) _ _ h)
+texts_are_told e xs ys p q h = unmarked_same e xs ys p q (append_cancel_left (mark_of e) _ _ h)
 
 pub written_texts_are_read : (encoding : Encoding) (text : List ℕ) (left : Option (List ℕ))
     (failed : Bool) (result : Result (RopeView × Encoding) ReadAnyError) → all_scalars text ≡ true
@@ -194,13 +188,6 @@ first_unit : (o : ByteOrder) (u : ℕ) (rest : List ℕ) → code_unit o (unit_b
 first_unit Little u rest = omega arith
 first_unit Big u rest = omega arith
 
-unit_before : (o : ByteOrder) (bytes more : List ℕ) → 2 ≤ length bytes
-    → code_unit o (bytes ++ more) ≡ code_unit o bytes
-unit_before o [] more h = absurd (omega arith)
-unit_before o (x ∷ []) more h = absurd (omega arith)
-unit_before Little (x ∷ y ∷ bytes) more h = refl
-unit_before Big (x ∷ y ∷ bytes) more h = refl
-
 past_unit : (o : ByteOrder) (u : ℕ) (rest : List ℕ) → drop 2 (unit_bytes o u ++ rest) ≡ rest
 past_unit Little u rest = refl
 past_unit Big u rest = refl
@@ -213,11 +200,6 @@ is_low u h = let p = and_parts _ _ h in (leb-true 0xDC00 u p.0, ltb-true u 0xE00
 
 low_is : (u : ℕ) → 0xDC00 ≤ u → u < 0xE000 → is_low_surrogate u ≡ true
 low_is u from below = and_from _ _ (le-leb 0xDC00 u from) (lt-ltb u 0xE000 below)
-
-after_two : (rest more : List ℕ) → 2 ≤ length rest → drop 2 (rest ++ more) ≡ drop 2 rest ++ more
-after_two [] more h = absurd (omega arith)
-after_two (x ∷ []) more h = absurd (omega arith)
-after_two (x ∷ y ∷ rest) more h = refl
 
 -- where the bytes of a text begin with a code unit, it is that of its first character
 unit_of_one : (o : ByteOrder) (d : ℕ) (text rest more : List ℕ) → d < 0x1_0000
@@ -291,8 +273,8 @@ never_ends_unpaired o (d ∷ text) rest q e (high, two, few) =
         length-append (unit_bytes o (first_of d))
             (unit_bytes o (second_of d) ++ laid_out (CodeUnits o) text),
         length-append (unit_bytes o (second_of d)) (laid_out (CodeUnits o) text),
-        two_long o (first_of d),
-        two_long o (second_of d),
+        length-unit o (first_of d),
+        length-unit o (second_of d),
       ))
     ]
 
@@ -303,14 +285,14 @@ two_bytes o c = elim (cases_lt c 0x1_0000) [
     ap length (one_spelled o c [] below),
     length-append (char_bytes (CodeUnits o) c) [],
     length-append (unit_bytes o c) [],
-    two_long o c,
+    length-unit o c,
   )
   | inr from ↦ omega (
     arith,
     ap length (two_spelled o c [] from),
     length-append (char_bytes (CodeUnits o) c) [],
     length-append (unit_bytes o (first_of c)) (unit_bytes o (second_of c) ++ []),
-    two_long o (first_of c),
+    length-unit o (first_of c),
   )
 ]
 
@@ -353,7 +335,7 @@ rest_of_text : (e : Encoding) (l : Layout) (text t rest bytes held all zs : List
     → bytes ≡ encode_unmarked e t ++ rest → (more : List ℕ) × (all_scalars more ≡ true)
     × (rest ++ (held ++ zs) ≡ laid_out l more)
 rest_of_text e l text t rest bytes held all zs is p q given all_is whole =
-    let body : encode_unmarked e text ≡ bytes ++ (held ++ zs) = same_rest (mark_of e) _ _
+    let body : encode_unmarked e text ≡ bytes ++ (held ++ zs) = append_cancel_left (mark_of e) _ _
     (given ∙ ap (λ xs. xs ++ zs) all_is ∙ append_assoc (mark_of e) (bytes ++ held) zs
     ∙ ap (λ xs. mark_of e ++ xs) (append_assoc bytes held zs)) in
     goes_on l t text (rest ++ (held ++ zs)) q p
@@ -381,7 +363,7 @@ short_rest (c ∷ cs) bytes more s e = elim (cases_lt (length bytes) (length (en
       let parts : bytes ≡ encode_utf8 c ++ drop n bytes = sym (take-append-drop n bytes)
       ∙ ap (λ xs. xs ++ drop n bytes) front in
       let rest : encode_utf8_all cs ≡ drop n bytes
-      ++ more = same_rest (encode_utf8 c) _ _
+      ++ more = append_cancel_left (encode_utf8 c) _ _
       (e ∙ ap (λ xs. xs ++ more) parts ∙ append_assoc (encode_utf8 c) (drop n bytes) more) in
       let same : text_rest bytes ≡ text_rest (drop n bytes) = ap text_rest parts
       ∙ text_rest-append (encode_utf8 c) (drop n bytes) (IsUtf8-encode c (and_parts _ _ s).0) in
@@ -422,7 +404,7 @@ never_refused encoding text None failed (Err InvalidUtf8) s
     (e, is, u, inr (held, short, (all, given, a))) n = absurd given
 never_refused encoding text (Some zs) failed (Err InvalidUtf8) s
     (e, is, u, inr (held, short, (all, given, (bytes, all_is, (clear, utf8, refused))))) n =
-    let body : encode_unmarked e text ≡ bytes ++ (held ++ zs) = same_rest (mark_of e) _ _
+    let body : encode_unmarked e text ≡ bytes ++ (held ++ zs) = append_cancel_left (mark_of e) _ _
     (subst (λ x. encode x text ≡ all ++ zs) (sym is) given ∙ ap (λ xs. xs ++ zs) all_is
     ∙ append_assoc (mark_of e) (bytes ++ held) zs
     ∙ ap (λ xs. mark_of e ++ xs) (append_assoc bytes held zs)) in

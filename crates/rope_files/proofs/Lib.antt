@@ -1,4 +1,3 @@
-pub mod Buffers
 pub mod Decodings
 pub mod Files
 pub mod Fronts

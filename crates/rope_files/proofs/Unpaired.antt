@@ -1,5 +1,5 @@
 -- Surrogates that are in no pair, before other bytes.
-use Rattle.std.proofs.Common.{◌≡◌, ℕ, ◌+◌, ◌<◌, ◌≤◌, IsTrue, List, [], ◌∷◌, ◌++◌, length, drop, refl, sym, ap, subst, ◌∙◌, arith, inl, inr}
+use Rattle.std.proofs.Common.{◌≡◌, ℕ, ◌+◌, ◌≤◌, IsTrue, List, [], ◌∷◌, ◌++◌, length, drop, refl, sym, ap, subst, ◌∙◌, arith, inl, inr}
 use Rattle.std.proofs.lemmas.List.{length-append}
 use Rattle.std.specs.Char.Utf16.{is_high_surrogate, is_low_surrogate}
 use Rattle.rope_files.specs.Layouts.{code_unit, IsUnpaired}
@@ -8,14 +8,14 @@ use Rattle.rope_files.specs.declared.layout.ByteOrder.TheVariants.{Little, Big}
 use Rattle.rope_files.specs.declared.layout.Layout.{Layout}
 use Rattle.rope_files.specs.declared.layout.Layout.TheVariants.{Bytes, CodeUnits}
 
-unit_before : (o : ByteOrder) (xs ys : List ℕ) → 2 ≤ length xs
+pub unit_before : (o : ByteOrder) (xs ys : List ℕ) → 2 ≤ length xs
     → code_unit o (xs ++ ys) ≡ code_unit o xs
 unit_before o [] ys h = absurd (omega arith)
 unit_before o (x ∷ []) ys h = absurd (omega arith)
 unit_before Little (x ∷ y ∷ xs) ys h = refl
 unit_before Big (x ∷ y ∷ xs) ys h = refl
 
-after_two : (xs ys : List ℕ) → 2 ≤ length xs → drop 2 (xs ++ ys) ≡ drop 2 xs ++ ys
+pub after_two : (xs ys : List ℕ) → 2 ≤ length xs → drop 2 (xs ++ ys) ≡ drop 2 xs ++ ys
 after_two [] ys h = absurd (omega arith)
 after_two (x ∷ []) ys h = absurd (omega arith)
 after_two (x ∷ y ∷ xs) ys h = refl

@@ -1,12 +1,11 @@
 -- A writing under way.
-use Rattle.std.proofs.Common.{◌≡◌, ◌+◌, ◌<◌, ◌≤◌, ℕ, Bool, false, true, List, [], ◌∷◌, ◌++◌, length, arith, refl, Ok, Err, Result, OnOk, OnErr, cond, sym, ap, subst, ◌∙◌, append_assoc, Option, None, Some}
+use Rattle.std.proofs.Common.{◌≡◌, ◌+◌, ◌<◌, ℕ, Bool, false, true, List, [], ◌∷◌, ◌++◌, arith, refl, cond, sym, ap, subst, ◌∙◌, append_assoc, Option, None, Some}
 use Rattle.std.proofs.KnownBytes.{Appends-trans}
 use Rattle.std.proofs.lemmas.Bool.{ltb-false}
 use Rattle.std.proofs.lemmas.List.{append-nil}
 use Rattle.std.specs.Io.KnownBytes.{Appends}
-use Rattle.std.specs.declared.io.Error.{Error}
 use Rattle.rope_io.specs.Writing.{AppendsFront}
-use Rattle.rope_io.specs.declared.device.Failure.{Failure}
+use Rattle.rope_io.proofs.Writings.{front_more}
 use Rattle.rope_files.specs.Encodings.{encode, layout_of, mark_of}
 use Rattle.rope_files.specs.Layouts.{laid_out, char_bytes, bytes_in}
 use Rattle.rope_files.specs.Writing.{first_above, unencodable_in}
@@ -15,28 +14,6 @@ use Rattle.rope_files.specs.declared.encoding.Encoding.TheVariants.{Utf8, Utf8Bo
 use Rattle.rope_files.specs.declared.layout.Layout.{Layout}
 use Rattle.rope_files.specs.declared.layout.Layout.TheVariants.{Bytes, CodeUnits}
 use Rattle.rope_files.proofs.Decodings.{laid_out-append}
-
--- no call has failed since the writing began
-pub record NoneFailed (marked : Bool) (failure : Option Failure) (start now : ℕ) : Type 0 where
-  pub clear : marked ≡ false
-  pub none : failure ≡ None
-  pub same : now ≡ start
-
-pub front_all : (old new : Option (List ℕ)) (bs : List ℕ) → Appends old new bs
-    → AppendsFront old new bs
-front_all old new bs p = record { front = bs; back = []; whole = sym (append-nil bs); appended = p }
-
--- a writing of what comes next that stopped on its way
-pub front_more : (start mid end : Option (List ℕ)) (bytes done next rest : List ℕ)
-    → bytes ≡ done ++ (next ++ rest)
-    → Appends start mid done → AppendsFront mid end next → AppendsFront start end bytes
-front_more start mid end bytes done next rest e p q = record {
-  front = done ++ q.front;
-  back = q.back ++ rest;
-  whole = e ∙ ap (λ y. done ++ y) (ap (λ y. y ++ rest) q.whole ∙ append_assoc q.front q.back rest)
-      ∙ sym (append_assoc done q.front (q.back ++ rest));
-  appended = Appends-trans start mid end done q.front p q.appended;
-}
 
 -- the bytes of the mark and the characters before those ahead were sent, or are gathered
 pub record IsGathering (l : Layout) (start now : Option (List ℕ))
@@ -140,10 +117,6 @@ module _ (l : Layout) (start now new : Option (List ℕ)) (mark text gathered : 
       (gathered_whole ahead i ∙ ap (λ xs. i.sent ++ (gathered ++ laid_out l xs)) e
       ∙ ap (λ xs. i.sent ++ xs) (append-nil gathered)))
       (Appends-trans start now new i.sent gathered i.appended p)
-
-pub on_ok : {A B : Type 0} (r : Result (Unit {0}) Error) → OnOk r A → (A → B) → OnOk r B
-on_ok (Ok u) p f = f p
-on_ok (Err e) p f = tt
 
 in_encoding : (e : Encoding) (text : List ℕ)
     → mark_of e ++ bytes_in (layout_of e) text ≡ encode e text

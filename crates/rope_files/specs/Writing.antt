@@ -2,7 +2,7 @@
 use Rattle.std.specs.Prelude.{◌≡◌, ℕ, List, ◌++◌, nat_lt, ⊤, Option, None, Some, Result, Ok, Err}
 use Rattle.std.specs.Io.KnownBytes.{Appends}
 use Rattle.std.specs.List.{position_from}
-use Rattle.rope_io.specs.Failing.{Reports, count_failure}
+use Rattle.rope_io.specs.Failing.{Reports}
 use Rattle.rope_io.specs.declared.device.Failure.{Failure}
 use Rattle.rope_files.specs.Encodings.{layout_of}
 use Rattle.rope_files.specs.declared.encoding.Encoding.{Encoding}

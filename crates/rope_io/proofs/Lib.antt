@@ -1,3 +1,4 @@
+pub mod Buffers
 pub mod Exact
 pub mod Readings
 pub mod Writings

@@ -1,13 +1,11 @@
 -- A read in progress.
-use Rattle.std.proofs.Common.{◌≡◌, ℕ, ◌+◌, ◌-◌, ◌<◌, ◌≤◌, ◌^◌, Bool, false, IsTrue, List, [], ◌++◌, length, take, drop, refl, sym, ap, subst, ◌∙◌, append_assoc, arith, zero-add, inl, inr, Option, None, Some}
+use Rattle.std.proofs.Common.{◌≡◌, ℕ, ◌+◌, ◌<◌, ◌≤◌, ◌^◌, Bool, false, IsTrue, List, [], ◌++◌, length, take, drop, refl, sym, ap, subst, ◌∙◌, append_assoc, arith, inl, inr, Option, None, Some}
 use Rattle.std.specs.Io.KnownBytes.{Consumes, Keeps, IsAtEnd}
-use Rattle.std.specs.List.{copy_within}
 use Rattle.std.specs.Str.{IsUtf8, encode_utf8_all}
 use Rattle.std.specs.Str.Lossy.{utf8_valid_len}
-use Rattle.std.proofs.Math.Seq.{paste, take-append-add}
+use Rattle.std.proofs.KnownBytes.{Consumes-nil, Consumes-kept}
 use Rattle.std.proofs.lemmas.Bool.{cond-true, lt-ltb}
-use Rattle.std.proofs.lemmas.List.{take-append-le, take-append-drop, length-take-le, length-append, length-drop, drop-take}
-use Rattle.std.proofs.lemmas.List.Edits.{take-paste}
+use Rattle.std.proofs.lemmas.List.{take-append-drop, length-take-le, length-append}
 use Rattle.std.proofs.lemmas.Str.{IsUtf8-append, IsUtf8-nil, utf8_valid_len_le, utf8_valid_len-IsUtf8}
 use Rattle.rope_text.specs.Text.{byte_len}
 use Rattle.rope_text.specs.Edit.{size_error, IsRefusal}
@@ -19,7 +17,9 @@ use Rattle.std.specs.Result.{IsErrAnd}
 use Rattle.rope_io.specs.declared.error.ReadError.{ReadError}
 use Rattle.rope_io.specs.declared.error.ReadError.TheVariants.{Rope}
 use Rattle.rope_io.specs.Reading.{Fits, has_ended, Answers}
-use borrow.Rule.Slice.PartMut.{put_mid, post_of}
+use Rattle.rope_io.proofs.Buffers.{length-front_read}
+use Rattle.rope_io.proofs.Buffers as buffers
+use borrow.Rule.Slice.PartMut.{put_mid}
 
 pub length-text_front : (bs : List ℕ) → length (text_front bs) ≡ utf8_valid_len bs
 length-text_front bs = length-take-le (utf8_valid_len bs) bs (utf8_valid_len_le bs)
@@ -42,37 +42,6 @@ front_after xs ys u =
 pub size_fits : (n : ℕ) → n < 2 ^ 63 → size_error n ≡ None
 size_fits n h = cond-true _ _ _ (lt-ltb n (2 ^ 63) h)
 
--- the rest of a buffer, moved to its front
-pub moved_rest : (buf : List ℕ) (d f : ℕ) → d ≤ f → f ≤ length buf
-    → take (f - d) (copy_within buf d f 0) ≡ drop d (take f buf)
-moved_rest buf d f h g =
-    let k : ℕ = f - d in
-    let e : f ≡ d + k = omega arith in
-    let p : take k (paste buf 0 (drop d buf) k) ≡ take k (drop d buf) =
-    subst (λ j. take j (paste buf 0 (drop d buf) k) ≡ take k (drop d buf)) (zero-add k)
-    (take-paste buf 0 (drop d buf) k (omega arith) (omega (arith, length-drop d buf))) in
-    p ∙ sym (drop-take d k buf) ∙ ap (λ j. drop d (take j buf)) (sym e)
-
-Consumes-none : (known : Option (List ℕ)) → Consumes known known []
-Consumes-none None = tt
-Consumes-none (Some xs) = refl
-
-Consumes-more : (start mid end : Option (List ℕ)) (xs ys : List ℕ) → Consumes start mid xs
-    → Consumes mid end ys → Consumes start end (xs ++ ys)
-Consumes-more None mid end xs ys p q = tt
-Consumes-more (Some vs) None end xs ys p q = absurd p
-Consumes-more (Some vs) (Some us) None xs ys p q = absurd q
-Consumes-more (Some vs) (Some us) (Some ws) xs ys p q = p ∙ ap (λ zs. xs ++ zs) q
-    ∙ sym (append_assoc xs ys ws)
-
--- a failed read gave nothing
-Consumes-kept : (start mid new : Option (List ℕ)) (bs : List ℕ) → Consumes start mid bs
-    → Keeps mid new → Consumes start new bs
-Consumes-kept None mid new bs p q = tt
-Consumes-kept (Some vs) None new bs p q = absurd p
-Consumes-kept (Some vs) (Some us) None bs p q = absurd q
-Consumes-kept (Some vs) (Some us) (Some ws) bs p q = p ∙ ap (λ zs. bs ++ zs) (sym q)
-
 -- the bytes given so far are those of the text and the held ones, which begin with no text
 pub record HasRead (start now : Option (List ℕ)) (text held : List ℕ) : Type 0 where
   pub given : Consumes start now (encode_utf8_all text ++ held)
@@ -91,7 +60,7 @@ pub record IsReading (start now : Option (List ℕ)) (text buffer : List ℕ) (f
 pub nothing_read : (start : Option (List ℕ)) (text : List ℕ) → text ≡ []
     → HasRead start start text []
 nothing_read start text e = subst (λ t. HasRead start start t []) (sym e) (record {
-  given = Consumes-none start;
+  given = Consumes-nil start;
   no_text = utf8_valid_len-IsUtf8 [] IsUtf8-nil;
   utf8 = IsUtf8-nil;
   fits = omega arith;
@@ -129,16 +98,6 @@ module _ (start now : Option (List ℕ)) (text held : List ℕ) (h : HasRead sta
       → Consumes start new (encode_utf8_all text ++ held)
   given_kept new k = Consumes-kept start now new (encode_utf8_all text ++ held) h.given k
 
--- the front of the buffer after a read
-front_read : (buf ys : List ℕ) (filled room count : ℕ) → filled ≤ length buf → count ≤ length ys
-    → take (filled + count) (put_mid filled room buf ys) ≡ take filled buf ++ take count ys
-front_read buf ys filled room count h k =
-    let f = length-take-le filled buf h in
-    subst (λ n. take (n + count) (take filled buf ++ (ys ++ post_of filled room buf))
-    ≡ take filled buf ++ take count (ys ++ post_of filled room buf)) f
-    (take-append-add (take filled buf) (ys ++ post_of filled room buf) count)
-    ∙ ap (λ zs. take filled buf ++ zs) (take-append-le count ys (post_of filled room buf) k)
-
 -- the held bytes after one more read
 module _ (start mid new : Option (List ℕ)) (text buf ys : List ℕ) (filled room count : ℕ)
     (within : filled ≤ length buf) (some : count ≤ length ys)
@@ -146,22 +105,11 @@ module _ (start mid new : Option (List ℕ)) (text buf ys : List ℕ) (filled ro
   pub given_more : Consumes start new (encode_utf8_all text
       ++ take (filled + count) (put_mid filled room buf ys))
   given_more =
-      subst (Consumes start new)
-      (append_assoc (encode_utf8_all text) (take filled buf) (take count ys)
-      ∙ ap (λ zs. encode_utf8_all text ++ zs)
-      (sym (front_read buf ys filled room count within some)))
-      (Consumes-more start mid new (encode_utf8_all text ++ take filled buf) (take count ys) h.given
-      more)
+      buffers.given_more start mid new (encode_utf8_all text) buf ys filled room count within some
+      h.given more
 
   pub length_held : length (take (filled + count) (put_mid filled room buf ys)) ≡ filled + count
-  length_held =
-      omega (
-        arith,
-        ap length (front_read buf ys filled room count within some),
-        length-append (take filled buf) (take count ys),
-        length-take-le filled buf within,
-        length-take-le count ys some,
-      )
+  length_held = length-front_read buf ys filled room count within some
 
   -- the text at their front is moved to the builder
   pub read_on : (text_new rest : List ℕ) → encode_utf8_all text_new ≡ encode_utf8_all text

@@ -1,5 +1,6 @@
 -- A write in progress.
-use Rattle.std.proofs.Common.{◌≡◌, ◌<◌, ℕ, Bool, false, List, [], ◌++◌, arith, Ok, sym, ap, subst, ◌∙◌, append_assoc, Option, None, Some}
+use Rattle.std.proofs.Common.{◌≡◌, ◌<◌, ℕ, Bool, false, List, [], ◌++◌, arith, Ok, sym, ap, subst, ◌∙◌, append_assoc, Option, None}
+use Rattle.std.proofs.KnownBytes.{Appends-trans}
 use Rattle.std.specs.Io.KnownBytes.{Appends}
 use Rattle.std.specs.List.{concat}
 use Rattle.std.specs.Str.{chars, encode_utf8_all, IsUtf8}
@@ -26,18 +27,6 @@ pub record IsWriting (start now : Option (List ℕ)) (bytes rest : List ℕ) : T
 pub took_some : (n : ℕ) (bs : List ℕ) → 0 < n → write_failure (Ok n) bs ≡ None
 took_some n bs some = cond-false _ _ _ (ne_eqb n 0 (λ e. omega (arith, e, some)))
 
-pub Appends-none : (known : Option (List ℕ)) → Appends known known []
-Appends-none None = tt
-Appends-none (Some xs) = sym (append-nil xs)
-
-pub Appends-more : (start mid end : Option (List ℕ)) (xs ys : List ℕ) → Appends start mid xs
-    → Appends mid end ys → Appends start end (xs ++ ys)
-Appends-more None mid end xs ys p q = tt
-Appends-more (Some vs) None end xs ys p q = absurd p
-Appends-more (Some vs) (Some us) None xs ys p q = absurd q
-Appends-more (Some vs) (Some us) (Some ws) xs ys p q = q ∙ ap (λ zs. zs ++ ys) p
-    ∙ append_assoc vs xs ys
-
 pub front_all : (old new : Option (List ℕ)) (bs : List ℕ) → Appends old new bs
     → AppendsFront old new bs
 front_all old new bs p = record { front = bs; back = []; whole = sym (append-nil bs); appended = p }
@@ -51,7 +40,7 @@ front_more start mid end bytes done next rest e p q = record {
   back = q.back ++ rest;
   whole = e ∙ ap (λ y. done ++ y) (ap (λ y. y ++ rest) q.whole ∙ append_assoc q.front q.back rest)
       ∙ sym (append_assoc done q.front (q.back ++ rest));
-  appended = Appends-more start mid end done q.front p q.appended;
+  appended = Appends-trans start mid end done q.front p q.appended;
 }
 
 -- all chunks except those ahead have been written
@@ -69,7 +58,7 @@ chunk_written start mid end before s u p q =
     subst (Appends start end)
     (sym (encodes-append before (chars s)
     ∙ ap (λ y. encode_utf8_all before ++ y) (encodes-chars s u)))
-    (Appends-more start mid end (encode_utf8_all before) s p q)
+    (Appends-trans start mid end (encode_utf8_all before) s p q)
 
 -- or only a prefix of it
 pub chunk_begun : (start mid end : Option (List ℕ)) (text before s : List ℕ) (ahead : List (List ℕ))

@@ -1,8 +1,8 @@
-use Rattle.std.proofs.Common.{◌≡◌, ◌+◌, ◌-◌, ◌≤◌, ◌++◌, length, take, length-drop, refl, ap, ◌∙◌, arith}
+use Rattle.std.proofs.Common.{◌+◌, ◌-◌, ◌≤◌, ◌++◌, length, take, length-drop, refl, ap, ◌∙◌, arith}
 use Rattle.std.proofs.KnownBytes.{Consumes-kept}
 use Rattle.std.proofs.lemmas.List.{append-nil}
 use Rattle.rope_files.specs.Layouts.{laid_out}
-use Rattle.rope_files.proofs.Buffers.{given_more, length-front_read}
+use Rattle.rope_io.proofs.Buffers.{given_more, length-front_read}
 use Rattle.rope_files.proofs.Decodings.{read_on, length_on, settle_answers, end_answers}
 use Rattle.rope_files.proofs.Fronts.{length-laid_out}
 use borrow.Rule.Slice.PartMut.{put_mid}

@@ -2,8 +2,8 @@ use Rattle.std.proofs.Common.{[], sym, subst, ◌∙◌}
 use Rattle.std.proofs.lemmas.List.{append-nil}
 use Rattle.rope_text.specs.Edit.{IsRefusal}
 use Rattle.rope_text.specs.Text.{byte_len}
+use Rattle.rope_io.proofs.Readings.{size_fits}
 use Rattle.rope_files.specs.Layouts.{laid_out}
-use Rattle.rope_files.proofs.Decodings.{size_fits}
 use Rattle.rope_files.proofs.reading.read_laid.Goals as goal
 
 pub returns-in-Err-finish-clause-answer : goal.returns-in-Err-finish-clause-answer

@@ -1,11 +1,11 @@
-use Rattle.std.proofs.Common.{◌≡◌, ◌∷◌, ◌++◌, ap, subst, sym, ◌∙◌, rules}
+use Rattle.std.proofs.Common.{◌≡◌, ap, subst, sym, ◌∙◌, rules}
 use Rattle.std.specs.Io.KnownBytes.{Appends}
+use Rattle.std.proofs.lemmas.Result.{on_ok_weaker}
 use Rattle.rope_io.specs.Failing.{count_failure}
 use Rattle.rope_io.specs.Writing.{AppendsFront}
 use Rattle.rope_text.specs.Sides.{ahead}
 use Rattle.rope_files.specs.Layouts.{laid_out}
-use Rattle.rope_files.specs.Writing.{Sends}
-use Rattle.rope_files.proofs.Writings.{CanHave, can_all, front_front, gather_none, gather_more, gathered_front, gathered_all, can_rest, on_ok}
+use Rattle.rope_files.proofs.Writings.{CanHave, can_all, front_front, gather_none, gather_more, gathered_front, gathered_all, can_rest}
 use Rattle.rope_files.proofs.writing.write_laid.Goals as goal
 
 pub returns-in_err-write_bytes-clause-front : goal.returns-in_err-write_bytes-clause-front
@@ -41,12 +41,12 @@ loop-c-preserved g c =
 
 pub returns-clause-ok : goal.returns-clause-ok
 returns-clause-ok g c =
-    on_ok c.write_bytes-2.result c.write_bytes-2.ensures.ok
+    on_ok_weaker c.write_bytes-2.result
     (λ p. gathered_all c.args.layout _ _ _ c.args.mark.now c.args.rope.now.text
     c.loop-c.gathered.items (ahead c.loop-c.c-iterator) c.loop-c.invariant.gathering
     c.in-None.ensures.steps.0
     (subst (Appends (g.S.Sink.contents c.loop-c.sink) (g.S.Sink.contents c.write_bytes-2.new.sink))
-    c.as_slice.ensures.value p))
+    c.as_slice.ensures.value p)) c.write_bytes-2.ensures.ok
 
 pub returns-clause-front : goal.returns-clause-front
 returns-clause-front g c =

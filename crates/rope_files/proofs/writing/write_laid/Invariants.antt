@@ -1,6 +1,7 @@
 use Rattle.std.proofs.Common.{length}
 use Rattle.rope_text.specs.Sides.{ahead}
-use Rattle.rope_files.proofs.Writings.{IsGathering, CanHave, NoneFailed}
+use Rattle.rope_io.proofs.Writings.{NoneFailed}
+use Rattle.rope_files.proofs.Writings.{IsGathering, CanHave}
 use Rattle.rope_files.proofs.writing.write_laid.Given as goal
 
 abbrev pub invariant-loop-c : goal.invariant-loop-c

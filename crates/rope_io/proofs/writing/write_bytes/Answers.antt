@@ -1,7 +1,8 @@
 use Rattle.std.proofs.Common.{◌≡◌, ◌++◌, None, Ok, take, drop, arith, sym, ap, ◌∙◌, inl, append_assoc, length-drop}
+use Rattle.std.proofs.KnownBytes.{Appends-trans}
 use Rattle.std.proofs.lemmas.List.{take-append-drop, take_all}
 use Rattle.rope_io.specs.Failing.{write_failure, count_failure}
-use Rattle.rope_io.proofs.Writings.{Appends-more, took_some}
+use Rattle.rope_io.proofs.Writings.{took_some}
 use Rattle.rope_io.proofs.writing.write_bytes.Goals as goal
 
 pub loop-rest-preserved : goal.loop-rest-preserved
@@ -18,7 +19,7 @@ loop-rest-preserved g c =
             ∙ sym (append_assoc i.done (take n r) (drop n r))
             ∙ ap (λ zs. (i.done ++ take n r) ++ zs)
             (sym (take_all _ (drop n r) (omega (arith, length-drop n r))));
-        appended = Appends-more _ _ _ i.done (take n r) i.appended c.in_ok-count.ensures.bytes;
+        appended = Appends-trans _ _ _ i.done (take n r) i.appended c.in_ok-count.ensures.bytes;
       };
       none_failed = record {
         clear = c.in_ok-count.ensures.ok (inl (omega arith)) ∙ f.clear;

@@ -1,11 +1,12 @@
 use Rattle.std.proofs.Common.{◌∷◌, ◌++◌, [], ap, sym, ◌∙◌, append_assoc}
+use Rattle.std.proofs.KnownBytes.{Appends-nil}
 use Rattle.std.specs.List.{concat}
 use Rattle.std.specs.Str.{chars}
 use Rattle.rope_text.specs.Sides.{ahead}
 use Rattle.rope_slice.specs.Slice.{text_of}
 use Rattle.rope_slice.proofs.Kept.{chunks_join}
 use Rattle.rope_io.specs.Failing.{count_failure}
-use Rattle.rope_io.proofs.Writings.{Appends-none, chunk_written, chunk_begun, all_written, front_all}
+use Rattle.rope_io.proofs.Writings.{chunk_written, chunk_begun, all_written, front_all}
 use Rattle.rope_io.proofs.writing.write_slice.Goals as goal
 
 pub loop-chunk-init : goal.loop-chunk-init
@@ -20,7 +21,7 @@ loop-chunk-init g c =
             ∙ c.chunks-chunk-items.ensures));
         appended =
             rw (c.clear.ensures, g.met.S.Sink.cleared_contents old)
-            (Appends-none (g.S.Sink.contents old));
+            (Appends-nil (g.S.Sink.contents old));
       };
       none_failed = record {
         clear = rw c.clear.ensures (g.met.S.Mark.cleared_unmarked old);
