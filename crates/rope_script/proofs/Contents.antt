@@ -4,12 +4,12 @@ use Rattle.std.proofs.lemmas.List.{map-set, map-append, length-map, length-set, 
 use Rattle.std.proofs.Math.ListN.{get_or-map}
 use Rattle.rope_text.specs.declared.error.Error.{Error}
 use Rattle.rope_text.specs.declared.error.Error.TheVariants.{OutOfMemory}
-use Rattle.rope_text.specs.declared.line_breaks.LineBreaks.{LineBreaks}
 use Rattle.rope_text.specs.Content.{Content}
 use Rattle.rope_text.specs.Content as of_content_specs
 use Rattle.rope_text.specs.Cutting.{IsChunkSize}
 use Rattle.rope_text.specs.Text.{byte_len}
 use Rattle.rope_slice.proofs.Clips.{whole_part, whole_clip}
+use Rattle.rope_slice.proofs.PartsBetween as parts_between
 use Rattle.rope_slice.specs.Sliced.{IsSlice}
 use Rattle.rope_text.specs.Edit.{IsRefusal, char_index_error, append_error}
 use Rattle.ropey.specs.View.{RopeView, IsRope, HasFewChunks, content}
@@ -211,14 +211,6 @@ uncopied_of old r range rope part error h e found memory =
     (map content old) (Refused error) (map content old))) (sym found)
     (inr (ap Refused memory, refl)))
 
-same_content_by : (c d : Content) → c.text ≡ d.text → c.chunks ≡ d.chunks → c.breaks ≡ d.breaks
-    → c ≡ d
-same_content_by c d t p b =
-    let of : List ℕ → List (List ℕ) → LineBreaks → Content =
-    λ text chunks breaks. record { text = text; chunks = chunks; breaks = breaks } in
-    ap (λ text. of text c.chunks c.breaks) t ∙ ap (λ chunks. of d.text chunks c.breaks) p
-    ∙ ap (of d.text d.chunks) b
-
 -- a chunk of a rope has a character
 some_chunk : (chunk : List ℕ) → IsChunkSize (byte_len chunk) → 0 < length chunk
 some_chunk [] size = absurd (omega arith)
@@ -228,7 +220,7 @@ some_chunk (c ∷ chunk) size = omega arith
 pub whole_slice : (rope slice : Content) → of_content_specs.IsRope rope
     → IsSlice rope 0 (length rope.text) slice → slice ≡ rope
 whole_slice rope slice kept s =
-    same_content_by slice rope
+    parts_between.same_content slice rope
     (s.text ∙ whole_part rope.text 0 (length rope.text) refl refl)
     (s.chunks ∙ whole_clip rope.chunks 0 (length rope.text)
     (λ i d l. some_chunk _ (kept.cut.sized i d l)) refl (ap length (sym kept.cut.joined)))
