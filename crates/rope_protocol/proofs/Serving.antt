@@ -1,6 +1,7 @@
 -- Bytes put one after another into a buffer or a writer.
-use Rattle.std.proofs.Common.{◌≡◌, ℕ, List, [], ◌∷◌, ◌++◌, Option, Some, None, Result, Ok, Err, IfErr, OnOk, refl, sym, ap, subst, ◌∙◌, append_assoc}
+use Rattle.std.proofs.Common.{◌≡◌, ℕ, List, [], ◌∷◌, ◌++◌, Option, Result, Ok, Err, IfErr, OnOk, refl, sym, ap, subst, ◌∙◌, append_assoc}
 use Rattle.std.specs.Io.KnownBytes.{Appends}
+use Rattle.std.proofs.KnownBytes.{Appends-nil, Appends-trans}
 use Rattle.std.proofs.lemmas.List.{append-nil}
 use Rattle.std.proofs.lemmas.Grind.{flat_map-append}
 use Rattle.rope_text.specs.Content.{Content}
@@ -10,22 +11,11 @@ use Rattle.rope_protocol.specs.ReplyLine.{reply_line, reply_lines}
 use Rattle.rope_script.specs.Step.{Step, Runs}
 use Rattle.rope_protocol.specs.Serving.{Puts, PutsRun, WritesReplies}
 
-pub Appends-nothing : (o : Option (List ℕ)) → Appends o o []
-Appends-nothing None = tt
-Appends-nothing (Some xs) = sym (append-nil xs)
-
-pub Appends-both : (old mid new : Option (List ℕ)) (xs ys : List ℕ) → Appends old mid xs
-    → Appends mid new ys → Appends old new (xs ++ ys)
-Appends-both None mid new xs ys p q = tt
-Appends-both (Some a) None new xs ys p q = absurd p
-Appends-both (Some a) (Some b) None xs ys p q = absurd q
-Appends-both (Some a) (Some b) (Some c) xs ys p q = q ∙ ap (λ zs. zs ++ ys) p ∙ append_assoc a xs ys
-
 -- nothing was put
 pub Puts-nothing : (o : Option (List ℕ)) (before : List ℕ) → Puts o o before before []
 Puts-nothing o before = record {
   out = [];
-  appended = Appends-nothing o;
+  appended = Appends-nil o;
   joined = sym (append-nil before);
 }
 
@@ -33,7 +23,7 @@ pub Puts-both : (o p q : Option (List ℕ)) (a b c xs ys : List ℕ) → Puts o 
     → Puts o q a c (xs ++ ys)
 Puts-both o p q a b c xs ys s t = record {
   out = s.out ++ t.out;
-  appended = Appends-both o p q s.out t.out s.appended t.appended;
+  appended = Appends-trans o p q s.out t.out s.appended t.appended;
   joined = append_assoc s.out t.out c ∙ ap (λ zs. s.out ++ zs) t.joined
       ∙ sym (append_assoc s.out b ys) ∙ ap (λ zs. zs ++ ys) s.joined ∙ append_assoc a xs ys;
 }
@@ -43,7 +33,7 @@ pub Puts-flushed : (o p q : Option (List ℕ)) (a b c : List ℕ) → Puts o p a
     → c ≡ [] → Puts o q a c []
 Puts-flushed o p q a b c s x e = record {
   out = s.out ++ b;
-  appended = Appends-both o p q s.out b s.appended x;
+  appended = Appends-trans o p q s.out b s.appended x;
   joined = ap (λ zs. (s.out ++ b) ++ zs) e ∙ append-nil (s.out ++ b) ∙ s.joined;
 }
 
@@ -116,7 +106,7 @@ pub Puts-written : {E : Type 0} (r : Result (Unit {0}) E) (o p q : Option (List 
 Puts-written (Ok v) o p q before after reply x e y =
     record {
       out = before ++ reply;
-      appended = Appends-both o p q before reply x y;
+      appended = Appends-trans o p q before reply x y;
       joined = ap (λ zs. (before ++ reply) ++ zs) e ∙ append-nil (before ++ reply);
     }
 Puts-written (Err v) o p q before after reply x e y = tt
@@ -129,5 +119,6 @@ WritesReplies-flushed left o p q after x f = record {
   replies = x.replies;
   left = left;
   run = x.run;
-  appended = subst (Appends o q) x.put.joined (Appends-both o p q x.put.out after x.put.appended f);
+  appended = subst (Appends o q) x.put.joined
+      (Appends-trans o p q x.put.out after x.put.appended f);
 }
