@@ -13,6 +13,7 @@ use Rattle.std.proofs.lemmas.List.Elements.{All-nil, All-cons, All-map, All-weak
 use Rattle.std.proofs.lemmas.List.Quantifiers.{all_pairs_remove}
 use Rattle.std.proofs.lemmas.List.Sorted.{All-permutation, Contains-permutation, IsPermutation-map, IsPermutation-insert, IsPermutation-remove, IsNonDecreasingBy-push, IsNonDecreasingBy-short}
 use Rattle.std.proofs.lemmas.Grind.{in_between, in_insert, in_remove}
+use Rattle.std.proofs.lemmas.Simd.{map-map}
 use Rattle.std.proofs.lemmas.Map.Keys.{apart_from_distinct}
 use Rattle.rope_changes.specs.declared.side.Side.TheVariants.{Before}
 use Rattle.rope_history.specs.declared.marks.Mark.{Mark}
@@ -44,11 +45,6 @@ map_same f g [] same = refl
 map_same f g (x ∷ xs) same =
     ap₂ (λ y ys. y ∷ ys) (same 0 x (omega arith))
     (map_same f g xs (λ k d lt. same (suc k) d (omega arith)))
-
-pub map_twice : {X Y Z : Type 0} (f : Y → Z) (g : X → Y) (xs : List X)
-    → map f (map g xs) ≡ map (λ x. f (g x)) xs
-map_twice f g [] = refl
-map_twice f g (x ∷ xs) = ap (λ ys. f (g x) ∷ ys) (map_twice f g xs)
 
 -- the mark at an index of the order
 pub at_in : (marks : List Mark) (order : List ℕ) (k : ℕ) (d : Mark) → k < length order
@@ -225,7 +221,7 @@ pub removed_in : (marks : List Mark) (order : List ℕ) (p j : ℕ)
     ≡ remove (marks_in marks order) p
 removed_in marks order p j distinct within j_at p_at is =
     let left = remove order p in
-    map_twice (mark_at (remove marks j)) (closed j) left
+    map-map (mark_at (remove marks j)) (closed j) left
     ∙ map_same (λ i. mark_at (remove marks j) (closed j i)) (mark_at marks) left
     (λ k d lt. shifted marks j (get_or left k d) j_at
     (left_are marks order p j distinct within p_at is k d lt).other)
@@ -373,7 +369,7 @@ moved_in ops marks order within =
     let f = moved_mark ops in
     map_same (mark_at (map f marks)) (λ i. f (mark_at marks i)) order
     (λ k d lt. get_or-map f marks (get_or order k d) none none (within k d lt))
-    ∙ sym (map_twice f (mark_at marks) order)
+    ∙ sym (map-map f (mark_at marks) order)
 
 pub moved_permuted : (ops : List Op) (marks : List Mark) (order new : List ℕ)
     → All (λ i. i < length marks) order → IsPermutation order new
