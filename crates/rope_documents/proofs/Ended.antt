@@ -1,7 +1,7 @@
 -- The characters of a text after a CR, before an LF, or both.
 use Rattle.std.proofs.Common.{◌≡◌, ℕ, Bool, true, false, cond, List, [], ◌∷◌, ◌++◌, refl, ap, ap₂, ◌∙◌, append_assoc, arith}
 use Rattle.std.specs.Str.{chars, IsUtf8}
-use Rattle.std.proofs.lemmas.Str.{chars-append, encode_ascii, IsUtf8-append, IsUtf8-nil}
+use Rattle.std.proofs.lemmas.Str.{chars-append, chars-nil, encode_ascii, IsUtf8-append, IsUtf8-nil}
 
 one_char : chars (13 ∷ []) ≡ 13 ∷ []
 unfolding chars
@@ -10,10 +10,6 @@ one_char = refl
 one_lf : chars (10 ∷ []) ≡ 10 ∷ []
 unfolding chars
 one_lf = refl
-
-none : chars [] ≡ []
-unfolding chars
-none = refl
 
 cr_utf8 : IsUtf8 (13 ∷ [])
 cr_utf8 = (13 ∷ [], (refl, ap (λ b. b ++ []) (encode_ascii 13 (omega arith))))
@@ -25,12 +21,12 @@ front_utf8 false = IsUtf8-nil
 front_chars : (b : Bool)
     → chars (cond {A = List ℕ} b (13 ∷ []) []) ≡ cond {A = List ℕ} b (13 ∷ []) []
 front_chars true = one_char
-front_chars false = none
+front_chars false = chars-nil
 
 back_chars : (b : Bool)
     → chars (cond {A = List ℕ} b (10 ∷ []) []) ≡ cond {A = List ℕ} b (10 ∷ []) []
 back_chars true = one_lf
-back_chars false = none
+back_chars false = chars-nil
 
 pub ended_chars : (has_cr has_lf : Bool) (text whole : List ℕ) → IsUtf8 text
     → whole ≡ (cond {A = List ℕ} has_cr (13 ∷ []) [] ++ text)

@@ -2,6 +2,7 @@
 use Rattle.std.proofs.Common.{◌≡◌, ℕ, zero, suc, ◌+◌, ◌-◌, ◌<◌, ◌≤◌, Bool, true, false, ◌&&◌, eqb, inl, inr, List, [], ◌∷◌, ◌++◌, length, take, drop, get_or, refl, ap, ap₂, sym, ◌∙◌, arith, add-one}
 use Rattle.std.specs.Prelude.{Some, if◌then◌else◌}
 use Rattle.std.specs.List.{slice_get}
+use Rattle.std.proofs.Math.Bool.{and-true}
 use Rattle.std.proofs.lemmas.Bool.{and_parts, cases_lt}
 use Rattle.std.proofs.lemmas.Option.{get_or_from_slice_get, slice_get_within}
 use Rattle.std.proofs.lemmas.Bool.Decides.{nat_tests}
@@ -174,15 +175,11 @@ inside_test text (suc k) c d some here before =
     ∙ ap (λ x. eqb x 10) (get_or_from_slice_get text (suc k) c 0 here) in
     ap₂ (λ x y. x && y) front rest
 
-and_true : (b : Bool) → (b && true) ≡ b
-and_true true = refl
-and_true false = refl
-
 pub inside_by_cr : (text : List ℕ) (i c d : ℕ) → 1 ≤ i → slice_get text i ≡ Some c
     → slice_get text (i - 1) ≡ Some d → c ≡ 10 → eqb d 13 ≡ is_inside_crlf text i
 inside_by_cr text i c d some here before lf =
     sym (inside_test text i c d some here before
-    ∙ ap (λ x. eqb d 13 && eqb x 10) lf ∙ and_true (eqb d 13))
+    ∙ ap (λ x. eqb d 13 && eqb x 10) lf ∙ and-true (eqb d 13))
 
 not_10 : (c : ℕ) → (c ≡ 10 → ⊥) → eqb c 10 ≡ false
 not_10 c other = grind (arith, nat_tests)
