@@ -109,20 +109,20 @@ fn a_removal_in_place_makes_no_node(rt: HostRuntime) -> Result<(), Failure> {
 
 /// The split takes a search, a leaf for the second part of the eleventh, and a list for the leaves
 /// after it. The append looks up the last character of 11 leaves by two comparisons, to test for a
-/// CR, and puts all 22 leaves into one list.
+/// CR, and moves the 11 leaves of the other list to this one.
 fn expect_counts_of_a_split_and_its_append(rope: &mut Rope) -> Result<(), Failure> {
     let mut split = LEFT_OVER;
     let mut joined = LEFT_OVER;
     holds!(rope.len_chars() == 20_000);
     let back = rope.split_off_counted(10_000, &mut split)?;
     rope.append_counted(back, &mut joined)?;
-    same!([counts(split), counts(joined)], [[2, 5, 2], [3, 2, 1]]);
+    same!([counts(split), counts(joined)], [[2, 5, 2], [3, 2, 0]]);
     same!([rope.chunks().count(), rope.depth()], [22, 1]);
     Ok(())
 }
 
 #[test]
-fn a_split_counts_its_leaf_and_its_list_and_an_append_its_list(
+fn a_split_counts_its_leaf_and_its_list_and_an_append_no_node(
     rt: HostRuntime,
 ) -> Result<(), Failure> {
     let mut rope = rope_of(rt.alloc(), "a", 20_000)?;

@@ -1,13 +1,17 @@
 -- The adjacent leaves of two trees, by those of a child.
-use Rattle.std.proofs.Common.{◌≡◌, ℕ, ◌≤◌, List, [], ◌∷◌, ◌++◌, length, sym, ap, subst, ◌∙◌}
+use Rattle.std.proofs.Common.{inl, inr, ◌≡◌, ℕ, ◌≤◌, arith, List, [], ◌∷◌, ◌++◌, length, sym, ap, subst, ◌∙◌}
+use Rattle.std.proofs.lemmas.Bool.{cases_lt}
 use Rattle.std.proofs.lemmas.List.{append-nil}
 use Rattle.std.proofs.lemmas.List.Elements.{All-head}
 use Rattle.rope_text.specs.Dense.{IsDenseAfter, last_bytes}
 use Rattle.rope_text.proofs.DenseLaws.{last_bytes-append, last_bytes-some, dense-append, dense_left, dense_right}
-use Rattle.rope_tree.specs.Tree.{Tree, leaves_of, IsChild}
+use Rattle.rope_text.specs.Text.{byte_len}
+use Rattle.rope_tree.specs.Tree.{Tree, text, leaves_of, IsTree, IsChild}
 use Rattle.rope_tree.proofs.LeafLaws.{all_right}
 use Rattle.rope_tree.proofs.NodeLaws.{leaves_of-append}
+use Rattle.rope_tree.proofs.EmptyTrees.{lone_of_none}
 use Rattle.rope_join.specs.Join.{EndsIn, BeginsIn}
+use Rattle.rope_join.proofs.Gaps.{leaf_by_bytes}
 
 module _ (a last : Tree) (init : List Tree) (e : EndsIn a init last) where
   pub last_some : 1 ≤ length last.leaves
@@ -41,3 +45,10 @@ module _ (b first : Tree) (rest : List Tree) (e : BeginsIn b first rest) where
       (dense_right 492 first.leaves (leaves_of rest) e.children.leaves.dense) in
       subst (IsDenseAfter n) (sym begins)
       (dense-append n first.leaves (leaves_of rest) dense following)
+
+-- a tree with an inner node has a leaf
+pub inner_some : (t : Tree) → IsTree t → 1 ≤ t.height → 1 ≤ length t.leaves
+inner_some t i high = elim (cases_lt 0 (byte_len (text t))) [
+  | inl some ↦ leaf_by_bytes t some
+  | inr none ↦ absurd (omega (arith, high, lone_of_none t i (omega (arith, none))))
+]

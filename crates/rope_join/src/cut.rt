@@ -228,19 +228,6 @@ pub fn between(editor: &mut Editor, node: &Node, start: usize, end: usize) -> Ma
     back(editor, &front, start)
 }
 
-/// Returns whether the character `at` is neither in the first child of a tree nor in the last.
-fn is_inside(node: &Node, at: usize) -> bool
-    ensures { IsTree node.now }
-{
-    if node.height() == 0 {
-        return false;
-    }
-    let View::Inner(children, totals) = node.view() else {
-        return false;
-    };
-    totals.get(0).chars <= at && at < total_before(totals, children.len() - 1).chars
-}
-
 /// Splits a tree: keeps the characters before `at`, and returns a tree of those from it on. Where
 /// the nodes on the path and beside it have no other owner, they are split in place. Else a front
 /// and a back that share the tree's nodes replace it, as the last step.
@@ -257,9 +244,7 @@ pub fn split_off(editor: &mut Editor, root: &mut Node, at: usize) -> Made<Node>
     ensures searched { HasSearched (3 * root.old.height) (17 * root.old.height) editor.old
         editor.new }
 {
-    if is_inside(root, at)
-        && let Some(back) = root.split_in_place(editor, at)?
-    {
+    if let Some(back) = root.split_in_place(editor, at)? {
         return Ok(back);
     }
     let first = front(editor, root, at)?;

@@ -1,4 +1,4 @@
-//! Splits and joins of trees. The arguments stay unchanged, and the results share their nodes.
+//! Splits and joins of trees. Where their nodes have other owners, the results share these.
 //!
 //! Modules, lowest first:
 //! - `cut`: the front and the back of a split tree, and the range between two indices

@@ -5,9 +5,10 @@
 //! unchanged.
 ghost use Rattle.std.specs.Prelude.{◌≡◌, ◌+◌, ◌*◌, ◌/◌, ◌<◌, ◌≤◌, ◌^◌, ◌++◌, true, length, take, drop, max, IfOk, OnOk, OnErr};
 ghost use Rattle.std.specs.Str.{chars};
-ghost use Rattle.rope_text.specs.declared.TheConstants.{MAX_SHORT_BYTES, MIN_CUT_BYTES};
+ghost use Rattle.rope_text.specs.declared.TheConstants.{MAX_SHORT_BYTES, MIN_CUT_BYTES, MIN_TWO_LEAVES_BYTES};
 ghost use Rattle.rope_text.specs.Text.{byte_len};
 ghost use Rattle.rope_text.specs.Cutting.{parts_crlf};
+ghost use Rattle.rope_text.specs.Dense.{IsDenseAfter, last_bytes};
 ghost use Rattle.rope_text.specs.Edit.{inserted, removed};
 ghost use Rattle.rope_tree.specs.Leaves.{IsSeam};
 ghost use Rattle.rope_tree.specs.Searched.{HasSearched};
@@ -15,8 +16,8 @@ ghost use Rattle.rope_tree.specs.Tree.{text, leaf_tree, IsTree};
 
 use crate::cut::{back, front};
 use crate::gap::{join_sides, put, stands, without};
-use crate::join::join;
-use rope_text::{MAX_BYTES, MAX_SHORT_BYTES};
+use crate::join::{end_leaf_len, join};
+use rope_text::{MAX_BYTES, MAX_SHORT_BYTES, MIN_TWO_LEAVES_BYTES};
 use rope_tree::build::build;
 use rope_tree::{
     Builder, Editor, MAX_MEDIUM_BYTES, Made, Maker, Node, ShortText, View, insert_at,
@@ -86,19 +87,59 @@ fn append(editor: &mut Editor, left: &Node, right: &Node) -> Made<Node>
     join_parts(editor, left, left.info().chars, right, 0)
 }
 
+/// Returns whether two trees have one height, and adjacent leaves that are long enough beside each
+/// other.
+fn are_level(left: &Node, right: &Node) -> bool
+    ensures level { result ≡ true → right.now.height ≡ left.now.height }
+    ensures near { result ≡ true
+        → IsDenseAfter (last_bytes MIN_TWO_LEAVES_BYTES left.now.leaves) right.now.leaves }
+{
+    let height = left.height();
+    if height == 0 || height != right.height() {
+        return false;
+    }
+    if end_leaf_len(left, true) + end_leaf_len(right, false) < MIN_TWO_LEAVES_BYTES {
+        return false;
+    }
+    true
+}
+
+/// Appends a tree of the same height: in place, if the two roots have no other owner; else a tree
+/// of both replaces the old one as the last step. The other tree may lose its text.
+fn append_level(maker: &mut Maker, root: &mut Node, other: &mut Node) -> Made<()>
+    requires same_breaks { other.old.breaks ≡ root.old.breaks }
+    requires level { other.old.height ≡ root.old.height }
+    requires seam { IsSeam (text root.old) (text other.old) }
+    requires near { IsDenseAfter (last_bytes MIN_TWO_LEAVES_BYTES root.old.leaves)
+        other.old.leaves }
+    requires fits { byte_len (text root.old) + byte_len (text other.old) < 2 ^ 63 }
+    ensures text { OnOk result (text root.new ≡ text root.old ++ text other.old) }
+    ensures breaks { root.new.breaks ≡ root.old.breaks }
+    ensures tree { IsTree root.new }
+    ensures err { OnErr result (root.new ≡ root.old) }
+    ensures made { maker.new.made ≤ maker.old.made + 2 * root.old.height + 3 }
+{
+    if !root.append_in_place(maker, other)? {
+        *root = join(maker, root, other)?;
+    }
+    Ok(())
+}
+
 /// Appends the text of another tree. If that is a short leaf, its text is inserted into the last
-/// leaf in place; else a tree of both replaces the old one as the last step.
-pub fn append_to(editor: &mut Editor, root: &mut Node, other: &Node) -> Made<()>
-    requires same_breaks { other.now.breaks ≡ root.old.breaks }
-    requires fits { byte_len (text root.old) + byte_len (text other.now) < 2 ^ 63 }
-    ensures text { OnOk result (text root.new ≡ text root.old ++ text other.now) }
+/// leaf in place. If the trees have one height and their roots no other owner, their children move
+/// into one tree. Else a tree of both replaces the old one as the last step. The other tree may
+/// lose its text.
+pub fn append_to(editor: &mut Editor, root: &mut Node, other: &mut Node) -> Made<()>
+    requires same_breaks { other.old.breaks ≡ root.old.breaks }
+    requires fits { byte_len (text root.old) + byte_len (text other.old) < 2 ^ 63 }
+    ensures text { OnOk result (text root.new ≡ text root.old ++ text other.old) }
     ensures breaks { root.new.breaks ≡ root.old.breaks }
     ensures tree { IsTree root.new }
     ensures err { OnErr result (root.new ≡ root.old) }
     ensures made { editor.new.maker.made
-        ≤ editor.old.maker.made + 16 * max root.old.height other.now.height + 11 }
-    ensures searched { HasSearched (4 * max root.old.height other.now.height
-        + 2) (33 * max root.old.height other.now.height) editor.old editor.new }
+        ≤ editor.old.maker.made + 16 * max root.old.height other.old.height + 11 }
+    ensures searched { HasSearched (6 * max root.old.height other.old.height
+        + 4) (33 * max root.old.height other.old.height) editor.old editor.new }
 {
     let end = root.info().chars;
     if let View::Leaf(leaf) = other.view()
@@ -106,6 +147,9 @@ pub fn append_to(editor: &mut Editor, root: &mut Node, other: &Node) -> Made<()>
         && leaf.len() <= MAX_SHORT_BYTES
     {
         return insert_at(editor, root, end, leaf.as_str());
+    }
+    if are_level(root, other) && !meets(editor, root, end, other, 0) {
+        return append_level(&mut editor.maker, root, other);
     }
     *root = append(editor, root, other)?;
     Ok(())

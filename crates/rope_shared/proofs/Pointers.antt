@@ -1,4 +1,5 @@
--- A struct of one pointer, by value and behind a `&`, and an empty place for one. Assumes `Logic`.
+-- A struct of one pointer, by value and by shared reference, and an empty place for one. Assumes
+-- `Logic`.
 use Rattle.std.proofs.Common.{◌≡◌, ℕ, true≢false, List, [], ◌∷◌, ◌++◌, subst, refl}
 use seplogic.Ra.Ura.{Ura}
 use mir.Syntax.{Sym}

@@ -1,5 +1,6 @@
 pub mod LastCalls
 pub mod LeafCounts
+mod AppendLaws
 mod HalfLaws
 pub mod LeafLaws
 pub mod StandLaws
@@ -45,4 +46,8 @@ pub mod PieceLaws
 pub mod PartCounts
 pub mod PartTexts
 pub mod SplitLaws
+pub mod LeafSplits
+mod SettledLaws
+mod FrontSides
+mod BackSides
 pub mod MoveLaws

@@ -1,45 +1,125 @@
--- Children that move between adjacent lists, and a leaf that is split among them.
-use Rattle.std.proofs.Common.{◌≡◌, ℕ, ◌+◌, ◌^◌, ◌<◌, ◌≤◌, ◌⊎◌, inl, inr, List, [], ◌∷◌, ◌++◌, length, get_or, take, drop, sym, ap, subst, ◌∙◌, Option, Some, None, Result, Ok, Err, IfOk, IfSome, IfNone, OnErr, arith}
-use Rattle.std.specs.List.{All, concat}
-use Rattle.std.proofs.lemmas.List.{append-nil, append_assoc, length-append, length-take-le, length-drop, take_all, take_more, take-append-drop, take-append-le, drop-append-le}
-use Rattle.std.proofs.lemmas.List.Elements.{All-nil, All-cons, All-head, All-get_or}
-use Rattle.std.proofs.Math.Seq.{take-append-add, drop-append-add}
+-- Children that move between adjacent lists, and the lists that keep and get them.
+use Rattle.std.proofs.Common.{◌≡◌, ℕ, ◌+◌, ◌^◌, ◌<◌, ◌≤◌, inl, inr, List, [], ◌∷◌, ◌++◌, length, get_or, take, drop, sym, ap, subst, ◌∙◌, arith, zero, suc, set, refl, ap₂}
+use Rattle.std.proofs.lemmas.Bool.{cases_lt}
+use Rattle.std.specs.List.{All}
+use Rattle.std.proofs.lemmas.List.{append-nil, append_assoc, length-append, length-take-le, take_all, take_more, take-append-drop, take-append-le, length-set, length-take, take-take, get_or-take, take-set-le, drop-set-lt, drop-drop, get_or-set_same}
+use Rattle.std.proofs.lemmas.List.Elements.{All-nil, All-cons, All-head, All-append, All-drop}
+use Rattle.std.proofs.Math.Seq.{drop-append_seam}
 use Rattle.rope_text.specs.declared.line_breaks.LineBreaks.{LineBreaks}
+use Rattle.rope_text.specs.declared.text_info.TextInfo.{TextInfo}
 use Rattle.rope_text.specs.Text.{byte_len}
-use Rattle.rope_text.specs.Dense.{IsDenseAfter, AreDense, last_bytes}
-use Rattle.rope_text.proofs.DenseLaws.{last_bytes-append, last_bytes-some, dense-append, dense_left}
-use Rattle.rope_text.proofs.CuttingLaws.{concat-append}
-use Rattle.rope_text.proofs.Measures.{IsMeasure-byte_len}
-use Rattle.rope_tree.specs.Leaves.{AreLeaves, IsSeam}
-use Rattle.rope_tree.specs.Tree.{Tree, text, joined, leaves_of, height_of, breaks_of, leaf_tree, IsTree, IsChild, AreFamily}
+use Rattle.rope_text.specs.TextInfo.{info_of}
+use Rattle.rope_text.specs.Dense.{IsDenseAfter, last_bytes}
+use Rattle.rope_text.proofs.DenseLaws.{dense-append}
+use Rattle.rope_tree.specs.Leaves.{IsSeam}
+use Rattle.rope_tree.specs.Tree.{Tree, joined, leaves_of, height_of, breaks_of, IsChild, AreFamily, tree_over}
 use Rattle.rope_tree.specs.Siblings.{AreSiblings, AreLevel}
-use Rattle.rope_tree.specs.Split.{AreSides}
-use Rattle.rope_tree.proofs.LeafLaws.{leaves_right, leaves_seam, seam-take, seam-drop}
-use Rattle.rope_tree.proofs.NodeLaws.{leaves_of-append, joined-append, joined_one}
-use Rattle.rope_tree.proofs.StandLaws.{one_leaf_is}
-use Rattle.rope_tree.proofs.InsertLeaves.{wide_leaf}
-use Rattle.rope_tree.proofs.SiblingLaws.{byte_len-append, siblings_left, siblings_right}
+use Rattle.rope_tree.specs.Split.{nodes_over}
+use Rattle.rope_tree.specs.Totals.{HasTotals}
+use Rattle.rope_tree.specs.Flat.{IsFlat}
+use Rattle.rope_tree.specs.Listed.{listed, IsListed}
+use Rattle.rope_tree.specs.declared.node.Children.TheInside.{Inside}
+use Rattle.rope_tree.proofs.LeafLaws.{all_right, leaves-append}
+use Rattle.rope_tree.proofs.NodeLaws.{leaves_of-append}
+use Rattle.rope_tree.proofs.SiblingLaws.{byte_len-append, siblings_left, siblings_right, children_of}
 use Rattle.rope_tree.proofs.RowLaws.{siblings_of}
-use Rattle.rope_tree.proofs.SplitLaws.{level_of, siblings-append}
+use Rattle.rope_tree.proofs.PartLaws.{same_set}
+use Rattle.rope_tree.proofs.TreeLaws.{height_of_is, breaks_of_is, is_wide_over}
 
--- trees that a list may hold, if they are at most 24
-pub record MayMove (ts : List Tree) : Type 0 where
+pub over_some : (ts : List Tree) → 1 ≤ length ts → nodes_over ts ≡ tree_over ts ∷ []
+over_some [] some = absurd (omega arith)
+over_some (t ∷ ts) some = refl
+
+pub leaves_over : (ts : List Tree) → leaves_of (nodes_over ts) ≡ leaves_of ts
+leaves_over [] = refl
+leaves_over (t ∷ ts) = append-nil (leaves_of (t ∷ ts))
+
+-- the nodes over two lists have the leaves of both
+pub leaves_over_both : (l m ts : List Tree) → l ++ m ≡ ts
+    → leaves_of (nodes_over l ++ nodes_over m) ≡ leaves_of ts
+leaves_over_both l m ts e = leaves_of-append (nodes_over l) (nodes_over m)
+    ∙ ap₂ (λ x y. x ++ y) (leaves_over l) (leaves_over m)
+    ∙ sym (leaves_of-append l m) ∙ ap leaves_of e
+
+pub few_over : (ts : List Tree) → length (nodes_over ts) ≤ 1
+few_over [] = omega arith
+few_over (t ∷ ts) = omega arith
+
+-- siblings by the set of line breaks and the height of the first of them
+pub level_of : (b : LineBreaks) (h : ℕ) (ts : List Tree) → AreSiblings b h ts → AreLevel ts
+level_of b h [] s = record {
+  each = All-nil (IsChild (breaks_of []) (height_of []));
+  leaves = s.leaves;
+  fits = s.fits;
+}
+level_of b h (t ∷ ts) s =
+    let low : height_of (t ∷ ts) ≡ h = height_of_is b h (t ∷ ts) (omega arith) s.each in
+    let set : breaks_of (t ∷ ts) ≡ b = breaks_of_is b h (t ∷ ts) (omega arith) s.each in
+    subst (λ n. AreSiblings (breaks_of (t ∷ ts)) n (t ∷ ts)) (sym low)
+    (subst (λ x. AreSiblings x h (t ∷ ts)) (sym set) s)
+
+-- adjacent siblings
+pub siblings-append : (b : LineBreaks) (h : ℕ) (xs ys : List Tree) → AreSiblings b h xs
+    → AreSiblings b h ys → IsSeam (joined xs) (joined ys)
+    → IsDenseAfter (last_bytes 492 (leaves_of xs)) (leaves_of ys)
+    → byte_len (joined (xs ++ ys)) < 2 ^ 63 → AreSiblings b h (xs ++ ys)
+siblings-append b h xs ys s t seam near fits = record {
+  each = All-append (IsChild b h) xs ys s.each t.each;
+  leaves = rw leaves_of-append (leaves-append (leaves_of xs) (leaves_of ys) s.leaves t.leaves seam
+      (dense-append 492 (leaves_of xs) (leaves_of ys) s.leaves.dense near));
+  fits = fits;
+}
+
+-- the node over a list of at least 12 children
+pub each_over : (b : LineBreaks) (h : ℕ) (ts : List Tree) → AreSiblings b h ts
+    → (1 ≤ length ts → 12 ≤ length ts) → length ts ≤ 24 → All (IsChild b (h + 1)) (nodes_over ts)
+each_over b h [] s least most = All-nil (IsChild b (h + 1))
+each_over b h (t ∷ ts) s least most =
+    let long = least (omega arith) in
+    let c = children_of b h (t ∷ ts) s (omega (arith, long)) most in
+    All-cons (IsChild b (h + 1)) (tree_over (t ∷ ts)) [] (is_wide_over b 12 h (t ∷ ts) c long)
+    (All-nil (IsChild b (h + 1)))
+
+-- adjacent trees whose counts fit in 32 bits
+pub record AreMovable (ts : List Tree) : Type 0 where
   pub level : AreLevel ts
   pub few : byte_len (joined ts) < 2 ^ 32
 
-pub move_left : (xs ys : List Tree) → AreLevel (xs ++ ys) → byte_len (joined (xs ++ ys)) < 2 ^ 32
-    → MayMove xs
-move_left xs ys s few = record {
-  level = level_of _ _ xs (siblings_left _ _ xs ys s);
-  few = omega (arith, few, byte_len-append xs ys);
+pub movable_left : (xs ys : List Tree) → AreMovable (xs ++ ys) → AreMovable xs
+movable_left xs ys n = record {
+  level = level_of _ _ xs (siblings_left _ _ xs ys n.level);
+  few = omega (arith, byte_len-append xs ys, n.few);
 }
 
-pub move_right : (xs ys : List Tree) → AreLevel (xs ++ ys) → byte_len (joined (xs ++ ys)) < 2 ^ 32
-    → MayMove ys
-move_right xs ys s few = record {
-  level = level_of _ _ ys (siblings_right _ _ xs ys s);
-  few = omega (arith, few, byte_len-append xs ys);
+pub movable_right : (xs ys : List Tree) → AreMovable (xs ++ ys) → AreMovable ys
+movable_right xs ys n = record {
+  level = level_of _ _ ys (siblings_right _ _ xs ys n.level);
+  few = omega (arith, byte_len-append xs ys, n.few);
 }
+
+pub movable : (ts : List Tree) → AreLevel ts → byte_len (joined ts) < 2 ^ 32 → AreMovable ts
+movable ts level few = record { level = level; few = few }
+
+pub movable_of : (ts : List Tree) → AreFamily ts → byte_len (joined ts) < 2 ^ 32 → AreMovable ts
+movable_of ts family few = record {
+  level = siblings_of (breaks_of ts) (height_of ts) ts family;
+  few = few;
+}
+
+pub family_of : (b : LineBreaks) (h : ℕ) (ts : List Tree) → AreSiblings b h ts → 2 ≤ length ts
+    → length ts ≤ 24 → AreFamily ts
+family_of b h ts s some few =
+    children_of (breaks_of ts) (height_of ts) ts (level_of b h ts s) some few
+
+-- a list without its last children, and these after an empty list
+pub both_parts : (ts none : List Tree) (n : ℕ) → none ≡ [] → take n ts ++ (none ++ drop n ts) ≡ ts
+both_parts ts none n e = ap (λ l. take n ts ++ (l ++ drop n ts)) e ∙ take-append-drop n ts
+
+pub movable_after : (ts none : List Tree) (n : ℕ) → none ≡ [] → AreMovable ts
+    → AreMovable (none ++ drop n ts)
+movable_after ts none n e m =
+    subst (λ l. AreMovable (l ++ drop n ts)) (sym e)
+    (movable_right (take n ts) (drop n ts) (subst AreMovable (sym (take-append-drop n ts)) m))
 
 pub first_split : (xs ys : List Tree) (n : ℕ) → take n xs ++ (drop n xs ++ ys) ≡ xs ++ ys
 first_split xs ys n = sym (append_assoc (take n xs) (drop n xs) ys)
@@ -50,294 +130,152 @@ second_split xs ys n = append_assoc xs (take n ys) (drop n ys)
     ∙ ap (λ l. xs ++ l) (take-append-drop n ys)
 
 -- two adjacent lists, of which one is split
-module _ (xs ys : List Tree) (n : ℕ) (s : AreLevel (xs ++ ys))
-    (few : byte_len (joined (xs ++ ys)) < 2 ^ 32) where
-  pub move_both : MayMove (drop n xs ++ ys)
-  move_both = move_right (take n xs) (drop n xs ++ ys) (rw first_split s) (rw first_split few)
+module _ (xs ys : List Tree) (n : ℕ) (m : AreMovable (xs ++ ys)) where
+  pub move_both : AreMovable (drop n xs ++ ys)
+  move_both = movable_right (take n xs) (drop n xs ++ ys) (rw first_split m)
 
-  pub move_end : MayMove (drop n xs)
-  move_end = move_left (drop n xs) ys move_both.level move_both.few
+  pub move_end : AreMovable (drop n xs)
+  move_end = movable_left (drop n xs) ys move_both
 
-  pub move_longer : MayMove (xs ++ take n ys)
-  move_longer = move_left (xs ++ take n ys) (drop n ys) (rw second_split s) (rw second_split few)
+  pub move_longer : AreMovable (xs ++ take n ys)
+  move_longer = movable_left (xs ++ take n ys) (drop n ys) (rw second_split m)
 
-  pub move_start : MayMove (take n ys)
-  move_start = move_right xs (take n ys) move_longer.level move_longer.few
+  pub move_start : AreMovable (take n ys)
+  move_start = movable_right xs (take n ys) move_longer
 
-  pub move_rest : MayMove (drop n ys)
-  move_rest = move_right (xs ++ take n ys) (drop n ys) (rw second_split s) (rw second_split few)
+  pub move_rest : AreMovable (drop n ys)
+  move_rest = movable_right (xs ++ take n ys) (drop n ys) (rw second_split m)
 
--- the text of a leaf that is a child
-pub one_text : (b : LineBreaks) (t : Tree) → IsChild b 0 t → t.leaves ≡ text t ∷ []
-one_text b t i = go t.leaves i.some (i.tree.lone i.at_height)
-  where
-    go : (ls : List (List ℕ)) → 1 ≤ length ls → length ls ≤ 1 → ls ≡ concat ls ∷ []
-    go [] some few = absurd (omega arith)
-    go (l ∷ []) some few = ap (λ x. x ∷ []) (sym (append-nil l))
-    go (l ∷ m ∷ ls) some few = absurd (omega arith)
+-- a list with one more child
+module _ (a b : Inside) (xs : List Tree) (x : Tree) (n : ℕ) (total : TextInfo) (i : IsListed a)
+    (view : listed a ≡ xs) (s : AreLevel (xs ++ x ∷ [])) (room : length xs < 24)
+    (n_is : n ≡ length a.totals) (len : length b.totals ≡ length a.totals + 1)
+    (before : (j : ℕ) (d : TextInfo) → j < n → get_or b.totals j d ≡ get_or a.totals j d)
+    (here : (d : TextInfo) → get_or b.totals n d ≡ total)
+    (total_is : total ≡ info_of (breaks_of (xs ++ x ∷ [])) (joined (xs ++ x ∷ [])))
+    (nodes : b.nodes ≡ set a.nodes n x) (height : b.height ≡ x.height + 1)
+    (breaks : b.breaks ≡ x.breaks) where
+  many : n ≡ length xs
+  many = omega (arith, n_is, i.totals_right.as_many, ap length view)
 
-lone_siblings : (b : LineBreaks) (t : Tree) → IsChild b 0 t → AreSiblings b 0 (t ∷ [])
-lone_siblings b t i = record {
-  each = All-cons (IsChild b 0) t [] i (All-nil (IsChild b 0));
-  leaves = rw append-nil i.tree.leaves;
-  fits = rw append-nil i.tree.fits;
+  own : IsChild (breaks_of (xs ++ x ∷ [])) (height_of (xs ++ x ∷ [])) x
+  own =
+      let P = IsChild (breaks_of (xs ++ x ∷ [])) (height_of (xs ++ x ∷ [])) in
+      All-head P x [] (all_right P xs (x ∷ []) s.each)
+
+  longer : length b.totals ≡ n + 1
+  longer = omega (arith, len, n_is)
+
+  pub push_seen : listed b ≡ xs ++ x ∷ []
+  push_seen =
+      let ys = set a.nodes n x in
+      let lt : n < length ys = omega (arith, many, length-set a.nodes n x, i.room, room) in
+      let front : take n ys ≡ xs = take-set-le n a.nodes n x (omega arith)
+      ∙ ap (λ m. take m a.nodes) n_is ∙ view in
+      let last : get_or ys n x ≡ x =
+      get_or-set_same a.nodes n x x (omega (arith, many, i.room, room)) in
+      (rw (longer, nodes) refl) ∙ take_more ys n x lt ∙ (rw (front, last) refl)
+
+  push_totals : HasTotals (breaks_of (xs ++ x ∷ [])) b.totals (xs ++ x ∷ [])
+  push_totals = record {
+    as_many = omega (arith, longer, many, length-append xs (x ∷ []));
+    total_at = λ k d lt. elim (cases_lt k n) [
+      | inl early ↦
+          let same : breaks_of xs ≡ breaks_of (xs ++ x ∷ []) =
+          same_set xs (x ∷ []) (omega (arith, early, many)) in
+          let was = rw view at i.totals_right in
+          let front : take (k + 1) xs ≡ take (k + 1) (xs ++ x ∷ []) =
+          sym (take-append-le (k + 1) xs (x ∷ []) (omega (arith, early, many))) in
+          before k d early ∙ was.total_at k d (omega (arith, early, many))
+          ∙ ap (λ y. info_of y (joined (take (k + 1) xs))) same
+          ∙ ap (λ l. info_of (breaks_of (xs ++ x ∷ [])) (joined l)) front
+      | inr late ↦
+          let at : k ≡ n = omega (arith, late, lt, many, length-append xs (x ∷ [])) in
+          let whole : xs ++ x ∷ [] ≡ take (k + 1) (xs ++ x ∷ []) =
+          sym (take_all (k + 1) (xs ++ x ∷ [])
+          (omega (arith, at, many, length-append xs (x ∷ [])))) in
+          ap (λ m. get_or b.totals m d) at ∙ here d ∙ total_is
+          ∙ ap (λ l. info_of (breaks_of (xs ++ x ∷ [])) (joined l)) whole
+    ];
+  }
+
+  pub push_listed : IsListed b
+  push_listed =
+      let following : drop (length b.totals) b.nodes ≡ drop 1 (drop (length a.totals) a.nodes) =
+      (rw (longer, nodes) refl) ∙ drop-set-lt (n + 1) a.nodes n x (omega arith)
+      ∙ ap (λ m. drop (m + 1) a.nodes) n_is ∙ sym (drop-drop 1 (length a.totals) a.nodes) in
+      record {
+        room = ap length nodes ∙ length-set a.nodes n x ∙ i.room;
+        totals_right = rw push_seen push_totals;
+        above = height ∙ ap (λ m. m + 1) (own.at_height ∙ ap height_of (sym push_seen));
+        same_breaks = breaks ∙ own.same_breaks ∙ ap breaks_of (sym push_seen);
+        places = rw following (All-drop IsFlat 1 (drop (length a.totals) a.nodes) i.places);
+      }
+
+-- the first of some trees
+pub first_height : (n : ℕ) (ts : List Tree) → 1 ≤ n → height_of (take n ts) ≡ height_of ts
+first_height zero ts some = absurd (omega arith)
+first_height (suc n) [] some = refl
+first_height (suc n) (t ∷ ts) some = refl
+
+pub first_breaks : (n : ℕ) (ts : List Tree) → 1 ≤ n → breaks_of (take n ts) ≡ breaks_of ts
+first_breaks zero ts some = absurd (omega arith)
+first_breaks (suc n) [] some = refl
+first_breaks (suc n) (t ∷ ts) some = refl
+
+-- the first totals of a list are those of its first children
+pub first_totals : (n : ℕ) (totals : List TextInfo) (ts : List Tree) → n ≤ length ts
+    → HasTotals (breaks_of ts) totals ts → HasTotals (breaks_of (take n ts)) (take n totals)
+    (take n ts)
+first_totals n totals ts le h = record {
+  as_many = length-take-le n totals (omega (arith, h.as_many)) ∙ sym (length-take-le n ts le);
+  total_at = λ k d lt.
+      let early : k < n = omega (arith, lt, length-take-le n ts le) in
+      let front : take (k + 1) ts ≡ take (k + 1) (take n ts) =
+      sym (take-take (k + 1) n ts (omega (arith, early))) in
+      get_or-take n totals k d early ∙ h.total_at k d (omega (arith, early, le))
+      ∙ ap (λ y. info_of y (joined (take (k + 1) ts)))
+      (sym (first_breaks n ts (omega (arith, early))))
+      ∙ ap (λ l. info_of (breaks_of (take n ts)) (joined l)) front;
 }
 
--- the bytes of the last leaf, by those of the text, and of the first one
-pub last_size : (b : LineBreaks) (ts : List Tree) (k n : ℕ) → length ts ≡ k + 1
-    → All (IsChild b 0) ts → n + byte_len (joined (take k ts)) ≡ byte_len (joined ts)
-    → n ≡ last_bytes 492 (leaves_of ts)
-last_size b ts k n len each sum =
-    let d = get_or ts k (leaf_tree b []) in
-    let parts : ts ≡ take k ts ++ d ∷ [] = sym (take_all (k + 1) ts (omega (arith, len)))
-    ∙ take_more ts k (leaf_tree b []) (omega (arith, len)) in
-    let own : IsChild b 0 d =
-    All-get_or (IsChild b 0) ts k (leaf_tree b []) (omega (arith, len)) each in
-    let bytes : byte_len (joined ts) ≡ byte_len (joined (take k ts)) + byte_len (text d) =
-    ap (λ l. byte_len (joined l)) parts ∙ byte_len-append (take k ts) (d ∷ [])
-    ∙ ap (λ l. byte_len (joined (take k ts)) + byte_len l) (joined_one d) in
-    let last : last_bytes 492 (leaves_of ts) ≡ byte_len (text d) =
-    ap (λ l. last_bytes 492 (leaves_of l)) parts
-    ∙ ap (last_bytes 492) (leaves_of-append (take k ts) (d ∷ []))
-    ∙ last_bytes-append 492 (leaves_of (take k ts)) (leaves_of (d ∷ []))
-    ∙ ap (last_bytes (last_bytes 492 (leaves_of (take k ts))))
-    (append-nil d.leaves ∙ one_text b d own) in
-    omega (arith, sum, bytes, last)
+-- a list that keeps its first children; the entries after them are empty
+module _ (a b : Inside) (ts : List Tree) (n : ℕ) (ys zs : List Tree) (i : IsListed a)
+    (view : listed a ≡ ts) (le : n ≤ length ts) (totals : b.totals ≡ take n a.totals)
+    (nodes : b.nodes ≡ take n a.nodes ++ (ys ++ zs)) (room : length b.nodes ≡ 24)
+    (first : All IsFlat ys) (second : All IsFlat zs)
+    (height : b.height ≡ height_of (take n ts) + 1) (breaks : b.breaks ≡ breaks_of (take n ts))
+  where
+    pub as_many_in : length a.totals ≡ length ts
+    as_many_in = i.totals_right.as_many ∙ ap length view
 
-pub first_near : (b : LineBreaks) (ts : List Tree) (m n : ℕ) → 1 ≤ length ts
-    → All (IsChild b 0) ts → n ≡ byte_len (joined (take 1 ts)) → AreDense (leaves_of ts)
-    → 492 ≤ m + n → IsDenseAfter m (leaves_of ts)
-first_near b [] m n some each is dense long = absurd (omega arith)
-first_near b (t ∷ ts) m n some each is dense long =
-    let all : leaves_of (t ∷ ts) ≡ text t ∷ leaves_of ts =
-    ap (λ l. l ++ leaves_of ts) (one_text b t (All-head (IsChild b 0) t ts each)) in
-    subst (IsDenseAfter m) (sym all)
-    (omega (arith, long, is, ap byte_len (joined_one t)), (subst AreDense all dense).1)
+    pub kept_len : length b.totals ≡ n
+    kept_len = ap length totals ∙ length-take-le n a.totals (omega (arith, as_many_in))
 
--- trees that are not empty have leaves
-some_of : (b : LineBreaks) (ts : List Tree) → All (IsChild b 0) ts → 1 ≤ length ts
-    → 1 ≤ length (leaves_of ts)
-some_of b [] each some = absurd (omega arith)
-some_of b (t ∷ ts) each some =
-    omega (arith, (All-head (IsChild b 0) t ts each).some, length-append t.leaves (leaves_of ts))
+    front : length (take n a.nodes) ≡ n
+    front =
+        length-take-le n a.nodes
+        (omega (arith, le, ap length view, length-take (length a.totals) a.nodes))
 
--- the outcome of a split
-pub cut_or_kept : {E F G H : Type 0} (r : Result (Option Tree) E)
-    → IfOk r (λ found. IfSome found (λ _. F)) → IfOk r (λ found. IfSome found (λ _. G))
-    → IfOk r (λ found. IfNone found H) → OnErr r H → H ⊎ (F × G)
-cut_or_kept (Ok (Some x)) f g kept err = inr (f, g)
-cut_or_kept (Ok None) f g kept err = inl kept
-cut_or_kept (Err e) f g kept err = inl err
+    pub kept_seen : listed b ≡ take n ts
+    kept_seen =
+        (rw (kept_len, nodes) refl)
+        ∙ take-append-le n (take n a.nodes) (ys ++ zs) (omega (arith, front))
+        ∙ take-take n n a.nodes (omega arith)
+        ∙ sym (take-take n (length a.totals) a.nodes (omega (arith, as_many_in)))
+        ∙ ap (take n) view
 
--- a leaf between others
-pub record HasLeaf (ts ps : List Tree) (leaf : Tree) (ys : List Tree) : Type 0 where
-  pub is : ts ≡ ps ++ leaf ∷ ys
-  pub family : AreFamily ts
-  pub flat : height_of ts ≡ 0
-  pub some_before : 1 ≤ length ps
-  pub some_after : 1 ≤ length ys
-
--- a leaf of its first characters
-pub record IsStart (ps : List Tree) (leaf : Tree) (at : ℕ) (front : Tree) : Type 0 where
-  pub is : front ≡ leaf_tree leaf.breaks (take at (text leaf))
-  pub tree : IsTree front
-  pub long : 492 ≤ last_bytes 492 (leaves_of ps) + byte_len (take at (text leaf))
-
--- a leaf of the rest
-pub record IsEnd (leaf : Tree) (ys : List Tree) (at : ℕ) (back : Tree) : Type 0 where
-  pub is : back ≡ leaf_tree leaf.breaks (drop at (text leaf))
-  pub tree : IsTree back
-  pub near : IsDenseAfter (byte_len (drop at (text leaf))) (leaves_of ys)
-
-module _ (ts ps : List Tree) (leaf : Tree) (ys : List Tree) (o : HasLeaf ts ps leaf ys) where
-  abbrev br : LineBreaks
-  br = breaks_of ts
-
-  abbrev lp : List (List ℕ)
-  lp = leaves_of ps
-
-  abbrev ly : List (List ℕ)
-  ly = leaves_of ys
-
-  level : AreSiblings br 0 (ps ++ leaf ∷ ys)
-  level =
-      subst (AreSiblings br 0) o.is
-      (subst (λ h. AreSiblings br h ts) o.flat (siblings_of br (height_of ts) ts o.family))
-
-  level_from : AreSiblings br 0 (leaf ∷ ys)
-  level_from = siblings_right br 0 ps (leaf ∷ ys) level
-
-  pub level_before : AreSiblings br 0 ps
-  level_before = siblings_left br 0 ps (leaf ∷ ys) level
-
-  pub level_after : AreSiblings br 0 ys
-  level_after = siblings_right br 0 (leaf ∷ []) ys level_from
-
-  pub own_leaf : IsChild br 0 leaf
-  own_leaf = All-head (IsChild br 0) leaf ys level_from.each
-
-  leaves_are : leaves_of ts ≡ lp ++ (text leaf ∷ ly)
-  leaves_are = ap leaves_of o.is ∙ leaves_of-append ps (leaf ∷ ys)
-      ∙ ap (λ l. lp ++ (l ++ ly)) (one_text br leaf own_leaf)
-
-  all : AreLeaves (lp ++ (text leaf ∷ ly))
-  all = subst AreLeaves leaves_are o.family.leaves
-
-  texts_are : joined ts ≡ joined ps ++ (text leaf ++ joined ys)
-  texts_are = ap concat leaves_are ∙ concat-append lp (text leaf ∷ ly)
-
-  bytes_are : byte_len (joined ts)
-      ≡ byte_len (joined ps) + (byte_len (text leaf) + byte_len (joined ys))
-  bytes_are = ap byte_len texts_are ∙ IsMeasure-byte_len.joined (joined ps) _
-      ∙ ap (λ n. byte_len (joined ps) + n) (IsMeasure-byte_len.joined (text leaf) (joined ys))
-
-  module _ (at : ℕ) (some : 1 ≤ at) (within : at < length (text leaf)) where
-    abbrev first : List ℕ
-    first = take at (text leaf)
-
-    abbrev second : List ℕ
-    second = drop at (text leaf)
-
-    bytes_split : byte_len first + byte_len second ≡ byte_len (text leaf)
-    bytes_split = sym (IsMeasure-byte_len.joined first second)
-        ∙ ap byte_len (take-append-drop at (text leaf))
-
-    -- a leaf of some of the characters
-    part_own : (x : Tree) (part : List ℕ) → x ≡ leaf_tree leaf.breaks part → IsTree x
-        → 1 ≤ length part → IsChild br 0 x
-    part_own x part is tree long =
-        wide_leaf br 12 x part (is ∙ ap (λ b. leaf_tree b part) own_leaf.same_breaks) tree long
-
-    part_leaves : (x : Tree) (part : List ℕ) → x ≡ leaf_tree leaf.breaks part → 1 ≤ length part
-        → x.leaves ≡ part ∷ []
-    part_leaves x part is long = ap (λ u. u.leaves) is ∙ one_leaf_is part long
-
-    module _ (f : Tree) (s : IsStart ps leaf at f) where
-      long_first : 1 ≤ length first
-      long_first = omega (arith, some, length-take-le at (text leaf) (omega (arith, within)))
-
-      own_first : IsChild br 0 f
-      own_first = part_own f first s.is s.tree long_first
-
-      first_leaves : leaves_of (f ∷ []) ≡ first ∷ []
-      first_leaves = append-nil f.leaves ∙ part_leaves f first s.is long_first
-
-      first_text : joined (f ∷ []) ≡ first
-      first_text = ap concat first_leaves ∙ append-nil first
-
-      fewer_first : byte_len (joined (ps ++ f ∷ [])) ≤ byte_len (joined ts)
-      fewer_first =
-          omega (arith, byte_len-append ps (f ∷ []), ap byte_len first_text, bytes_are, bytes_split)
-
-      seam_first : IsSeam (joined ps) (joined (f ∷ []))
-      seam_first =
-          let text_is : take at (text leaf ++ joined ys) ≡ joined (f ∷ []) =
-          take-append-le at (text leaf) (joined ys) (omega (arith, within)) ∙ sym first_text in
-          subst (IsSeam (joined ps)) text_is
-          (seam-take at (joined ps) _ (leaves_seam lp (text leaf ∷ ly) all))
-
-      near_first : IsDenseAfter (last_bytes 492 lp) (leaves_of (f ∷ []))
-      near_first = rw first_leaves (s.long, tt)
-
-      pub all_first : AreSiblings br 0 (ps ++ f ∷ [])
-      all_first =
-          siblings-append br 0 ps (f ∷ []) level_before (lone_siblings br f own_first) seam_first
-          near_first (omega (arith, fewer_first, o.family.fits))
-
-      pub move_first : byte_len (joined ts) < 2 ^ 32 → MayMove (ps ++ f ∷ [])
-      move_first few = record {
-        level = level_of br 0 (ps ++ f ∷ []) all_first;
-        few = omega (arith, few, fewer_first);
-      }
-
-      some_leaves : 1 ≤ length lp
-      some_leaves = some_of br ps level_before.each o.some_before
-
-      following : (n : ℕ) → IsDenseAfter n (leaves_of ts)
-          → IsDenseAfter n (leaves_of (ps ++ f ∷ []))
-      following n d =
-          rw (leaves_of-append ps (f ∷ []))
-          (dense-append n lp (leaves_of (f ∷ []))
-          (dense_left n lp (text leaf ∷ ly) (subst (IsDenseAfter n) leaves_are d))
-          (rw (last_bytes-some n 492 lp some_leaves) near_first))
-
-      front_whole : joined (ps ++ f ∷ []) ≡ take (length (joined ps) + at) (joined ts)
-      front_whole = joined-append ps (f ∷ []) ∙ ap (λ t. joined ps ++ t) first_text
-          ∙ sym (ap (take (length (joined ps) + at)) texts_are
-          ∙ take-append-add (joined ps) _ at
-          ∙ ap (λ t. joined ps ++ t)
-          (take-append-le at (text leaf) (joined ys) (omega (arith, within))))
-
-    module _ (k : Tree) (e : IsEnd leaf ys at k) where
-      long_second : 1 ≤ length second
-      long_second = omega (arith, within, length-drop at (text leaf))
-
-      own_second : IsChild br 0 k
-      own_second = part_own k second e.is e.tree long_second
-
-      second_leaves : leaves_of (k ∷ []) ≡ second ∷ []
-      second_leaves = append-nil k.leaves ∙ part_leaves k second e.is long_second
-
-      second_text : joined (k ∷ []) ≡ second
-      second_text = ap concat second_leaves ∙ append-nil second
-
-      fewer_second : byte_len (joined (k ∷ ys)) ≤ byte_len (joined ts)
-      fewer_second =
-          omega (
-            arith,
-            byte_len-append (k ∷ []) ys,
-            ap byte_len second_text,
-            bytes_are,
-            bytes_split,
-          )
-
-      seam_second : IsSeam (joined (k ∷ [])) (joined ys)
-      seam_second =
-          let from : AreLeaves (text leaf ∷ ly) = leaves_right lp (text leaf ∷ ly) all in
-          let whole : IsSeam (text leaf) (joined ys) =
-          rw append-nil at (leaves_seam (text leaf ∷ []) ly from) in
-          rw second_text (seam-drop at (text leaf) (joined ys) whole)
-
-      pub all_second : AreSiblings br 0 (k ∷ ys)
-      all_second =
-          siblings-append br 0 (k ∷ []) ys (lone_siblings br k own_second) level_after seam_second
-          (rw second_leaves e.near) (omega (arith, fewer_second, o.family.fits))
-
-      pub move_second : byte_len (joined ts) < 2 ^ 32 → MayMove (k ∷ ys)
-      move_second few = record {
-        level = level_of br 0 (k ∷ ys) all_second;
-        few = omega (arith, few, fewer_second);
-      }
-
-      ahead : (m n : ℕ) → last_bytes m (leaves_of ts) ≤ last_bytes n (leaves_of (k ∷ ys))
-      ahead m n =
-          let more = some_of br ys level_after.each o.some_after in
-          let now : last_bytes n (leaves_of (k ∷ ys)) ≡ last_bytes 0 ly =
-          last_bytes-append n k.leaves ly ∙ last_bytes-some (last_bytes n k.leaves) 0 ly more in
-          let was : last_bytes m (leaves_of ts) ≡ last_bytes 0 ly = ap (last_bytes m) leaves_are
-          ∙ last_bytes-append m lp (text leaf ∷ ly)
-          ∙ last_bytes-some (byte_len (text leaf)) 0 ly more in
-          omega (arith, now, was)
-
-      back_whole : joined (k ∷ ys) ≡ drop (length (joined ps) + at) (joined ts)
-      back_whole = joined-append (k ∷ []) ys ∙ ap (λ t. t ++ joined ys) second_text
-          ∙ sym (ap (drop (length (joined ps) + at)) texts_are
-          ∙ drop-append-add (joined ps) _ at
-          ∙ drop-append-le at (text leaf) (joined ys) (omega (arith, within)))
-
-    pub leaf_sides : (f k : Tree) → IsStart ps leaf at f → IsEnd leaf ys at k
-        → AreSides (length (joined ps) + at) ts (ps ++ f ∷ []) (k ∷ ys)
-    leaf_sides f k s e =
-        let long = ap length o.is ∙ length-append ps (leaf ∷ ys) in
-        record {
-          front_text = front_whole f s;
-          back_text = back_whole k e;
-          front_level = rw o.flat (all_first f s);
-          back_level = rw o.flat (all_second k e);
-          front_some = omega (arith, length-append ps (f ∷ []));
-          back_some = omega arith;
-          front_few = omega (arith, long, length-append ps (f ∷ []), o.some_after);
-          back_few = omega (arith, long, o.some_before);
-          following = following f s;
-          ahead = ahead k e;
-        }
+    pub kept_listed : IsListed b
+    kept_listed = record {
+      room = room;
+      totals_right =
+          rw (kept_seen, totals)
+          (first_totals n a.totals ts le (rw view at i.totals_right));
+      above = height ∙ ap (λ l. height_of l + 1) (sym kept_seen);
+      same_breaks = breaks ∙ ap breaks_of (sym kept_seen);
+      places =
+          let past : drop (length b.totals) b.nodes ≡ ys ++ zs =
+          (rw (kept_len, nodes) refl) ∙ ap (λ k. drop k (take n a.nodes ++ (ys ++ zs))) (sym front)
+          ∙ drop-append_seam (take n a.nodes) (ys ++ zs) in
+          rw past (All-append IsFlat ys zs first second);
+    }

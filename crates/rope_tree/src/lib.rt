@@ -25,7 +25,7 @@
 //! - `maker`, `search`, `editor`: new nodes, running totals, and both with the counts of an edit
 //! - `node`: nodes; `row` makes nodes over rows of others, `anew` inserts into a new tree,
 //!   `in_place` edits nodes in place, `across` two adjacent leaves, `pieces` splits longer texts,
-//!   and `split` splits a tree in place
+//!   `moves` moves children between lists, and `split` and `append` split and append trees by it
 //! - `lookup`, `conversions`: the descent to a leaf, and conversions of indices by it
 //! - `beside`, `short_edits`: the minimum bytes beside neighbours, and edits of whole trees
 //! - `build`, `builder`: trees of whole texts, and of texts passed in one after another

@@ -18,7 +18,9 @@ use std::rc::Rc;
 
 mod across;
 pub(crate) mod anew;
+mod append;
 mod in_place;
+mod moves;
 mod pieces;
 pub mod row;
 mod split;

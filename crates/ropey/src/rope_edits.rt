@@ -228,7 +228,7 @@ impl Rope {
     }
 
     /// Keeps the first `char_idx` characters, and returns the rest as a rope with the same set of
-    /// line breaks. Nodes that no other rope shares move to one of the two; others are shared.
+    /// line breaks. The two may share nodes.
     ///
     /// The index is at most `len_chars()`. Takes memory for at most 12 d + 2 nodes, where d is the
     /// rope's depth.
@@ -422,7 +422,7 @@ impl Rope {
         }
     }
 
-    /// Appends the text of another rope. The rope shares nodes of the other's tree.
+    /// Appends the text of another rope.
     ///
     /// If one of the two is empty, it takes no memory, and the rope has the chunks of the other;
     /// else it takes memory for at most 16 d + 11 nodes, where d is the greater depth of the two.
@@ -483,7 +483,9 @@ impl Rope {
         }
         let mut editor = Editor::new(self.alloc);
         editor.enter();
-        let appended = append_to(&mut editor, &mut self.root, &other.root);
+        let appended = append_to(&mut editor, &mut self.root, &mut other.root);
+        // What is left in the other is a tree, by the contract of any call on its root.
+        other.root.height();
         *steps = editor.steps();
         Ok(appended?)
     }

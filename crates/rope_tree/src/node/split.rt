@@ -4,190 +4,24 @@
 //! On the descent each level allocates the list that it needs, and takes the list on the path and
 //! the two beside it out of their list, if these have no other owner. The leaf is split last. From
 //! there on nothing fails: on the ascent each level moves children between the two parts of a split
-//! list and the lists beside them, so that each keeps at least 12. Where a node is shared, or the
-//! path is at the end of a list, nothing has changed and the caller makes two new trees.
-ghost use Rattle.std.specs.Prelude.{◌≡◌, ℕ, ◌+◌, ◌-◌, ◌*◌, ◌^◌, ◌<◌, ◌≤◌, ◌⊎◌, [], ◌∷◌, ◌++◌, true, false, length, take, drop, slice_index_or, IfOk, IfErr, IfSome, IfNone, OnErr, MatchResult};
-ghost use Rattle.rope_text.specs.declared.TheConstants.{MAX_CHILDREN, MIN_CHILDREN, MIN_TWO_LEAVES_BYTES};
+//! list and the lists beside them, so that each keeps at least 12. At the root, the first child and
+//! the last need one list beside them. Where a node is shared, or the path is at the end of a list
+//! below the root, nothing has changed and the caller makes two new trees.
+ghost use Rattle.std.specs.Prelude.{◌≡◌, ◌+◌, ◌-◌, ◌*◌, ◌^◌, ◌<◌, ◌≤◌, [], ◌∷◌, ◌++◌, true, false, length, take, drop, slice_index_or, IfOk, IfSome, IfNone, OnErr};
+ghost use Rattle.rope_text.specs.declared.TheConstants.{MIN_TWO_LEAVES_BYTES};
 ghost use Rattle.rope_text.specs.Text.{byte_len};
-ghost use Rattle.rope_tree.specs.Tree.{Tree, text, joined, leaf_tree, tree_over, height_of, IsTree, AreFamily};
-ghost use Rattle.rope_tree.specs.Siblings.{AreLevel, gathered};
+ghost use Rattle.rope_tree.specs.Tree.{Tree, text, joined, leaf_tree, height_of, breaks_of, IsTree, AreFamily};
 ghost use Rattle.rope_tree.specs.Searched.{HasSearched};
-ghost use Rattle.rope_tree.specs.Split.{nodes_over, AreSides};
+ghost use Rattle.rope_tree.specs.Split.{IsFrontOf, IsBackOf, MayFollow, EndsAs, AreSides, IsWhole};
 
 use super::in_place::Branch;
+use super::moves::{MAX_NARROW_BYTES, empty_list, gathered, over};
 use super::{Children, Form, Node};
-use crate::{Editor, Made, Maker, Totals, total_before};
-use rope_shared::local::Sole;
-use rope_text::{LineBreaks, MAX_CHILDREN, MIN_CHILDREN};
-use std::alloc::{AllocError, Global};
+use crate::{Editor, Made, Maker, total_before};
 use std::mem;
 use std::rc::Rc;
 
-/// Allocates an empty list.
-#[inline(never)]
-fn empty_list(alloc: Global) -> Made<Sole<Children>>
-    ensures { IfOk result (λ list. list.value ≡ []) }
-{
-    let none = Children {
-        height: 1,
-        breaks: LineBreaks::Unicode,
-        last: 0,
-        totals: Totals::new(),
-        nodes: Default::default(),
-    };
-    match Sole::new(alloc, none) {
-        Ok(list) => Ok(list),
-        Err(refused) => {
-            // It is empty, so nothing leaks; dropping it would add a 400-byte move to the path that
-            // succeeds.
-            mem::forget(refused);
-            Err(AllocError)
-        }
-    }
-}
-
-/// Exchanges `count` entries of two lists.
-fn exchange(places: &mut [Node], at: usize, others: &mut [Node], from: usize, count: usize)
-    requires room { at + count ≤ length places.old }
-    requires within { from + count ≤ length others.old }
-    ensures first { places.new ≡ take at places.old
-        ++ (take count (drop from others.old) ++ drop (at + count) places.old) }
-    ensures second { others.new ≡ take from others.old
-        ++ (take count (drop at places.old) ++ drop (from + count) others.old) }
-{
-    places[at..at + count].swap_with_slice(&mut others[from..from + count]);
-}
-
-/// Makes a node of a list.
-fn over(list: Sole<Children>) -> Node
-    requires { AreFamily list.value }
-    ensures { result ≡ tree_over list.value }
-{
-    let form = Form::Inner(list.into_rc());
-    Node { form }
-}
-
 impl Children {
-    /// Moves the children of another list from the index `from` on to the end of this one.
-    fn take_from(&mut self, other: &mut Children, from: usize)
-        requires level { AreLevel (self.old ++ drop from other.old) }
-        requires level_other { AreLevel other.old }
-        requires few { byte_len (joined (self.old ++ drop from other.old)) < 2 ^ 32 }
-        requires room { length (self.old ++ drop from other.old) ≤ MAX_CHILDREN }
-        ensures moved { self.new ≡ self.old ++ drop from other.old }
-        ensures rest { other.new ≡ take from other.old }
-    {
-        let (len, past) = (self.totals.len(), other.totals.len());
-        if from >= past {
-            return;
-        }
-        let count = past - from;
-        let base = total_before(&other.totals, from);
-        let before = total_before(&self.totals, len);
-        self.totals.take_from(&mut other.totals, from, base, before);
-        exchange(&mut self.nodes, len, &mut other.nodes, from, count);
-        (self.height, self.breaks) = (other.height, other.breaks);
-        if from == 0 {
-            (other.height, other.breaks) = (1, LineBreaks::Unicode);
-        }
-    }
-
-    /// Appends a child.
-    fn push(&mut self, node: Node)
-        requires level { AreLevel (self.old ++ node ∷ []) }
-        requires few { byte_len (joined (self.old ++ node ∷ [])) < 2 ^ 32 }
-        requires room { length self.old < MAX_CHILDREN }
-        ensures { self.new ≡ self.old ++ node ∷ [] }
-    {
-        let len = self.totals.len();
-        let total = total_before(&self.totals, len).plus(node.info());
-        self.totals.insert(len, total);
-        self.height = (node.height() + 1) as u8;
-        self.breaks = node.line_breaks();
-        self.nodes[len] = node;
-    }
-
-    /// Removes the last child, and returns it.
-    fn pop(&mut self) -> Node
-        requires { 1 ≤ length self.old }
-        ensures { self.old ≡ self.new ++ result ∷ [] }
-    {
-        let last = self.totals.len() - 1;
-        let node = mem::take(&mut self.nodes[last]);
-        self.totals.truncate(last);
-        if last == 0 {
-            (self.height, self.breaks) = (1, LineBreaks::Unicode);
-        }
-        node
-    }
-
-    /// Removes the last child, and returns its list, if that has no other owner.
-    fn pop_list(&mut self) -> Option<Sole<Children>>
-        requires some { 1 ≤ length self.old }
-        requires level { AreLevel self.old }
-        requires few { byte_len (joined self.old) < 2 ^ 32 }
-        requires room { length self.old ≤ MAX_CHILDREN }
-        ensures list { IfSome result (λ list. self.old ≡ self.new ++ tree_over list.value ∷ []) }
-        ensures family { IfSome result (λ list. AreFamily list.value) }
-        ensures kept { IfNone result (self.new ≡ self.old) }
-    {
-        match self.pop().into_list() {
-            Ok(list) => Some(list),
-            Err(node) => {
-                self.push(node);
-                None
-            }
-        }
-    }
-
-    /// Appends a node over a list, unless the list is empty.
-    fn push_over(&mut self, list: Sole<Children>)
-        requires family { 1 ≤ length list.value → AreFamily list.value }
-        requires level { AreLevel (self.old ++ nodes_over list.value) }
-        requires few { byte_len (joined (self.old ++ nodes_over list.value)) < 2 ^ 32 }
-        requires room { length self.old < MAX_CHILDREN }
-        ensures { self.new ≡ self.old ++ nodes_over list.value }
-    {
-        if list.as_ref().totals.len() > 0 {
-            self.push(over(list));
-        }
-    }
-
-    /// Moves children between two adjacent lists, so that each has at least 12, or the second none.
-    fn settle(&mut self, right: &mut Children, pocket: &mut Children)
-        requires level { AreLevel (self.old ++ right.old) }
-        requires few { byte_len (joined (self.old ++ right.old)) < 2 ^ 32 }
-        requires some { 1 ≤ length self.old }
-        requires most { length self.old ≤ MAX_CHILDREN }
-        requires most_right { length right.old ≤ MAX_CHILDREN }
-        requires enough { MIN_CHILDREN ≤ length (self.old ++ right.old) }
-        requires none { pocket.old ≡ [] }
-        ensures same { self.new ++ right.new ≡ self.old ++ right.old }
-        ensures least { MIN_CHILDREN ≤ length self.new }
-        ensures most { length self.new ≤ MAX_CHILDREN }
-        ensures least_right { 1 ≤ length right.new → MIN_CHILDREN ≤ length right.new }
-        ensures most_right { length right.new ≤ MAX_CHILDREN }
-        ensures none { pocket.new ≡ [] }
-    {
-        let (first, second) = (self.totals.len(), right.totals.len());
-        if first >= MIN_CHILDREN && second >= MIN_CHILDREN {
-            return;
-        }
-        if first + second <= MAX_CHILDREN {
-            self.take_from(right, 0);
-            return;
-        }
-        let half = (first + second) / 2;
-        if first > half {
-            pocket.take_from(self, half);
-            pocket.take_from(right, 0);
-        } else {
-            pocket.take_from(right, half - first);
-            self.take_from(right, 0);
-        }
-        mem::swap(pocket, right);
-    }
-
     /// Keeps the children before the character `at`, which is neither the first nor past the last,
     /// and moves those from it on to an empty list. Returns whether it did.
     #[cycle(split)]
@@ -222,13 +56,53 @@ impl Children {
         if place == 0 || place + 1 == self.totals.len() {
             return Ok(false);
         }
-        let did = if self.height == 1 {
-            rest.take_from(self, place + 1);
-            self.split_leaf(&mut editor.maker, inside, rest, pocket)
-        } else {
-            rest.take_from(self, place + 2);
-            self.split_list(editor, inside, rest, pocket)
-        };
+        if self.height == 1 {
+            return self.split_leaf_at(&mut editor.maker, place, inside, rest, pocket);
+        }
+        rest.take_from(self, place + 2);
+        let did = self.split_list(editor, inside, rest, pocket);
+        if !matches!(did, Ok(true)) {
+            self.take_from(rest, 0);
+        }
+        did
+    }
+
+    /// Splits the leaf at the index `place`, `inside` characters from its start, if both parts are
+    /// long enough beside the leaves around it, and moves the second part and the leaves after it
+    /// to an empty list. Returns whether it did.
+    fn split_leaf_at(
+        &mut self,
+        maker: &mut Maker,
+        place: usize,
+        inside: usize,
+        rest: &mut Children,
+        pocket: &mut Children,
+    ) -> Made<bool>
+        requires children { AreFamily self.old }
+        requires leaves { height_of self.old ≡ 0 }
+        requires few { byte_len (joined self.old) < 2 ^ 32 }
+        requires child { place < length self.old }
+        requires some { 1 ≤ inside }
+        requires within { (leaf : Tree)
+            → inside < length (text (slice_index_or self.old place leaf)) }
+        requires none { rest.old ≡ [] }
+        requires none_in_pocket { pocket.old ≡ [] }
+        ensures front { IfOk result (λ did. did ≡ true → IsFrontOf
+            (length (joined (take place self.old)) + inside) self.old self.new) }
+        ensures back { IfOk result (λ did. did ≡ true → IsBackOf
+            (length (joined (take place self.old)) + inside) self.old rest.new) }
+        ensures following { IfOk result (λ did. did ≡ true → 1 ≤ place
+            → MayFollow self.old self.new) }
+        ensures ahead { IfOk result (λ did. did ≡ true → place + 1 < length self.old
+            → EndsAs self.old rest.new) }
+        ensures kept { IfOk result (λ did. did ≡ false → self.new ≡ self.old) }
+        ensures err { OnErr result (self.new ≡ self.old) }
+        ensures none_in_pocket { pocket.new ≡ [] }
+        ensures idle { IfOk result (λ did. did ≡ false → maker.new.made ≡ maker.old.made) }
+        ensures made { maker.new.made ≤ maker.old.made + 1 }
+    {
+        rest.take_from(self, place + 1);
+        let did = self.split_leaf(maker, inside, rest, pocket);
         if !matches!(did, Ok(true)) {
             self.take_from(rest, 0);
         }
@@ -248,15 +122,21 @@ impl Children {
         requires children { AreFamily (self.old ++ rest.old) }
         requires leaves { height_of (self.old ++ rest.old) ≡ 0 }
         requires few { byte_len (joined (self.old ++ rest.old)) < 2 ^ 32 }
-        requires some_before { 2 ≤ length self.old }
-        requires some_after { 1 ≤ length rest.old }
+        requires some_children { 1 ≤ length self.old }
         requires some { 1 ≤ inside }
         requires within { (leaf : Tree)
             → inside < length (text (slice_index_or self.old (length self.old - 1) leaf)) }
         requires none { pocket.old ≡ [] }
-        ensures done { IfOk result (λ did. did ≡ true → AreSides
+        ensures front { IfOk result (λ did. did ≡ true → IsFrontOf
             (length (joined (take (length self.old - 1) self.old)) + inside)
-            (self.old ++ rest.old) self.new rest.new) }
+            (self.old ++ rest.old) self.new) }
+        ensures back { IfOk result (λ did. did ≡ true → IsBackOf
+            (length (joined (take (length self.old - 1) self.old)) + inside)
+            (self.old ++ rest.old) rest.new) }
+        ensures following { IfOk result (λ did. did ≡ true → 2 ≤ length self.old
+            → MayFollow (self.old ++ rest.old) self.new) }
+        ensures ahead { IfOk result (λ did. did ≡ true → 1 ≤ length rest.old
+            → EndsAs (self.old ++ rest.old) rest.new) }
         ensures kept { IfOk result (λ did. did ≡ false
             → (self.new ≡ self.old) × (rest.new ≡ rest.old)) }
         ensures err { OnErr result ((self.new ≡ self.old) × (rest.new ≡ rest.old)) }
@@ -264,11 +144,8 @@ impl Children {
         ensures idle { IfOk result (λ did. did ≡ false → maker.new.made ≡ maker.old.made) }
         ensures made { maker.new.made ≤ maker.old.made + 1 }
     {
-        let last = self.totals.len() - 1;
-        let start = total_before(&self.totals, last).bytes;
-        let before = start - total_before(&self.totals, last - 1).bytes;
-        let after = rest.totals.get(0).bytes;
         let mut leaf = self.pop();
+        let (before, after) = (self.last_leaf_len(), rest.first_leaf_len());
         let found = leaf.split_leaf(maker, inside, before, after);
         self.push(leaf);
         let Some(back) = found? else {
@@ -315,56 +192,162 @@ impl Children {
             (7 * height_of (self.old ++ rest.old)) editor.old editor.new }
     {
         let mut back = empty_list(editor.maker.alloc)?;
-        let Some(mut right) = self.pop_list() else {
-            return Ok(false);
-        };
-        let Some(mut list) = self.pop_list() else {
-            self.push_over(right);
-            return Ok(false);
-        };
-        let Some(mut left) = self.pop_list() else {
-            self.push_over(list);
-            self.push_over(right);
+        let Some((left, mut list, right)) = self.pop_three() else {
             return Ok(false);
         };
         let did = list.as_mut().split(editor, inside, back.as_mut(), pocket);
         if !matches!(did, Ok(true)) {
-            self.push_over(left);
-            self.push_over(list);
-            self.push_over(right);
+            self.push_two(left, list);
+            self.push(over(right));
             return did;
         }
         editor.maker.add_made();
-        left.as_mut().settle(list.as_mut(), pocket);
-        back.as_mut().settle(right.as_mut(), pocket);
-        self.push_over(left);
-        self.push_over(list);
-        pocket.push_over(back);
-        pocket.push_over(right);
-        pocket.take_from(rest, 0);
-        rest.take_from(pocket, 0);
+        self.push_settled(left, list, pocket);
+        rest.prepend_settled(back, right, pocket);
         Ok(true)
+    }
+
+    /// Splits the first child of a root before the character `at`, which is in it. Keeps the
+    /// children of its first part, and moves the second part and the other children to an empty
+    /// list. Returns whether it did.
+    fn split_first(
+        &mut self,
+        editor: &mut Editor,
+        at: usize,
+        rest: &mut Children,
+        pocket: &mut Children,
+    ) -> Made<bool>
+        requires children { AreFamily self.old }
+        requires lists { 1 ≤ height_of self.old }
+        requires few { byte_len (joined self.old) < 2 ^ 32 }
+        requires some { 1 ≤ at }
+        requires within { at < length (joined (take 1 self.old)) }
+        requires none { rest.old ≡ [] }
+        requires none_in_pocket { pocket.old ≡ [] }
+        ensures front { IfOk result (λ did. did ≡ true
+            → IsWhole (breaks_of self.old) (take at (joined self.old)) self.new) }
+        ensures back { IfOk result (λ did. did ≡ true
+            → IsWhole (breaks_of self.old) (drop at (joined self.old)) rest.new) }
+        ensures kept { IfOk result (λ did. did ≡ false → self.new ≡ self.old) }
+        ensures err { OnErr result (self.new ≡ self.old) }
+        ensures idle { IfOk result (λ did. did ≡ false
+            → editor.new.maker.made ≡ editor.old.maker.made) }
+        ensures made { editor.new.maker.made ≤ editor.old.maker.made + height_of self.old + 1 }
+        ensures searched { HasSearched (height_of self.old) (7 * height_of self.old) editor.old
+            editor.new }
+    {
+        let mut back = empty_list(editor.maker.alloc)?;
+        rest.take_from(self, 2);
+        let Some((mut list, right)) = self.pop_two() else {
+            self.take_from(rest, 0);
+            return Ok(false);
+        };
+        let did = list.as_mut().split(editor, at, back.as_mut(), pocket);
+        if !matches!(did, Ok(true)) {
+            self.push_two(list, right);
+            self.take_from(rest, 0);
+            return did;
+        }
+        editor.maker.add_made();
+        rest.prepend_settled(back, right, pocket);
+        mem::swap(self, list.as_mut());
+        Ok(true)
+    }
+
+    /// Splits the last child of a root, `inside` characters from its start. Keeps the other
+    /// children and the first part, and moves the children of the second part to an empty list.
+    /// Returns whether it did.
+    fn split_last(
+        &mut self,
+        editor: &mut Editor,
+        inside: usize,
+        rest: &mut Children,
+        pocket: &mut Children,
+    ) -> Made<bool>
+        requires children { AreFamily self.old }
+        requires lists { 1 ≤ height_of self.old }
+        requires few { byte_len (joined self.old) < 2 ^ 32 }
+        requires some { 1 ≤ inside }
+        requires within { length (joined (take (length self.old - 1) self.old)) + inside
+            < length (joined self.old) }
+        requires none { rest.old ≡ [] }
+        requires none_in_pocket { pocket.old ≡ [] }
+        ensures front { IfOk result (λ did. did ≡ true → IsWhole (breaks_of self.old)
+            (take (length (joined (take (length self.old - 1) self.old)) + inside)
+            (joined self.old)) self.new) }
+        ensures back { IfOk result (λ did. did ≡ true → IsWhole (breaks_of self.old)
+            (drop (length (joined (take (length self.old - 1) self.old)) + inside)
+            (joined self.old)) rest.new) }
+        ensures kept { IfOk result (λ did. did ≡ false → self.new ≡ self.old) }
+        ensures err { OnErr result (self.new ≡ self.old) }
+        ensures idle { IfOk result (λ did. did ≡ false
+            → editor.new.maker.made ≡ editor.old.maker.made) }
+        ensures made { editor.new.maker.made ≤ editor.old.maker.made + height_of self.old + 1 }
+        ensures searched { HasSearched (height_of self.old) (7 * height_of self.old) editor.old
+            editor.new }
+    {
+        let mut back = empty_list(editor.maker.alloc)?;
+        let Some((left, mut list)) = self.pop_two() else {
+            return Ok(false);
+        };
+        let did = list.as_mut().split(editor, inside, back.as_mut(), pocket);
+        if !matches!(did, Ok(true)) {
+            self.push_two(left, list);
+            return did;
+        }
+        editor.maker.add_made();
+        self.push_settled(left, list, pocket);
+        mem::swap(rest, back.as_mut());
+        Ok(true)
+    }
+
+    /// Splits the children of a root before the character `at`, which is neither the first nor past
+    /// the last: keeps those before it, and moves those from it on to an empty list. Returns
+    /// whether it did.
+    fn split_root(
+        &mut self,
+        editor: &mut Editor,
+        at: usize,
+        rest: &mut Children,
+        pocket: &mut Children,
+    ) -> Made<bool>
+        requires children { AreFamily self.old }
+        requires few { byte_len (joined self.old) < 2 ^ 32 }
+        requires some { 1 ≤ at }
+        requires within { at < length (joined self.old) }
+        requires none { rest.old ≡ [] }
+        requires none_in_pocket { pocket.old ≡ [] }
+        ensures front { IfOk result (λ did. did ≡ true
+            → IsWhole (breaks_of self.old) (take at (joined self.old)) self.new) }
+        ensures back { IfOk result (λ did. did ≡ true
+            → IsWhole (breaks_of self.old) (drop at (joined self.old)) rest.new) }
+        ensures kept { IfOk result (λ did. did ≡ false → self.new ≡ self.old) }
+        ensures err { OnErr result (self.new ≡ self.old) }
+        ensures idle { IfOk result (λ did. did ≡ false
+            → editor.new.maker.made ≡ editor.old.maker.made) }
+        ensures made { editor.new.maker.made ≤ editor.old.maker.made + height_of self.old + 1 }
+        ensures searched { HasSearched (height_of self.old + 1) (7 * height_of self.old + 7)
+            editor.old editor.new }
+    {
+        let last = self.totals.len() - 1;
+        let before = total_before(&self.totals, last).chars;
+        if at < self.totals.get(0).chars {
+            if self.height == 1 {
+                return self.split_leaf_at(&mut editor.maker, 0, at, rest, pocket);
+            }
+            return self.split_first(editor, at, rest, pocket);
+        }
+        if at > before {
+            if self.height == 1 {
+                return self.split_leaf_at(&mut editor.maker, last, at - before, rest, pocket);
+            }
+            return self.split_last(editor, at - before, rest, pocket);
+        }
+        self.split(editor, at, rest, pocket)
     }
 }
 
 impl Node {
-    /// Returns the list of an inner node, if that has no other owner, and the node otherwise.
-    fn into_list(self) -> Result<Sole<Children>, Node>
-        ensures node { MatchResult result (λ list. self ≡ tree_over list.value)
-            (λ node. node ≡ self) }
-        ensures family { IfOk result (λ list. AreFamily list.value) }
-    {
-        let Node { form } = self;
-        let form = match form {
-            Form::Inner(children) => match Sole::claim(children) {
-                Ok(list) => return Ok(list),
-                Err(children) => Form::Inner(children),
-            },
-            form => form,
-        };
-        Err(Node { form })
-    }
-
     /// Splits a leaf before the character `at`, if it has no other owner and both parts are long
     /// enough beside leaves of `before` and `after` bytes. Keeps the first part, and returns a leaf
     /// of the second.
@@ -407,9 +390,9 @@ impl Node {
 
     /// Splits a tree before the character `at`, where it stands: keeps the characters before it,
     /// and returns a tree of those from it on. Returns `None`, leaving the tree as it was, if a
-    /// node on the path or beside it has another owner, if the path is at the end of a list, if a
-    /// part of the leaf would be too short, or if the tree is a leaf or has 4 GiB or more. Takes
-    /// memory for a list a level, two more, and a leaf.
+    /// node on the path or beside it has another owner, if the path is at the end of a list below
+    /// the root, if a part of the leaf would be too short, or if the tree is a leaf or has 4 GiB or
+    /// more. Takes memory for a list a level, two more, and a leaf.
     pub fn split_in_place(&mut self, editor: &mut Editor, at: usize) -> Made<Option<Node>>
         requires { at ≤ length (text self.old) }
         ensures front { IfOk result (λ found. IfSome found
@@ -443,7 +426,7 @@ impl Node {
         };
         let did = list
             .as_mut()
-            .split(editor, at, rest.as_mut(), pocket.as_mut());
+            .split_root(editor, at, rest.as_mut(), pocket.as_mut());
         if let Ok(true) = did {
             *self = gathered(list);
             editor.maker.add_made();
@@ -453,20 +436,4 @@ impl Node {
         did?;
         Ok(None)
     }
-}
-
-/// The maximum number of bytes of a tree whose totals all fit in 32 bits.
-const MAX_NARROW_BYTES: usize = 4_294_967_295;
-
-/// Returns the only child of a list, or a node over all.
-fn gathered(mut list: Sole<Children>) -> Node
-    requires some { 1 ≤ length list.value }
-    requires few { length list.value ≤ MAX_CHILDREN }
-    requires level { AreLevel list.value }
-    ensures { result ≡ gathered list.value }
-{
-    if list.as_ref().totals.len() > 1 {
-        return over(list);
-    }
-    list.as_mut().pop()
 }

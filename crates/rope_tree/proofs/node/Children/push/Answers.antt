@@ -5,7 +5,7 @@ use Rattle.rope_tree.specs.NewList.{new_list}
 use Rattle.rope_tree.specs.Totals.{IsTotalOf}
 use Rattle.rope_tree.proofs.Infos.{info_within, sum_of_small}
 use Rattle.rope_tree.proofs.RowLaws.{AddsTree, adds_tree, last_counts_all}
-use Rattle.rope_tree.proofs.SplitLaws.{push_listed}
+use Rattle.rope_tree.proofs.MoveLaws.{push_listed}
 use Rattle.rope_tree.proofs.node.Children.push.Goals.{After-info, After-plus-total}
 use Rattle.rope_tree.proofs.node.Children.push.Goals as goal
 

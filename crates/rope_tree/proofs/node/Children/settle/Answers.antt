@@ -1,76 +1,85 @@
 use Rattle.std.proofs.Common.{◌+◌, ◌-◌, ◌/◌, ◌++◌, drop, ap, ap₂, ◌∙◌}
-use Rattle.rope_tree.proofs.MoveLaws.{move_left, move_right, first_split, second_split, move_both, move_end, move_longer, move_start, move_rest}
+use Rattle.rope_tree.proofs.MoveLaws.{movable, movable_left, movable_right, first_split, second_split, move_both, move_end, move_longer, move_start, move_rest}
 use Rattle.rope_tree.proofs.node.Children.settle.Goals.{then-first-half, else-first-half}
 use Rattle.rope_tree.proofs.node.Children.settle.Goals as goal
 
 pub take_from-requires-clause-level_other : goal.take_from-requires-clause-level_other
 take_from-requires-clause-level_other c =
-    (move_right c.args.self.now _ c.requires.level c.requires.few).level
+    (movable_right c.args.self.now _ (movable _ c.requires.level c.requires.few)).level
 
 pub take_from-requires-then-first-half-clause-level :
     goal.take_from-requires-then-first-half-clause-level
 take_from-requires-then-first-half-clause-level c =
-    rw c.requires.none (move_end c.args.self.now _ _ c.requires.level c.requires.few).level
+    rw c.requires.none (move_end c.args.self.now _ _
+    (movable _ c.requires.level c.requires.few)).level
 
 pub take_from-requires-then-first-half-clause-level_other :
     goal.take_from-requires-then-first-half-clause-level_other
 take_from-requires-then-first-half-clause-level_other c =
-    (move_left _ c.args.right.now c.requires.level c.requires.few).level
+    (movable_left _ c.args.right.now (movable _ c.requires.level c.requires.few)).level
 
 pub take_from-requires-then-first-half-clause-few :
     goal.take_from-requires-then-first-half-clause-few
 take_from-requires-then-first-half-clause-few c =
-    rw c.requires.none (move_end c.args.self.now _ _ c.requires.level c.requires.few).few
+    rw c.requires.none (move_end c.args.self.now _ _
+    (movable _ c.requires.level c.requires.few)).few
 
 pub take_from-requires-then-first-half-2-clause-level :
     goal.take_from-requires-then-first-half-2-clause-level
 take_from-requires-then-first-half-2-clause-level c =
     rw (c.take_from-then-first-half.ensures.moved, c.requires.none)
-    (move_both c.args.self.now _ _ c.requires.level c.requires.few).level
+    (move_both c.args.self.now _ _
+    (movable _ c.requires.level c.requires.few)).level
 
 pub take_from-requires-then-first-half-2-clause-level_other :
     goal.take_from-requires-then-first-half-2-clause-level_other
 take_from-requires-then-first-half-2-clause-level_other c =
-    (move_right c.args.self.now _ c.requires.level c.requires.few).level
+    (movable_right c.args.self.now _ (movable _ c.requires.level c.requires.few)).level
 
 pub take_from-requires-then-first-half-2-clause-few :
     goal.take_from-requires-then-first-half-2-clause-few
 take_from-requires-then-first-half-2-clause-few c =
     rw (c.take_from-then-first-half.ensures.moved, c.requires.none)
-    (move_both c.args.self.now _ _ c.requires.level c.requires.few).few
+    (move_both c.args.self.now _ _
+    (movable _ c.requires.level c.requires.few)).few
 
 pub take_from-requires-else-first-half-clause-level :
     goal.take_from-requires-else-first-half-clause-level
 take_from-requires-else-first-half-clause-level c =
-    rw c.requires.none (move_rest c.args.self.now _ _ c.requires.level c.requires.few).level
+    rw c.requires.none (move_rest c.args.self.now _ _
+    (movable _ c.requires.level c.requires.few)).level
 
 pub take_from-requires-else-first-half-clause-level_other :
     goal.take_from-requires-else-first-half-clause-level_other
 take_from-requires-else-first-half-clause-level_other c =
-    (move_right c.args.self.now _ c.requires.level c.requires.few).level
+    (movable_right c.args.self.now _ (movable _ c.requires.level c.requires.few)).level
 
 pub take_from-requires-else-first-half-clause-few :
     goal.take_from-requires-else-first-half-clause-few
 take_from-requires-else-first-half-clause-few c =
-    rw c.requires.none (move_rest c.args.self.now _ _ c.requires.level c.requires.few).few
+    rw c.requires.none (move_rest c.args.self.now _ _
+    (movable _ c.requires.level c.requires.few)).few
 
 pub take_from-requires-else-first-half-2-clause-level :
     goal.take_from-requires-else-first-half-2-clause-level
 take_from-requires-else-first-half-2-clause-level c =
     rw c.take_from-else-first-half.ensures.rest
-    (move_longer c.args.self.now _ _ c.requires.level c.requires.few).level
+    (move_longer c.args.self.now _ _
+    (movable _ c.requires.level c.requires.few)).level
 
 pub take_from-requires-else-first-half-2-clause-level_other :
     goal.take_from-requires-else-first-half-2-clause-level_other
 take_from-requires-else-first-half-2-clause-level_other c =
     rw c.take_from-else-first-half.ensures.rest
-    (move_start c.args.self.now _ _ c.requires.level c.requires.few).level
+    (move_start c.args.self.now _ _
+    (movable _ c.requires.level c.requires.few)).level
 
 pub take_from-requires-else-first-half-2-clause-few :
     goal.take_from-requires-else-first-half-2-clause-few
 take_from-requires-else-first-half-2-clause-few c =
     rw c.take_from-else-first-half.ensures.rest
-    (move_longer c.args.self.now _ _ c.requires.level c.requires.few).few
+    (move_longer c.args.self.now _ _
+    (movable _ c.requires.level c.requires.few)).few
 
 pub returns-clause-same : goal.returns-clause-same
 returns-clause-same c = elim c.if-first-half.branch [

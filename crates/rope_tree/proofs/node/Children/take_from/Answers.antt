@@ -12,7 +12,7 @@ use Rattle.rope_tree.proofs.Descents.{front_is}
 use Rattle.rope_tree.proofs.PartLaws.{has_base, part_few, part_in, is_new_list_part}
 use Rattle.rope_tree.proofs.RowLaws.{last_counts_all}
 use Rattle.rope_tree.proofs.SiblingLaws.{siblings_right}
-use Rattle.rope_tree.proofs.SplitLaws.{first_height, first_breaks, kept_listed}
+use Rattle.rope_tree.proofs.MoveLaws.{first_height, first_breaks, kept_listed}
 use Rattle.rope_tree.proofs.TreeLaws.{height_of_is, breaks_of_is}
 use Rattle.rope_tree.proofs.node.Children.take_from.Goals.{After-total_before-before, After-exchange}
 use Rattle.rope_tree.proofs.node.Children.take_from.Goals as goal
