@@ -1,6 +1,6 @@
 -- A lent pointer, whatever it lends: a share of the memory in which the pointer lies, and a `&` to
 -- the value there. Assumes `Logic`.
-use Rattle.std.proofs.Common.{◌≡◌, ℕ, List, [], ◌∷◌, ◌++◌, refl, sym}
+use Rattle.std.proofs.Common.{◌≡◌, ℕ, List, [], ◌∷◌, ◌++◌, subst, refl, sym, lit<}
 use seplogic.Ra.Ura.{Ura}
 use base.Share
 use base.Share.{halves as share_halves}
@@ -9,19 +9,28 @@ use base.Fml.{Lft, Share, Fml, ftrue, feq, fsep, fseps, fex, fwand, fupd, fdead,
 use base.Before.{before}
 use contract.BorrowLft.{meet_⊑_left}
 use ghost.Rules.{Halves}
-use mir.Val.{Val, vstruct, vcons, vnil}
+use mir.Syntax.{Sym, Ty, Fn, ty_ptr, ty_bool, ty_ref, ty_struct, ty_enum, named, erased, imm, tnil, tcons, ttnil, ttcons, local, value_local, seq, assign, place, deref, field, rv_opd, copy, op2, ptr_eq, int, w8, w64, cond, aggregate, return, skip, block, addr_of}
+use mir.Val.{Val, vstruct, vptr, vcons, vnil, of_list}
+use prog.Wp.{WpFn, Calls, Loops}
+use types.Run.{stop, fld, load, lit, addr, of_opd, bin, no_more, and_then, first, blocks, branches, skips, exec, returns, returns_within, enter}
+use types.ByLocal.{alloc_all, pass_all, free_all, look_at, get, through, sets, sets_last, env}
+use types.Part.{agg, look_in, sub, whole}
+use types.Match.{live}
 use types.Logic.{Logic, sem}
-use types.Kit.{Item, Goal, Seq, ‵, ◌⊛◌, given, learn, later, ◌$◌, ◌∵◌, !, qed, by, move, keep, drop, use0, use1, use2, use3, split, fsplit, fsplit3, fjoin, fpick, fpack, feq_i, feq_l, rewrite, await, suffices, updating, now, assume, done}
-use types.Tokens.{shr_bor-open, obor_alter, bor_fracture}
+use types.Kit.{Item, Goal, Seq, ‵, ◌⊛◌, given, learn, later, prop, at_ret, ◌$◌, ◌∵◌, !, qed, by, move, keep, drop, use0, use1, use2, use3, split, fsplit, fsplit3, fjoin, fpick, fpack, feq_i, feq_l, rewrite, await, suffices, updating, now, assume, done}
+use types.Tokens.{shr_bor-open, shr_bor_dup, obor_close, obor_alter, bor_fracture}
 use types.Na.{before-Incl, before_lent}
-use denote.RattleType.{RattleType, RowLaws}
+use denote.RattleType.{RattleType, RowLaws, Valss}
+use denote.Builtin.{RawPtr}
 use denote.Memory.{hidden_shr, cell_at, cell_cut, cell_join}
-use denote.RawPtr.{Ptr, block_ptr, null_ptr, Testable, ptr_val}
+use denote.RawPtr.{Ptr, block_ptr, null_ptr, Testable, ptr_val, tests_null}
 use denote.Sharing.{ShrLaws}
 use denote.SharingLaws.{contraction}
 use denote.Opens.{hide}
 use denote.Steps.{nothing}
+use denote.Struct.Struct.{Shape, Struct, within}
 use denote.Struct.Lending.{lent_at, lent_at_shr_laws}
+use Rattle.std.proofs.VecSteps.Shapes.{after}
 use Rattle.std.specs.Prelude.{Option, None, Some}
 use Rattle.ropey_c.specs.Handles.{held_lent, lent_for, lasts}
 
@@ -29,16 +38,50 @@ use Rattle.ropey_c.specs.Handles.{held_lent, lent_for, lasts}
 abbrev pub word : Ptr → Val
 word p = vstruct (vcons (ptr_val p) vnil)
 
-module _ (L : RattleType) where
+-- the one field of a lent handle, whatever its name
+abbrev alone : Shape
+alone = record { name = []; args = []; types = []; fields = RawPtr ∷ [] }
+
+-- what it owns, and what is behind the pointer
+abbrev lender : Ptr → Fml → List Val → Fml
+lender p behind vs = fsep ((Struct alone).own_val (p, tt) vs) behind
+
+module _ (laid : List Ty) where
   -- a share of the memory in which a lent pointer lies
   abbrev pub cell_of : Ptr → ℕ → ℕ → Share → Fml
-  cell_of p b o q = cell_at q L.mir (word p ∷ []) b o
+  cell_of p b o q = cell_at q laid (word p ∷ []) b o
+
+  -- a share of a lent handle in that memory
+  abbrev part : Ptr → Fml → ℕ → ℕ → Share → Fml
+  part p behind b o q =
+      fex (List Val) (λ vs. fsep (cell_at q laid vs b o) (lender p behind vs))
+
+  module _ {M : Type 1} {𝓤 : Ura M} (𝓛 : Logic 𝓤) (p : Ptr) (behind : Fml) (b o : ℕ)
+      (q : Share) where
+    part_out : ent 𝓤 (sem 𝓛 (part p behind b o q))
+        (sep 𝓤 (sem 𝓛 (cell_of p b o q)) (sem 𝓛 behind))
+    part_out = qed 𝓛 (‵ (part p behind b o q) ∷ []) ∵ fpick ! (λ vs. fsplit ! $ move ! (1 ∷ []) $
+        fsplit ! $ fpick ! (λ vss. fsplit ! $ feq_l ! (λ ev. fsplit ! $ feq_l ! (λ ep. drop ! $
+        rewrite ! 1 (λ (us : List Val). ‵ (cell_at q laid us b o))
+        (subst (λ (ps : List Val). vs ≡ vstruct (of_list (ps ++ [])) ∷ []) ep ev) refl $
+        move ! (1 ∷ 0 ∷ []) $ done !))))
+
+    part_in : ent 𝓤 (sep 𝓤 (sem 𝓛 (cell_of p b o q)) (sem 𝓛 behind))
+        (sem 𝓛 (part p behind b o q))
+    part_in = let v : Val = word p in
+        qed 𝓛 (‵ (cell_of p b o q) ∷ ‵ behind ∷ []) ∵ move ! (1 ∷ []) $
+        nothing ! $ feq_i ! (List Val) (ptr_val p ∷ []) (ptr_val p ∷ []) refl $ fjoin ! $
+        feq_i ! (List Val) (v ∷ []) (v ∷ []) refl $ fjoin ! $
+        fpack ! (Valss (RawPtr ∷ [])) (within alone (p, tt) (v ∷ [])) (ptr_val p ∷ [], tt) $
+        fjoin ! $ move ! (1 ∷ 0 ∷ []) $ fjoin ! $
+        fpack ! (List Val) (λ us. fsep (cell_at q laid us b o) (lender p behind us)) (v ∷ []) $
+        done !
 
   pub cell_halves : {M : Type 1} {𝓤 : Ura M} (𝓛 : Logic 𝓤) (p : Ptr) (b o : ℕ)
       → Halves 𝓤 𝓛.H 𝓛.A (cell_of p b o)
   cell_halves 𝓛 p b o = record {
-    cut = λ q. cell_cut 𝓛 q (Share.left q) (Share.right q) (share_halves q) L.mir (word p ∷ []) b o;
-    join = λ q. cell_join 𝓛 q (Share.left q) (Share.right q) (share_halves q) L.mir (word p ∷ []) b
+    cut = λ q. cell_cut 𝓛 q (Share.left q) (Share.right q) (share_halves q) laid (word p ∷ []) b o;
+    join = λ q. cell_join 𝓛 q (Share.left q) (Share.right q) (share_halves q) laid (word p ∷ []) b
         o;
   }
 
@@ -196,3 +239,106 @@ module _ (R : RattleType) where
             ‵ (shown p lends κ))) (told s lends refl) $
             await ! tt $ split ! $ move ! (1 ∷ []) $ split ! $ now ! $ move ! (2 ∷ 0 ∷ 1 ∷ []) $
             done !)
+
+    -- a `&` to a lent handle in memory gives them
+    pub lender_told : (laid : List Ty) (p : Ptr) (lends : Option R.Denot) (b o : ℕ) (κ : Lft)
+        (q : Share)
+        → ent 𝓤 (sep 𝓤 (sem 𝓛 (fshr_bor κ (part laid p (held_lent R p lends) b o))) (A.lft κ q))
+        (H.⇛ (Told 𝓛 p (cell_of laid p b o) κ q lends))
+    lender_told laid p lends b o = let behind = held_lent R p lends in
+        lent_told p lends (part laid p behind b o) (cell_of laid p b o) (cell_halves laid 𝓛 p b o)
+        (part_out laid 𝓛 p behind b o) (part_in laid 𝓛 p behind b o)
+
+-- a lent handle, by its name
+abbrev named_handle : Sym → Ty
+named_handle name = ty_struct name (tcons ty_ptr tnil)
+
+-- the code that tests the pointer of a lent handle, and reads through it
+abbrev reader : Sym → Sym → Ty → Ty → Ty → Fn
+reader option name handle pointee value = record {
+  lifetimes = 1;
+  outlives = [];
+  ty_params = [];
+  givens = 0;
+  params = 1;
+  locals = local (ty_enum option
+      (ttcons tnil (ttcons (tcons (ty_ref (named 0) imm pointee) tnil) ttnil))) value_local
+      ∷ local (ty_ref (named 0) imm handle) value_local
+      ∷ local ty_ptr value_local ∷ local ty_ptr value_local ∷ local ty_bool value_local
+      ∷ local (ty_ref erased imm pointee) value_local
+      ∷ local (ty_ref erased imm pointee) value_local
+      ∷ local ty_ptr value_local ∷ [];
+  body = seq (assign (place 2 [])
+      (rv_opd (copy (place 1 (deref (named_handle name) ∷ field 0 ∷ [])))))
+      (seq (assign (place 3 []) (rv_opd (copy (place 2 []))))
+      (seq (assign (place 4 []) (op2 ptr_eq (copy (place 3 [])) (int w64 0)))
+      (seq (cond (copy (place 4 []))
+      (seq (assign (place 0 []) (aggregate (int w8 0 ∷ []))) return) skip)
+      (seq (block (seq (assign (place 7 []) (rv_opd (copy (place 2 []))))
+      (assign (place 6 []) (addr_of (place 7 (deref value ∷ []))))))
+      (seq (assign (place 5 []) (rv_opd (copy (place 6 []))))
+      (seq (assign (place 0 []) (aggregate (int w8 1 ∷ copy (place 5 []) ∷ []))) return))))));
+}
+
+module _ (R : RattleType) where
+  -- a `&` at κ to a lent handle in memory
+  abbrev borrowed : Sym → Ptr → Option R.Denot → ℕ → ℕ → Lft → Fml
+  borrowed name p lends b o κ =
+      fshr_bor κ (part (named_handle name ∷ []) p (held_lent R p lends) b o)
+
+module _ (R : RattleType) (laws : RowLaws R) {M : Type 1} {𝓤 : Ura M} {𝓛 : Logic 𝓤} {K : Type 0}
+  where
+    -- null and `None`, or a `&` to the value; the `&` to the handle stays
+    pub reads : K → (option name : Sym) (handle pointee value : Ty) (C : Calls 𝓤 𝓛.H)
+        (Λ : Loops 𝓤 𝓛.H) (p : Ptr) (lends : Option R.Denot) (rb ro : ℕ) (κ : Lft) (q : Share)
+        (Post : Val → SProp 𝓤)
+        → (lends ≡ None → Seq K 𝓛 (‵ (flft κ q) ∷ ‵ (borrowed R name p lends rb ro κ) ∷ [])
+        (prop (Post (live 0 vnil))))
+        → ((b o : ℕ) (x : R.Denot) → lends ≡ Some x
+        → Seq K 𝓛
+        (‵ (hidden_shr R κ x b o) ∷ ‵ (flft κ q) ∷ ‵ (borrowed R name p lends rb ro κ) ∷ [])
+        (prop (Post (live 1 (vcons (vptr b o) vnil)))))
+        → Seq K 𝓛 (‵ (flft κ q) ∷ ‵ (borrowed R name p lends rb ro κ) ∷ [])
+        (prop (WpFn 𝓤 𝓛.H C Λ (reader option name handle pointee value) (vptr rb ro ∷ []) Post))
+    reads t option name handle pointee value C Λ p lends rb ro κ q Post none some =
+        let fn = reader option name handle pointee value in
+        let laid : List Ty = named_handle name ∷ [] in
+        enter t C Λ fn (vptr rb ro ∷ []) Post $ alloc_all t (λ l. pass_all t refl ((tt, tt), tt) $
+        let Ev = env fn.locals l in
+        move t (1 ∷ []) $ shr_bor_dup t $ move t (0 ∷ 2 ∷ []) $
+        use2 𝓛 (later (‵ (flft κ q) ⊛ ‵ (fshr_bor κ (cell_of laid p rb ro)) ⊛
+        ‵ (shown R p lends κ))) (lender_told R laws 𝓛 laid p lends rb ro κ q) $ await t tt $
+        split t $ move t (1 ∷ []) $ split t $ move t (1 ∷ []) $ shows_as R t p lends κ
+        (λ is e. rewrite t 0 (λ (p : Ptr). ‵ (fshr_bor κ (cell_of laid p rb ro))) is refl $
+        shr_bor-open t tt (cell_halves laid 𝓛 null_ptr rb ro) (λ s.
+        sets t (of_opd t (load t (through t refl (fld t refl (stop t)))
+        (look_in t 1 (sub t 0 refl (whole t))))) refl (tt, record { fits = lit< tt }) $
+        obor_close t tt $ drop t $
+        sets t (of_opd t (get t refl)) refl (tt, record { fits = lit< tt }) $
+        sets t (bin t (get t refl) (lit t tt) tt) refl (tt, tt) $ first t $ branches t (get t refl)
+        (λ _. sets t (agg t (and_then t (lit t tt) (no_more t))) refl (
+          tt,
+          (record { fits = lit< tt }, tt),
+        ) $
+        returns_within t Post refl (look_at t 0 refl) $ free_all t refl $ none e)
+        (λ wrong. absurd wrong)))
+        (λ b o x is e ok. let u = vptr b o in
+        rewrite t 1 (λ (p : Ptr). ‵ (fshr_bor κ (cell_of laid p rb ro))) is refl $
+        move t (1 ∷ 2 ∷ []) $
+        shr_bor-open t tt (cell_halves laid 𝓛 (block_ptr b o) rb ro) (λ s.
+        sets t (of_opd t (load t (through t refl (fld t refl (stop t)))
+        (look_in t 1 (sub t 0 refl (whole t))))) refl (tt, tt) $ obor_close t tt $ drop t $
+        sets t (of_opd t (get t refl)) refl (tt, tt) $
+        sets t (bin t (get t refl) (lit t tt) (tests_null (block_ptr b o) ok)) refl (tt, tt) $
+        first t $ branches t (get t refl)
+        (λ wrong. absurd wrong)
+        (λ _. skips t $ exec t C Λ Ev (after 4 fn.body) (at_ret Ev Post) $ first t $ blocks t $
+        sets t (of_opd t (get t refl)) refl (tt, tt) $
+        sets_last t (addr t (through t refl (stop t))) refl (tt, tt) $
+        exec t C Λ Ev (after 5 fn.body) (at_ret Ev Post) $
+        sets t (of_opd t (get t refl)) refl (tt, tt) $
+        sets t (agg t (and_then t (lit t tt) (and_then t (get t refl) (no_more t)))) refl (
+          tt,
+          (record { fits = lit< tt }, (tt, tt)),
+        ) $
+        returns t (look_at t 0 refl) $ free_all t refl $ move t (1 ∷ 0 ∷ []) $ some b o x e))))

@@ -1,8 +1,5 @@
-pub mod BuilderHandles
-pub mod ChangesHandles
 pub mod EditLists
 pub mod Lending
-pub mod LentChanges
 pub mod LineBreaks
 pub mod Before
 mod ByteParts
@@ -14,11 +11,9 @@ pub mod FileReads
 pub mod FileWriting
 pub mod Filling
 pub mod FoundChunks
-pub mod Handles
-pub mod Held
-pub mod Lents
-pub mod Parts
+pub mod BoxOrNull
 pub mod Showing
 pub mod Pending
 pub mod Idle
 pub mod Takings
+pub mod WalkSteps

@@ -4,12 +4,11 @@ ghost use Rattle.std.specs.Coded.{coded_option};
 ghost use Rattle.ropey_c.specs.Intake.{Taking};
 ghost use Rattle.ropey_c.specs.Builders.{intake_code};
 
+use crate::held::Held;
 use crate::intake::Intake;
-use crate::unboxed::Unboxed;
 use std::alloc::Global;
 use std::marker::Model;
 use std::mem::replace;
-use std::ptr::null_mut;
 
 /// A pointer to a builder on the heap, or null, where there is none. C sees a struct of one
 /// pointer, which begins as null and is changed by the library alone.
@@ -27,34 +26,24 @@ impl Model for BuilderHandle {
 }
 
 impl BuilderHandle {
-    // No builder.
-    fn none(alloc: Global) -> BuilderHandle
-        ensures { result.held ≡ None }
+    fn of(held: Held<Intake>) -> BuilderHandle
+        ensures { result.held ≡ held.value }
     {
-        BuilderHandle {
-            ptr: null_mut(),
-            alloc,
-        }
-    }
-
-    fn of(held: Unboxed<Intake>) -> BuilderHandle
-        ensures { result.held ≡ Some held.value }
-    {
-        let Unboxed { at, alloc } = held;
+        let Held { at, alloc } = held;
         BuilderHandle {
             ptr: at.cast(),
             alloc,
         }
     }
 
-    fn into_box(self) -> Option<Box<Intake>>
-        ensures { MatchOption result (self.held ≡ None) (λ held. self.held ≡ Some held.value) }
+    fn into_held(self) -> Held<Intake>
+        ensures { result.value ≡ self.held }
     {
         let BuilderHandle { ptr, alloc } = self;
-        if ptr.is_null() {
-            return None;
+        Held {
+            at: ptr.cast(),
+            alloc,
         }
-        Some(unsafe { Box::from_raw(alloc, ptr.cast()) })
     }
 
     // Takes the builder out, if there is one.
@@ -63,13 +52,15 @@ impl BuilderHandle {
             (λ held. self.old.held ≡ Some held.value) }
         ensures left { self.new.held ≡ None }
     {
-        replace(self, BuilderHandle::none(alloc)).into_box()
+        let before = replace(self, BuilderHandle::of(Held::none(alloc)));
+        before.into_held().into_box()
     }
 
     // Puts a builder in, and drops the one before, as `bindings/c/leaks.c` tests.
     pub(crate) fn put(&mut self, held: Box<Intake>)
         ensures { self.new.held ≡ Some held.value }
     {
-        drop(replace(self, BuilderHandle::of(Unboxed::of(held))).into_box());
+        let before = replace(self, BuilderHandle::of(Held::of(held)));
+        drop(before.into_held().into_box());
     }
 }

@@ -4,12 +4,11 @@ ghost use Rattle.std.specs.Coded.{coded_option};
 ghost use Rattle.rope_changes.specs.Change.{Change};
 ghost use Rattle.ropey_c.specs.ChangeHandles.{changes_code};
 
-use crate::unboxed::Unboxed;
+use crate::held::Held;
 use rope_changes::ChangeSet;
 use std::alloc::Global;
 use std::marker::Model;
 use std::mem::replace;
-use std::ptr::null_mut;
 
 /// A pointer to a change set on the heap, or null if there is none. C sees a struct of one
 /// pointer, which begins as null and is changed by the library alone.
@@ -27,34 +26,24 @@ impl Model for ChangesHandle {
 }
 
 impl ChangesHandle {
-    // No changes.
-    fn none(alloc: Global) -> ChangesHandle
-        ensures { result.held ≡ None }
+    fn of(held: Held<ChangeSet>) -> ChangesHandle
+        ensures { result.held ≡ held.value }
     {
-        ChangesHandle {
-            ptr: null_mut(),
-            alloc,
-        }
-    }
-
-    fn of(held: Unboxed<ChangeSet>) -> ChangesHandle
-        ensures { result.held ≡ Some held.value }
-    {
-        let Unboxed { at, alloc } = held;
+        let Held { at, alloc } = held;
         ChangesHandle {
             ptr: at.cast(),
             alloc,
         }
     }
 
-    fn into_box(self) -> Option<Box<ChangeSet>>
-        ensures { MatchOption result (self.held ≡ None) (λ held. self.held ≡ Some held.value) }
+    fn into_held(self) -> Held<ChangeSet>
+        ensures { result.value ≡ self.held }
     {
         let ChangesHandle { ptr, alloc } = self;
-        if ptr.is_null() {
-            return None;
+        Held {
+            at: ptr.cast(),
+            alloc,
         }
-        Some(unsafe { Box::from_raw(alloc, ptr.cast()) })
     }
 
     // Takes the changes out, if there are any.
@@ -63,13 +52,15 @@ impl ChangesHandle {
             (λ held. self.old.held ≡ Some held.value) }
         ensures left { self.new.held ≡ None }
     {
-        replace(self, ChangesHandle::none(alloc)).into_box()
+        let before = replace(self, ChangesHandle::of(Held::none(alloc)));
+        before.into_held().into_box()
     }
 
     // Puts changes in, and drops those before, as `bindings/c/leaks.c` tests.
     pub(crate) fn put(&mut self, held: Box<ChangeSet>)
         ensures { self.new.held ≡ Some held.value }
     {
-        drop(replace(self, ChangesHandle::of(Unboxed::of(held))).into_box());
+        let before = replace(self, ChangesHandle::of(Held::of(held)));
+        drop(before.into_held().into_box());
     }
 }

@@ -4,12 +4,11 @@ ghost use Rattle.std.specs.Coded.{coded_option};
 ghost use Rattle.ropey.specs.View.{RopeView};
 ghost use Rattle.ropey_c.specs.Handles.{rope_code, HoldsRope};
 
-use crate::unboxed::Unboxed;
+use crate::held::Held;
 use ropey::Rope;
 use std::alloc::Global;
 use std::marker::Model;
 use std::mem::replace;
-use std::ptr::null_mut;
 
 /// A pointer to a rope on the heap, or null, where there is none. C sees a struct of one pointer,
 /// which begins as null and is changed by the library alone.
@@ -27,34 +26,24 @@ impl Model for Handle {
 }
 
 impl Handle {
-    // No rope.
-    fn none(alloc: Global) -> Handle
-        ensures { result.rope ≡ None }
+    fn of(held: Held<Rope>) -> Handle
+        ensures { result.rope ≡ held.value }
     {
-        Handle {
-            ptr: null_mut(),
-            alloc,
-        }
-    }
-
-    fn of(rope: Unboxed<Rope>) -> Handle
-        ensures { result.rope ≡ Some rope.value }
-    {
-        let Unboxed { at, alloc } = rope;
+        let Held { at, alloc } = held;
         Handle {
             ptr: at.cast(),
             alloc,
         }
     }
 
-    fn into_box(self) -> Option<Box<Rope>>
-        ensures { MatchOption result (self.rope ≡ None) (λ rope. self.rope ≡ Some rope.value) }
+    fn into_held(self) -> Held<Rope>
+        ensures { result.value ≡ self.rope }
     {
         let Handle { ptr, alloc } = self;
-        if ptr.is_null() {
-            return None;
+        Held {
+            at: ptr.cast(),
+            alloc,
         }
-        Some(unsafe { Box::from_raw(alloc, ptr.cast()) })
     }
 
     // Takes the rope out, if there is one.
@@ -64,7 +53,8 @@ impl Handle {
         ensures left { self.new.rope ≡ None }
         ensures kept { HoldsRope self.old.rope }
     {
-        let rope = replace(self, Handle::none(alloc)).into_box()?;
+        let before = replace(self, Handle::of(Held::none(alloc)));
+        let rope = before.into_held().into_box()?;
         // For the proof: a length opens what every rope keeps.
         let _ = rope.len_bytes();
         Some(rope)
@@ -74,6 +64,7 @@ impl Handle {
     pub(crate) fn put(&mut self, rope: Box<Rope>)
         ensures { self.new.rope ≡ Some rope.value }
     {
-        drop(replace(self, Handle::of(Unboxed::of(rope))).into_box());
+        let before = replace(self, Handle::of(Held::of(rope)));
+        drop(before.into_held().into_box());
     }
 }

@@ -32,8 +32,8 @@
 //! looks up in plain texts; `builders` takes bytes in pieces, over `intake`; `file_reading` and
 //! `file_writing` convert files, over `encodings`; `changes` makes changes as values and applies
 //! them, `change_edits` makes them of lists and reads them back, `change_sets` composes and rebases
-//! them; `handle`, `lent`, `builder_handle`, `changes_handle`, `lent_changes` and `unboxed` own or
-//! lend the values of handles; `status` and `change_status` have the numbers of errors, and
+//! them; `handle`, `lent`, `builder_handle`, `changes_handle`, `lent_changes` and `held` own or lend
+//! the values of handles; `status` and `change_status` have the numbers of errors, and
 //! `macros` the steps that return them.
 #![tactic(auto)]
 
@@ -56,6 +56,7 @@ pub mod file_reading;
 pub mod file_writing;
 mod fill;
 pub mod handle;
+mod held;
 pub mod intake;
 pub mod lengths;
 pub mod lent;
@@ -69,5 +70,4 @@ pub mod replace;
 pub mod slices;
 pub mod status;
 pub mod texts;
-mod unboxed;
 pub mod version;

@@ -1,51 +1,31 @@
 -- `of` takes the box apart and keeps both parts.
-use Rattle.std.proofs.Common.{◌≡◌, List, [], ◌∷◌, ◌++◌, refl, sym, ap, ◌∙◌, subst}
-use mir.Syntax.{a_type, dcons, dnil}
+use Rattle.ropey_c.proofs.WalkSteps.{◌≡◌, [], ◌∷◌, refl, List, ◌++◌, sym, subst, ap, ◌∙◌, a_type, inst_fn, Val, vptr, full_share, SProp, emp, ent, id⊢, ftrue, flft, WpFn, ‵, raw, ◌⊛◌, ◌$◌, ◌∵◌, !, qed, by, move, keep, drop, split, fsplit, fjoin, use0, suffices, some, later, split3, join, pick, await, rewrite, use1, no_more, and_then, returns, enter, stop, fld, of_opd, alloc_all, pass_all, free_all, look_at, get, sets, get_in, agg, sub, whole, ◌⊑◌, ⊑_refl, fact, fact_i, tables, no, param, layout, glues, RattleType, owns, ptr_val, Ptr, null_ptr, block_ptr, types_at, plain, nothing, only, heard, Lasts, lasts, triple_of, framed, Stays, stay_dropped, walk_of, proved_at, leaves, handle_tells, Bx, box_typed, box_out, box_in, Option, Some}
+use mir.Syntax.{dcons, dnil}
 use mir.Raw.{raw as bare}
-use mir.Val.{Val, vptr, vstruct, of_list}
-use mir.MapTy.{inst_fn}
-use base.Fraction.{full_share}
-use base.Logic.{SProp, ent, emp, never, id⊢, fst∗}
-use base.Fml.{ftrue, flft}
-use prog.Wp.{WpFn}
+use mir.Val.{vstruct, of_list}
+use base.Logic.{never, fst∗}
 use types.Logic.{sem}
-use types.Kit.{‵, raw, ◌⊛◌, some, later, ◌$◌, ◌∵◌, !, qed, by, move, keep, drop, split, split3, join, fsplit, fjoin, fpick, feq_l, pick, await, rewrite, suffices, use0, use1}
-use types.Run.{stop, fld, of_opd, no_more, and_then, returns, enter}
-use types.ByLocal.{alloc_all, pass_all, free_all, look_at, get, get_in, sets, lands_as}
-use types.Part.{agg, sub, whole}
-use contract.BorrowLft.{◌⊑◌, ⊑_refl}
-use contract.Monad.{fact, fact_i}
-use contract.Running.{tables}
+use types.Kit.{fpick, feq_l}
+use types.ByLocal.{lands_as}
 use denote.Builtin.{RawPtr}
-use denote.Exit.{no}
-use denote.RattleType.{RattleType, owns}
-use denote.Signature.{types_at, plain}
-use denote.Param.{layout, param, bounded}
-use denote.Param.NoDrop.{glues}
-use denote.RawPtr.{Ptr, block_ptr, null_ptr, ptr_val, in_a_block}
-use denote.Steps.{nothing, only, heard}
+use denote.Param.{bounded}
+use denote.RawPtr.{in_a_block}
 use denote.Struct.Tuple.{Tuple}
 use denote.Triple.Call.{calls_at}
-use denote.Triple.Clauses.{Lasts, lasts}
-use denote.Triple.Spec.{triple_of}
-use denote.Triple.Table.{framed}
-use denote.Triple.Walked.{Stays, stay_dropped, walk_of}
-use Rattle.std.proofs.raw_atomic.Walks.{proved_at, leaves}
-use Rattle.std.proofs.alloc.Calls.{Goes-blank, handle_tells}
-use Rattle.std.proofs.BoxSteps.Form.{Bx, word, box_typed}
-use Rattle.std.proofs.BoxSteps.Steps.{box_out, box_in}
+use Rattle.std.proofs.alloc.Calls.{Goes-blank}
+use Rattle.std.proofs.BoxSteps.Form.{word}
 use Rattle.std.specs.Box.Ownership.{box_owns}
 use Rattle.std.specs.contracts.impls.GlobalAllocator.TheImpl.{ghosts, dict}
 use Rattle.std.proofs.impls.GlobalAllocator.TheImpl.Met.{passed}
 use Rattle.std.specs.contracts.boxed.Box as box
 use Rattle.std.specs.contracts.boxed.Box.into_raw_with_allocator as callee
 use Rattle.std.proofs.boxed.Box.into_raw_with_allocator.Met.{met}
-use Rattle.ropey_c.proofs.Held.{Z, Allocators, al, no_drop, pair}
-use Rattle.ropey_c.proofs.Parts.{unboxed_in}
-use Rattle.ropey_c.specs.contracts.unboxed.Unboxed.of.{ended, clauses}
-use Rattle.ropey_c.specs.contracts.unboxed.Unboxed.of.Key.{name as #self}
-use Rattle.ropey_c.proofs.unboxed.Unboxed.of.Statement.{statement}
-use Rattle.ropey_c.proofs.unboxed.Unboxed.of.Code as code
+use Rattle.ropey_c.specs.Handles.{held_at}
+use Rattle.ropey_c.proofs.BoxOrNull.{Z, Allocators, al, no_drop, pair, owner_in}
+use Rattle.ropey_c.specs.contracts.held.Held.of.{ended, clauses}
+use Rattle.ropey_c.specs.contracts.held.Held.of.Key.{name as #self}
+use Rattle.ropey_c.proofs.held.Held.of.Statement.{statement}
+use Rattle.ropey_c.proofs.held.Held.of.Code as code
 
 pub of_spec : {M : Type 1} → statement M
 unfolding Rattle.ropey_c.proofs.Destruct++none.drop.Code.code
@@ -74,6 +54,7 @@ of_spec {M} 𝓤 𝓛 𝓜 𝓡 wired T L drops glue =
     proved_at 𝓛 En hs c 𝓜 𝓡 (Goes-blank 𝓛 1 (plain (λ _. Boxed)) no (λ κs x f. tt), tt)
     (#self at_type) fn (code.unfolded 𝓤 𝓛.H 𝓜 𝓡 wired (T, tt) drops) (λ z are.
     let κs = z.0.0 in let κ = κs.0 in let q = z.0.1.0 in let v = z.0.3.0 in let a = v.alloc in
+    let held : Option (param 0 T).Denot = Some v.value in
     let Post : Val → SProp 𝓤 = (walk_of 𝓛 En hs c).post z in
     let Run : List Val → SProp 𝓤 = λ ws. WpFn 𝓤 𝓛.H 𝓣.C 𝓣.Λ fn ws Post in
     qed 𝓛 (((‵ (flft κ q) ⊛ ‵ ftrue) ⊛ ‵ (owns (types_at En.signature.params κs) z.0.3 z.0.4))
@@ -119,10 +100,12 @@ of_spec {M} 𝓤 𝓛 𝓜 𝓡 wired T L drops glue =
     sets ! (of_opd ! (get_in ! (fld ! refl (stop !)) (sub ! 0 refl (whole !)))) refl (tt, tt) $
     sets ! (of_opd ! (get_in ! (fld ! refl (stop !)) (sub ! 1 refl (whole !)))) refl fits' $
     sets ! (agg ! (and_then ! (get ! refl) (and_then ! (get ! refl) (no_more !)))) refl made $
-    move ! (2 ∷ 0 ∷ []) $ unboxed_in (param 0 T) ! b' o' h' a v.value $ move ! (2 ∷ []) $ nothing !
+    move ! (2 ∷ 0 ∷ []) $
+    owner_in ! (block_ptr b' o') h' a (held_at (param 0 T) a (block_ptr b' o') (Some v.value)) $
+    move ! (2 ∷ []) $ nothing !
     $ move ! (1 ∷ 0 ∷ []) $ join ! $
-    use0 𝓛 (raw (fact 𝓤 (v.value ≡ v.value))) (fact_i 𝓤 (v.value ≡ v.value) (emp 𝓤) refl)
+    use0 𝓛 (raw (fact 𝓤 (held ≡ held))) (fact_i 𝓤 (held ≡ held) (emp 𝓤) refl)
     $ nothing ! $ nothing ! $ fjoin ! $
     returns ! (look_at ! 0 refl) $ free_all ! refl $ keep ! (2 ∷ 0 ∷ 3 ∷ 1 ∷ []) $
     by ! (leaves 𝓛 En hs c z (pair (vptr b' o') h')
-    (record { at = block_ptr b' o'; alloc = a; value = v.value }) (tt, tt) (tt, tt)))))))))))))))
+    (record { at = block_ptr b' o'; alloc = a; value = held }) (tt, tt) (tt, tt)))))))))))))))
