@@ -6,8 +6,8 @@ use std::alloc::Global;
 use std::marker::Model;
 use std::ptr::null_mut;
 
-// The pointer and the allocator of a box, or null. Its code is generic, since the drop of a type
-// decides whether its box may be taken apart.
+// The pointer and the allocator of a box, or null and an allocator. A handle moves its fields here
+// to take its value out, and gets them from here, so the unsafe code stands once.
 pub(crate) struct Held<T> {
     pub(crate) at: *mut T,
     pub(crate) alloc: Global,
