@@ -32,8 +32,8 @@
 //! looks up in plain texts; `builders` takes bytes in pieces, over `intake`; `file_reading` and
 //! `file_writing` convert files, over `encodings`; `changes` makes changes as values and applies
 //! them, `change_edits` makes them of lists and reads them back, `change_sets` composes and rebases
-//! them; `handle`, `lent`, `builder_handle`, `changes_handle`, `lent_changes` and `held` own or lend
-//! the values of handles; `status` and `change_status` have the numbers of errors, and
+//! them; `handle`, `lent`, `builder_handle`, `changes_handle`, `lent_changes` and `held` own or
+//! lend the values of handles; `status` and `change_status` have the numbers of errors, and
 //! `macros` the steps that return them.
 #![tactic(auto)]
 
