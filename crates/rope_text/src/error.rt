@@ -2,9 +2,10 @@
 //!
 //! `Error::CharIndexOutOfBounds(8, 5)` prints `Char index out of bounds: char index 8,
 //! Rope/RopeSlice char length 5`.
-ghost use Rattle.std.specs.Prelude.{◌≡◌, Some};
+ghost use Rattle.std.specs.Prelude.{◌≡◌, ◌++◌, Some, codes};
+ghost use Rattle.std.specs.Fmt.{decimal, WritesOnOk};
 ghost use Rattle.rope_text.specs.declared.error.Error.TheVariants.{OutOfMemory};
-ghost use Rattle.rope_text.specs.ErrorText.{error_text, range_text};
+ghost use Rattle.rope_text.specs.ErrorText.{bound_text, error_text, range_text};
 
 use std::alloc::{AllocError, AllocFailed};
 use std::fmt;
@@ -46,6 +47,21 @@ pub enum Error {
 /// The result of a call that may fail.
 pub type Result<T> = std::result::Result<T, Error>;
 
+/// A bound of a range as given: an open one prints nothing.
+#[derive(Clone, Copy)]
+struct Bound(Option<usize>);
+
+impl fmt::Display for Bound {
+    ghost output = { λ b. Some (bound_text b.0) };
+
+    fn fmt<W: fmt::Write>(&self, f: &mut fmt::Formatter<W>) -> fmt::Result {
+        match self.0 {
+            None => Ok(()),
+            Some(index) => write!(f, "{index}"),
+        }
+    }
+}
+
 /// The bounds of a range as given, printed as Rust writes a range.
 #[derive(Clone, Copy)]
 struct Bounds(Option<usize>, Option<usize>);
@@ -54,13 +70,52 @@ impl fmt::Display for Bounds {
     ghost output = { λ b. Some (range_text b.0 b.1) };
 
     fn fmt<W: fmt::Write>(&self, f: &mut fmt::Formatter<W>) -> fmt::Result {
-        match (self.0, self.1) {
-            (None, None) => write!(f, ".."),
-            (Some(start), None) => write!(f, "{start}.."),
-            (None, Some(end)) => write!(f, "..{end}"),
-            (Some(start), Some(end)) => write!(f, "{start}..{end}"),
-        }
+        write!(f, "{}..{}", Bound(self.0), Bound(self.1))
     }
+}
+
+// Writes the text of an index out of bounds.
+fn show_index<W: fmt::Write>(
+    f: &mut fmt::Formatter<W>,
+    index_is: &str,
+    index: usize,
+    length_is: &str,
+    len: usize,
+) -> fmt::Result
+    ensures { WritesOnOk W.write_str_gives f.old result
+        (index_is.now ++ (decimal index ++ (codes ", Rope/RopeSlice "
+        ++ (length_is.now ++ decimal len)))) f.new }
+{
+    write!(f, "{index_is}{index}, Rope/RopeSlice {length_is}{len}")
+}
+
+// Writes the text of a range out of bounds.
+fn show_range<W: fmt::Write>(
+    f: &mut fmt::Formatter<W>,
+    range_is: &str,
+    range: Bounds,
+    length_is: &str,
+    len: usize,
+) -> fmt::Result
+    ensures { WritesOnOk W.write_str_gives f.old result
+        (range_is.now ++ (range_text range.0 range.1 ++ (codes ", Rope/RopeSlice "
+        ++ (length_is.now ++ decimal len)))) f.new }
+{
+    write!(f, "{range_is}{range}, Rope/RopeSlice {length_is}{len}")
+}
+
+// Writes the text of a range whose start is past its end.
+fn show_invalid<W: fmt::Write>(
+    f: &mut fmt::Formatter<W>,
+    range_is: &str,
+    start: usize,
+    end: usize,
+) -> fmt::Result
+    ensures { WritesOnOk W.write_str_gives f.old result
+        (range_is.now ++ (decimal start ++ (codes ".."
+        ++ (decimal end ++ codes ": start must be <= end")))) f.new }
+{
+    write!(f, "{range_is}{start}..{end}: start must be <= end")
 }
 
 impl fmt::Display for Error {
@@ -68,21 +123,33 @@ impl fmt::Display for Error {
 
     fn fmt<W: fmt::Write>(&self, f: &mut fmt::Formatter<W>) -> fmt::Result {
         match *self {
-            Error::ByteIndexOutOfBounds(index, len) => write!(
+            Error::ByteIndexOutOfBounds(index, len) => show_index(
                 f,
-                "Byte index out of bounds: byte index {index}, Rope/RopeSlice byte length {len}"
+                "Byte index out of bounds: byte index ",
+                index,
+                "byte length ",
+                len,
             ),
-            Error::CharIndexOutOfBounds(index, len) => write!(
+            Error::CharIndexOutOfBounds(index, len) => show_index(
                 f,
-                "Char index out of bounds: char index {index}, Rope/RopeSlice char length {len}"
+                "Char index out of bounds: char index ",
+                index,
+                "char length ",
+                len,
             ),
-            Error::LineIndexOutOfBounds(index, len) => write!(
+            Error::LineIndexOutOfBounds(index, len) => show_index(
                 f,
-                "Line index out of bounds: line index {index}, Rope/RopeSlice line count {len}"
+                "Line index out of bounds: line index ",
+                index,
+                "line count ",
+                len,
             ),
-            Error::Utf16IndexOutOfBounds(index, len) => write!(
+            Error::Utf16IndexOutOfBounds(index, len) => show_index(
                 f,
-                "Utf16 code-unit index out of bounds: utf16 index {index}, Rope/RopeSlice utf16 length {len}"
+                "Utf16 code-unit index out of bounds: utf16 index ",
+                index,
+                "utf16 length ",
+                len,
             ),
             Error::ByteIndexNotCharBoundary(index) => write!(
                 f,
@@ -94,24 +161,28 @@ impl fmt::Display for Error {
                 Bounds(start, end)
             ),
             Error::ByteRangeInvalid(start, end) => {
-                write!(f, "Invalid byte range {start}..{end}: start must be <= end")
+                show_invalid(f, "Invalid byte range ", start, end)
             }
             Error::CharRangeInvalid(start, end) => {
-                write!(f, "Invalid char range {start}..{end}: start must be <= end")
+                show_invalid(f, "Invalid char range ", start, end)
             }
-            Error::ByteRangeOutOfBounds(start, end, len) => write!(
+            Error::ByteRangeOutOfBounds(start, end, len) => show_range(
                 f,
-                "Byte range out of bounds: byte range {}, Rope/RopeSlice byte length {len}",
-                Bounds(start, end)
+                "Byte range out of bounds: byte range ",
+                Bounds(start, end),
+                "byte length ",
+                len,
             ),
-            Error::CharRangeOutOfBounds(start, end, len) => write!(
+            Error::CharRangeOutOfBounds(start, end, len) => show_range(
                 f,
-                "Char range out of bounds: char range {}, Rope/RopeSlice char length {len}",
-                Bounds(start, end)
+                "Char range out of bounds: char range ",
+                Bounds(start, end),
+                "char length ",
+                len,
             ),
-            Error::TooLong => write!(f, "Text would be longer than isize::MAX bytes"),
-            Error::OutOfMemory => write!(f, "Out of memory"),
-            Error::LineBreaksDiffer => write!(f, "Ropes have different line breaks"),
+            Error::TooLong => f.write_str("Text would be longer than isize::MAX bytes"),
+            Error::OutOfMemory => f.write_str("Out of memory"),
+            Error::LineBreaksDiffer => f.write_str("Ropes have different line breaks"),
         }
     }
 }

@@ -430,21 +430,48 @@ pub(crate) fn count_blocks(bytes: &[u8], from: usize, to: usize, breaks: LineBre
     counts
 }
 
+// Returns the number of breaks that begin from the byte `from` on and before `to`: in blocks before
+// `end`, since a block is read two bytes past its end. Inlined, with the set as a constant.
+#[inline(always)]
+fn breaks_in_blocks(bytes: &[u8], from: usize, end: usize, to: usize, breaks: LineBreaks) -> usize
+    requires from { from ≤ end }
+    requires end { end ≤ length bytes.now - 2 }
+    requires last { end ≤ to }
+    requires to { to ≤ length bytes.now }
+    ensures { byte_break_count breaks (drop from bytes.now)
+        ≡ result + byte_break_count breaks (drop to bytes.now) }
+{
+    let blocks = count_blocks(bytes, from, end, breaks);
+    let more = marks_between(bytes, from + blocks.bytes, end, Mark::Break(breaks));
+    blocks.break_count + more + marks_byte_by_byte(bytes, end, to, Mark::Break(breaks))
+}
+
 /// Returns the number of breaks that begin before the byte `to`.
 pub(crate) fn count_breaks_before(bytes: &[u8], to: usize, breaks: LineBreaks) -> usize
     requires { to ≤ length bytes.now }
     ensures { byte_break_count breaks bytes.now
         ≡ result + byte_break_count breaks (drop to bytes.now) }
 {
-    // A block is read two bytes past its end.
     let end = to.min(bytes.len().saturating_sub(2));
     let (from, before) = breaks_in_quarters(bytes, end, breaks);
-    known_set!(breaks => {
-        let blocks = count_blocks(bytes, from, end, breaks);
-        let more = marks_between(bytes, from + blocks.bytes, end, Mark::Break(breaks));
-        let last = marks_byte_by_byte(bytes, end, to, Mark::Break(breaks));
-        before + blocks.break_count + more + last
-    })
+    before + known_set!(breaks => breaks_in_blocks(bytes, from, end, to, breaks))
+}
+
+// Returns the counts of the bytes, in blocks. Inlined, with the set as a constant.
+#[inline(always)]
+fn count_in_blocks(bytes: &[u8], breaks: LineBreaks) -> TextInfo
+    ensures { AreCounts breaks bytes.now result }
+{
+    let end = bytes.len();
+    let last = end.saturating_sub(2);
+    let mut counts = count_blocks(bytes, 0, last, breaks);
+    let at = counts.bytes;
+    counts.bytes = end;
+    counts.chars += marks_between(bytes, at, end, Mark::Char);
+    counts.utf16_surrogates += marks_between(bytes, at, end, Mark::Pair);
+    counts.break_count += marks_between(bytes, at, last, Mark::Break(breaks));
+    counts.break_count += marks_byte_by_byte(bytes, last, end, Mark::Break(breaks));
+    counts
 }
 
 // Returns the counts of the bytes, in blocks. Never inlined: in one function with the counts of a
@@ -453,18 +480,7 @@ pub(crate) fn count_breaks_before(bytes: &[u8], to: usize, breaks: LineBreaks) -
 fn count_many(bytes: &[u8], breaks: LineBreaks) -> TextInfo
     ensures { AreCounts breaks bytes.now result }
 {
-    let end = bytes.len();
-    let last = end.saturating_sub(2);
-    known_set!(breaks => {
-        let mut counts = count_blocks(bytes, 0, last, breaks);
-        let at = counts.bytes;
-        counts.bytes = end;
-        counts.chars += marks_between(bytes, at, end, Mark::Char);
-        counts.utf16_surrogates += marks_between(bytes, at, end, Mark::Pair);
-        counts.break_count += marks_between(bytes, at, last, Mark::Break(breaks));
-        counts.break_count += marks_byte_by_byte(bytes, last, end, Mark::Break(breaks));
-        counts
-    })
+    known_set!(breaks => count_in_blocks(bytes, breaks))
 }
 
 /// Returns the counts of the bytes of a text, in one pass.

@@ -116,8 +116,33 @@ fn is_fault(x: u8, y: u8, z: u8, b: u8) -> bool
     misplaced || (overlong || ((z == 0xED && b >= 0xA0) || (z == 0xF4 && b >= 0x90)))
 }
 
-// Returns the length of a prefix that was checked and has no fault. The last block ends at the end
-// of the bytes, and may overlap checked ones.
+// Checks the last bytes, fewer than two blocks, of which those before `at` have no fault. Returns
+// the length of a prefix without a fault. The last block ends at the end of the bytes, and may
+// overlap checked ones.
+#[inline(always)]
+fn end_without_fault(bytes: &[u8], at: usize) -> usize
+    requires from { 3 ≤ at }
+    requires to { at ≤ length bytes.now }
+    requires block { 35 ≤ length bytes.now }
+    requires few { length bytes.now < at + 64 }
+    requires none { HasNoFault bytes.now at }
+    ensures bound { result ≤ length bytes.now }
+    ensures none { HasNoFault bytes.now result }
+{
+    let mut checked = at;
+    if bytes.len() - at >= 32 {
+        if block_has_fault(bytes, at) {
+            return at;
+        }
+        checked += 32;
+    }
+    if block_has_fault(bytes, bytes.len() - 32) {
+        return checked;
+    }
+    bytes.len()
+}
+
+// Returns the length of a prefix that was checked and has no fault.
 fn front_without_fault(bytes: &[u8]) -> usize
     ensures bound { result ≤ length bytes.now }
     ensures none { HasNoFault bytes.now result }
@@ -143,16 +168,7 @@ fn front_without_fault(bytes: &[u8]) -> usize
         }
         at += 64;
     }
-    if bytes.len() - at >= 32 {
-        if block_has_fault(bytes, at) {
-            return at;
-        }
-        at += 32;
-    }
-    if block_has_fault(bytes, bytes.len() - 32) {
-        return at;
-    }
-    bytes.len()
+    end_without_fault(bytes, at)
 }
 
 // Returns the end of the last complete character up to `at`.

@@ -1,6 +1,6 @@
-use Rattle.std.proofs.Common.{◌≡◌, ◌<◌, ◌≤◌, ℕ, length, IsTrue, ⊎_elim, ap, arith}
+use Rattle.std.proofs.Common.{◌≡◌, ◌-◌, ◌<◌, ◌≤◌, ℕ, length, IsTrue, ⊎_elim, ap, arith}
 use Rattle.std.proofs.lemmas.Bool.{cases_lt}
-use Rattle.rope_text.specs.Cuts.{is_cut}
+use Rattle.rope_text.specs.Cuts.{distance, is_cut}
 use Rattle.rope_text.proofs.Nearest.{right_is_nearer, left_is_nearer, left_is_only}
 use Rattle.rope_text.proofs.crlf.nearest_internal_break.Goals.{else-at-gt0-via-then-at-gt0+then-at-text+else-is_break, else-at-gt0-via-then-at-gt0+else-at-text, else-at-gt0-via-else-at-gt0, After-next_break-right, then-right-text-via-then-right-text, then-right-text-via-else-right-text+then-at-left}
 use Rattle.rope_text.proofs.crlf.nearest_internal_break.Goals as goal
@@ -53,6 +53,31 @@ returns-then-right-text-clause-nearest c k some inside cut =
       | then-right-text-via-else-right-text+then-at-left w ↦
           left_is_nearer _ _ c.next_break-right.result _ (omega arith) (omega arith)
           w.if-at-left.true up (λ j. c.next_break-right.ensures.nearest k j (omega arith) cut)
+    ]
+
+-- no cut after the left one is as near
+left_is_last : (at left right k : ℕ) → left ≤ at → at - left < right - at → (k ≤ at → k ≤ left)
+    → (at < k → right ≤ k) → distance at left ≡ distance at k → k ≤ left
+left_is_last at left right k below near up on same =
+    ⊎_elim (λ (h : at < k). absurd (omega (arith, on h))) (λ (h : k ≤ at). up h) (cases_lt at k)
+
+none_after : (at left right k : ℕ) → k < right → (k ≤ at → k ≤ left) → (at < k → right ≤ k)
+    → k ≤ left
+none_after at left right k inside up on =
+    ⊎_elim (λ (h : at < k). absurd (omega (arith, on h))) (λ (h : k ≤ at). up h) (cases_lt at k)
+
+pub returns-then-right-text-clause-later : goal.returns-then-right-text-clause-later
+returns-then-right-text-clause-later c k some inside cut same =
+    let up = before (goal.at.returns-then-right-text-clause-later c).After-next_break-right k some
+    inside cut in
+    elim c.then-right-text.branch [
+      | then-right-text-via-then-right-text w ↦
+          none_after c.args.at c.prev_break-left.result c.next_break-right.result k
+          (omega (arith, w.if-right-text.true)) up
+          (λ j. c.next_break-right.ensures.nearest k j (omega arith) cut)
+      | then-right-text-via-else-right-text+then-at-left w ↦
+          left_is_last c.args.at c.prev_break-left.result c.next_break-right.result k (omega arith)
+          w.if-at-left.true up (λ j. c.next_break-right.ensures.nearest k j (omega arith) cut) same
     ]
 
 pub returns-clause-nearest : goal.returns-clause-nearest

@@ -1,54 +1,83 @@
-use Rattle.std.proofs.Common.{◌≡◌, ℕ, ◌+◌, ◌-◌, ◌≤◌, ◌/◌, ◌^◌, drop, count_by, length, ap, refl, arith}
+use Rattle.std.proofs.Common.{◌≡◌, ℕ, ◌+◌, ◌-◌, ◌≤◌, ◌/◌, ◌^◌, List, length, refl, min, arith}
+use Rattle.rope_text.specs.declared.lanes.Mark.TheVariants.{Char, Pair, Break}
+use Rattle.rope_text.specs.declared.line_breaks.LineBreaks.{LineBreaks}
 use Rattle.rope_text.specs.Bits.{ones_below}
-use Rattle.rope_text.specs.Bytes.{begins_char, begins_pair}
-use Rattle.rope_text.specs.ByteBreaks.{byte_break_count}
+use Rattle.rope_text.specs.Marks.{IsBlockMask}
+use Rattle.rope_text.specs.Scan.{IsFront}
+use Rattle.rope_text.proofs.Backs.{in_block}
 use Rattle.rope_text.proofs.BitLaws.{ones_more}
 use Rattle.rope_text.proofs.seek.go_in_last_block.Goals as goal
+
+-- the last block, of `len` bytes, from the position on
+record InLast (len from more first : ℕ) : Type 0 where
+  start : from ≡ (len - 34) + (from - (len - 34))
+  few : (from - (len - 34)) + more ≤ 32
+  inside : (len - 34) + 32 ≤ len
+  within : from - (len - 34) ≤ (from - (len - 34)) + more
+  before : more ≤ first
+
+in_last : (len from more first : ℕ) → len ≤ from + 34 → 34 ≤ len → from ≤ len - 2
+    → more ≡ min first (32 - (from - (len - 34))) → InLast len from more first
+in_last len from more first near long room least = record {
+  start = omega (arith, near);
+  few = omega (arith, near, long, room, least);
+  inside = omega (arith, long);
+  within = omega arith;
+  before = omega (arith, least);
+}
+
+-- before the first mark there is none
+none_before : (mask skip more first : ℕ) → more ≤ first → ones_below (mask / 2 ^ skip) first ≡ 0
+    → ones_below mask (skip + more) ≡ ones_below mask skip + 0
+none_before mask skip more first within none =
+    omega (
+      arith,
+      none,
+      ones_more (mask / 2 ^ skip) more (first - more) first (omega (arith, within)),
+      ones_more mask skip more (skip + more) refl,
+    )
+
+-- a position later in a block, before which no break of the block begins
+module _ (breaks : LineBreaks) (bytes : List ℕ) (chars from pairs at skip to : ℕ) where
+  front_in_block : (breaks_mask chars_mask pairs_mask more_chars more_pairs : ℕ)
+      → IsFront breaks bytes chars from pairs → IsBlockMask (Break breaks) bytes at breaks_mask
+      → IsBlockMask Char bytes at chars_mask → IsBlockMask Pair bytes at pairs_mask
+      → from ≡ at + skip → skip ≤ to → to ≤ 32 → at + 32 ≤ length bytes
+      → ones_below breaks_mask to ≡ ones_below breaks_mask skip + 0
+      → ones_below chars_mask to ≡ ones_below chars_mask skip + more_chars
+      → ones_below pairs_mask to ≡ ones_below pairs_mask skip + more_pairs
+      → IsFront breaks bytes (chars + more_chars) (at + to) (pairs + more_pairs)
+  front_in_block b c p m n front begin begun paired start within few inside none more others =
+      record {
+        within = omega (arith, few, inside);
+        none = omega (
+          arith,
+          front.none,
+          in_block (Break breaks) bytes at to skip b 0 from (at + to) begin start refl within few
+              none,
+        );
+        chars = omega (
+          arith,
+          front.chars,
+          in_block Char bytes at to skip c m from (at + to) begun start refl within few more,
+        );
+        pairs = omega (
+          arith,
+          front.pairs,
+          in_block Pair bytes at to skip p n from (at + to) paired start refl within few others,
+        );
+      }
 
 pub returns : goal.returns
 returns c =
     let s = c.args.bytes.now in
-    let b = c.args.breaks in
-    let at : ℕ = length s - 34 in
-    let skip : ℕ = c.args.from.at - at in
+    let skip : ℕ = c.args.from.at - (length s - 34) in
     let more : ℕ = c.min.result in
-    let first : ℕ = c.first_mark.result in
-    let start : at + skip ≡ c.args.from.at = omega (arith, c.requires.near) in
-    let few : skip ≤ 32 = omega arith in
-    let all : skip + more ≤ 32 = omega (arith, few, c.min.ensures) in
-    let end : at + (skip + more) ≡ c.args.from.at + more = omega (arith, start) in
-    let none : ones_below (c.mask.result / 2 ^ skip) more ≡ 0 =
-    omega (
-      arith,
-      ones_more (c.mask.result / 2 ^ skip) more (first - more) first
-          (omega (arith, c.min.ensures)),
-      c.first_mark.ensures.before,
-    ) in
-    record {
-      within = omega (arith, all, end);
-      none = omega (
-        arith,
-        c.requires.front.none,
-        c.mask.ensures skip few,
-        c.mask.ensures (skip + more) all,
-        ones_more c.mask.result skip more (skip + more) refl,
-        none,
-        ap (λ k. byte_break_count b (drop k s)) start,
-      );
-      chars = omega (
-        arith,
-        c.requires.front.chars,
-        c.known_mask-begins.ensures skip few,
-        c.known_mask-begins.ensures (skip + more) all,
-        c.ones_between.ensures,
-        ap (λ k. count_by begins_char (drop k s)) start,
-      );
-      pairs = omega (
-        arith,
-        c.requires.front.pairs,
-        c.known_mask-pairs.ensures skip few,
-        c.known_mask-pairs.ensures (skip + more) all,
-        c.ones_between-2.ensures,
-        ap (λ k. count_by begins_pair (drop k s)) start,
-      );
-    }
+    let last = in_last (length s) c.args.from.at more c.first_mark.result c.requires.near
+    c.if-bytes-lt34.false c.if-from-bytes.false c.min.ensures in
+    front_in_block c.args.breaks s c.args.from.chars c.args.from.at c.args.from.pairs
+    (length s - 34) skip (skip + more) c.mask.result c.known_mask-begins.result
+    c.known_mask-pairs.result c.ones_between.result c.ones_between-2.result c.requires.front
+    c.mask.ensures c.known_mask-begins.ensures c.known_mask-pairs.ensures last.start last.within
+    last.few last.inside (none_before c.mask.result skip more c.first_mark.result last.before
+    c.first_mark.ensures.before) c.ones_between.ensures c.ones_between-2.ensures
