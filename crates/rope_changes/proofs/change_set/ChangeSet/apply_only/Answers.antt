@@ -83,3 +83,6 @@ pub returns-clause-ok : goal.returns-clause-ok
 returns-clause-ok c =
     let h = changed (goal.at.returns-clause-ok c).In-Some in
     search rules
+
+pub returns-then-start-end-clause-err : goal.returns-then-start-end-clause-err
+returns-then-start-end-clause-err c = search rules

@@ -1,6 +1,6 @@
-use Rattle.std.proofs.Common.{◌≡◌, ◌<◌, ◌^◌, ◌++◌, ap, sym, ◌∙◌, arith}
+use Rattle.std.proofs.Common.{◌≡◌, ◌<◌, ◌≤◌, ◌^◌, ◌++◌, List, Bool, true, false, ap, sym, ◌∙◌, arith}
 use Rattle.std.proofs.Math.Nat.{lt_of_not-le}
-use Rattle.rope_changes.specs.Ops.{len_before, len_after}
+use Rattle.rope_changes.specs.Ops.{Op, len_before, len_after}
 use Rattle.rope_changes.specs.Normal.{normal_form, carried, rebased}
 use Rattle.rope_changes.specs.Change.{ops}
 use Rattle.rope_changes.specs.Left.{left}
@@ -9,6 +9,16 @@ use Rattle.rope_changes.proofs.NormalLaws.{normal_before, normal_after, normal_t
 use Rattle.rope_changes.proofs.RebaseRuns.{carried_before}
 use Rattle.rope_changes.proofs.RebaseSteps.{run_before, run_after, run_added, all_carried, rebase_made}
 use Rattle.rope_changes.proofs.change_set.ChangeSet.rebase.Goals as goal
+
+-- a rebased change that was not refused is not too long
+fits : (whole : List Op) (is_long : Bool) → (2 ^ 63 ≤ len_after whole → is_long ≡ true)
+    → is_long ≡ false → len_after whole < 2 ^ 63
+fits whole is_long told short = lt_of_not-le (λ long. let yes = told long in cc)
+
+not_long : (whole : List Op) (is_long : Bool) → (2 ^ 63 ≤ len_after whole → is_long ≡ true)
+    → is_long ≡ false → 2 ^ 63 ≤ len_after (normal_form whole) → ⊥
+not_long whole is_long told short long =
+    absurd (omega (arith, fits whole is_long told short, normal_after whole))
 
 pub returns-then-is_too_long-clause-memory : goal.returns-then-is_too_long-clause-memory
 returns-then-is_too_long-clause-memory c = λ same short.
@@ -35,8 +45,8 @@ push_run-requires-clause-after_fits c =
     let l = c.loop-first in
     let whole = ops c.args.self.now in
     let over = ops c.args.over.now in
-    let short : len_after (carried c.args.side whole over) < 2 ^ 63 = lt_of_not-le
-    (λ long. absurd (cc (c.is_too_long.ensures.1 long, c.if-is_too_long.false))) in
+    let short = fits (carried c.args.side whole over) c.is_too_long.result c.is_too_long.ensures.1
+    c.if-is_too_long.false in
     omega (
       arith,
       run_after c.args.side (ops l.made) (left l.first)
@@ -63,20 +73,20 @@ loop-first-preserved c =
 pub returns-in_err-push_run-clause-too_long : goal.returns-in_err-push_run-clause-too_long
 returns-in_err-push_run-clause-too_long c = λ same long.
     let whole = carried c.args.side (ops c.args.self.now) (ops c.args.over.now) in
-    absurd (cc
-    (c.is_too_long.ensures.1 (omega (arith, normal_after whole)), c.if-is_too_long.false))
+    absurd (not_long whole c.is_too_long.result c.is_too_long.ensures.1 c.if-is_too_long.false
+    long)
 
 pub returns-in_err-made-clause-too_long : goal.returns-in_err-made-clause-too_long
 returns-in_err-made-clause-too_long c = λ same long.
     let whole = carried c.args.side (ops c.args.self.now) (ops c.args.over.now) in
-    absurd (cc
-    (c.is_too_long.ensures.1 (omega (arith, normal_after whole)), c.if-is_too_long.false))
+    absurd (not_long whole c.is_too_long.result c.is_too_long.ensures.1 c.if-is_too_long.false
+    long)
 
 pub returns-clause-too_long : goal.returns-clause-too_long
 returns-clause-too_long c = λ same long.
     let whole = carried c.args.side (ops c.args.self.now) (ops c.args.over.now) in
-    absurd (cc
-    (c.is_too_long.ensures.1 (omega (arith, normal_after whole)), c.if-is_too_long.false))
+    absurd (not_long whole c.is_too_long.result c.is_too_long.ensures.1 c.if-is_too_long.false
+    long)
 
 made_is : (c : goal.After-loop-first)
     → ops c.loop-first.made ≡ rebased c.args.side (ops c.args.self.now) (ops c.args.over.now)
