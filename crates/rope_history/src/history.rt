@@ -6,6 +6,7 @@ ghost use Rattle.rope_text.specs.Text.{byte_len};
 ghost use Rattle.rope_changes.specs.declared.error.ChangeError.TheVariants.{LengthDiffers, TooLong, OutOfMemory};
 ghost use Rattle.rope_changes.specs.Applied.{inserted_bytes};
 ghost use Rattle.rope_changes.specs.Change.{after, before, ops};
+ghost use Rattle.rope_changes.specs.Inverted.{inverted};
 ghost use Rattle.rope_changes.specs.Ops.{run};
 ghost use Rattle.rope_history.specs.Texts.{StandsAt, text_at, text_before, IsTooLong, IsTooLongUp, IsTooLongDown, IsTooLongTo};
 ghost use Rattle.rope_history.specs.Versions.{GoesTo, IsHistory, IsPath, IsAscent, change_ahead, change_back, committed, first_version, left_by_undo, len_of, parent_of, redo_of, redone, undone, version_at, ascended};
@@ -182,6 +183,7 @@ impl History {
     // Refuses a rope whose length isn't that of the current version.
     fn check_len(&self, rope: &Rope) -> Result<(), ChangeError>
         ensures same { length rope.now.text ≡ len_of self.now → IsOk result }
+        ensures agrees { OnOk result (length rope.now.text ≡ len_of self.now) }
         ensures differs { length rope.now.text ≢ len_of self.now
             → result ≡ Err (LengthDiffers (len_of self.now) (length rope.now.text)) }
         ensures kept { IsRope rope.now }
@@ -192,6 +194,41 @@ impl History {
             return Err(ChangeError::LengthDiffers(expected, len));
         }
         Ok(())
+    }
+
+    // Returns the inverse of a change of the rope's text, which is that of the current version. A
+    // function of its own, since here no return drops a change.
+    fn checked_inverse(&self, rope: &Rope, change: &ChangeSet) -> Result<ChangeSet, ChangeError>
+        ensures rope_differs { length rope.now.text ≢ len_of self.now
+            → result ≡ Err (LengthDiffers (len_of self.now) (length rope.now.text)) }
+        ensures change_differs { length rope.now.text ≡ len_of self.now
+            → before change.now ≢ len_of self.now
+            → result ≡ Err (LengthDiffers (before change.now) (len_of self.now)) }
+        ensures too_long { length rope.now.text ≡ len_of self.now
+            → before change.now ≡ len_of self.now
+            → 2 ^ 63 ≤ byte_len rope.now.text + inserted_bytes change.now.edits
+            → result ≡ Err TooLong }
+        ensures memory { length rope.now.text ≡ len_of self.now
+            → before change.now ≡ len_of self.now
+            → byte_len rope.now.text + inserted_bytes change.now.edits < 2 ^ 63
+            → IfErr result (λ e. e ≡ OutOfMemory) }
+        ensures agrees { OnOk result (length rope.now.text ≡ len_of self.now) }
+        ensures follows { OnOk result (before change.now ≡ len_of self.now) }
+        ensures short { OnOk result
+            (byte_len rope.now.text + inserted_bytes change.now.edits < 2 ^ 63) }
+        ensures ok { IfOk result (λ inverse. inverse ≡ inverted change.now rope.now.text) }
+        ensures len_before { IfOk result (λ inverse. before inverse ≡ after change.now) }
+        ensures len_after { IfOk result (λ inverse. after inverse ≡ before change.now) }
+        ensures kept { IsRope rope.now }
+    {
+        self.check_len(rope)?;
+        if change.len_before() != self.len_chars() {
+            return Err(ChangeError::LengthDiffers(change.len_before(), self.len_chars()));
+        }
+        if is_too_long(rope, change) {
+            return Err(ChangeError::TooLong);
+        }
+        change.invert(rope)
     }
 
     /// Applies a change of the current version's text to the rope, and keeps it with its inverse as
@@ -228,14 +265,7 @@ impl History {
         ensures breaks { rope.new.breaks ≡ rope.old.breaks }
         ensures kept { IsRope rope.new }
     {
-        self.check_len(rope)?;
-        if change.len_before() != self.len_chars() {
-            return Err(ChangeError::LengthDiffers(change.len_before(), self.len_chars()));
-        }
-        if is_too_long(rope, &change) {
-            return Err(ChangeError::TooLong);
-        }
-        let inverse = change.invert(rope)?;
+        let inverse = self.checked_inverse(rope, &change)?;
         if self.versions.reserve(1).is_err() || self.redo.reserve(1).is_err() {
             return Err(ChangeError::OutOfMemory);
         }

@@ -1,5 +1,4 @@
-use Rattle.std.proofs.Common.{◌≡◌, ℕ, ◌-◌, ◌++◌, ◌∷◌, [], List, Option, Some, None, length, ap, sym, ◌∙◌, subst, arith, length-append, inl, inr}
-use Rattle.std.proofs.lemmas.Bool.{cases_eq}
+use Rattle.std.proofs.Common.{◌≡◌, ℕ, ◌-◌, ◌++◌, ◌∷◌, [], List, Option, Some, None, length, ap, sym, ◌∙◌, subst, arith, length-append}
 use Rattle.rope_changes.specs.Ops.{run}
 use Rattle.rope_changes.specs.Change.{before, ops}
 use Rattle.rope_history.specs.declared.history.History.TheInside.{Inside}
@@ -47,13 +46,9 @@ is_committed c =
     made c ∙ ap (λ h. with_child h c.args.change c.in_ok-inverse.inverse) c.self.view_is
     ∙ ap (with_child c.args.self.now c.args.change) c.in_ok-inverse.ensures.ok
 
--- a change that was inverted is one of the rope's text
+-- the change is one of the rope's text
 fits : (c : After-self-1) → before c.args.change ≡ length c.args.rope.now.text
-fits c =
-    elim (cases_eq (length c.args.rope.now.text) (before c.args.change)) [
-      | inl same ↦ sym same
-      | inr other ↦ absurd (let e = c.in_ok-inverse.ensures.differs other in cc)
-    ]
+fits c = c.in_ok-inverse.ensures.follows ∙ sym c.in_ok-inverse.ensures.agrees
 
 pub returns-clause-ok : goal.returns-clause-ok
 returns-clause-ok c = is_committed c
@@ -75,8 +70,7 @@ pub invariant_of-self-2 : goal.invariant_of-self-2
 invariant_of-self-2 c =
     let h = history_of c.self.inside in
     let follows : before c.args.change ≡ len_of h =
-    sym c.len_before.ensures ∙ c.if-len_before-len_chars.false ∙ c.len_chars.ensures.value
-    ∙ ap len_of (sym c.self.view_is) in
+    c.in_ok-inverse.ensures.follows ∙ ap len_of (sym c.self.view_is) in
     subst IsHistory (sym (made c))
     (child_is_history h c.args.change c.in_ok-inverse.inverse c.self.invariant follows
     c.in_ok-inverse.ensures.len_before c.in_ok-inverse.ensures.len_after)
