@@ -1,11 +1,13 @@
-use Rattle.std.proofs.Common.{◌≡◌, ℕ, ◌+◌, ◌-◌, ◌≤◌, ◌/◌, ◌^◌, List, length, refl, min, arith}
+use Rattle.std.proofs.Common.{◌≡◌, ℕ, ◌+◌, ◌-◌, ◌≤◌, ◌/◌, ◌^◌, List, length, drop, refl, min, arith}
+use Rattle.rope_text.specs.declared.lanes.Mark.{Mark}
 use Rattle.rope_text.specs.declared.lanes.Mark.TheVariants.{Char, Pair, Break}
 use Rattle.rope_text.specs.declared.line_breaks.LineBreaks.{LineBreaks}
 use Rattle.rope_text.specs.Bits.{ones_below}
-use Rattle.rope_text.specs.Marks.{IsBlockMask}
+use Rattle.rope_text.specs.Marks.{IsBlockMask, marks}
 use Rattle.rope_text.specs.Scan.{IsFront}
 use Rattle.rope_text.proofs.Backs.{in_block}
 use Rattle.rope_text.proofs.BitLaws.{ones_more}
+use Rattle.rope_text.proofs.Blocks.{marks_le}
 use Rattle.rope_text.proofs.seek.go_in_last_block.Goals as goal
 
 -- the last block, of `len` bytes, from the position on
@@ -67,6 +69,49 @@ module _ (breaks : LineBreaks) (bytes : List ℕ) (chars from pairs at skip to :
           in_block Pair bytes at to skip p n from (at + to) paired start refl within few others,
         );
       }
+
+-- a count goes on to no more than the bytes
+count_fits : (mark : Mark) (bytes : List ℕ) (at from skip to mask n counted : ℕ)
+    → IsBlockMask mark bytes at mask → from ≡ at + skip → skip ≤ to → to ≤ 32
+    → ones_below mask to ≡ ones_below mask skip + n
+    → marks mark bytes ≡ counted + marks mark (drop from bytes) → counted + n ≤ length bytes
+count_fits mark bytes at from skip to mask n counted block start within few between before =
+    omega (
+      arith,
+      before,
+      marks_le mark bytes,
+      in_block mark bytes at to skip mask n from (at + to) block start refl within few between,
+    )
+
+pub overflow_add-result : goal.overflow_add-result
+overflow_add-result c =
+    let s = c.args.bytes.now in
+    let skip : ℕ = c.args.from.at - (length s - 34) in
+    let more : ℕ = c.min.result in
+    let last = in_last (length s) c.args.from.at more c.first_mark.result c.requires.near
+    c.if-bytes-lt34.false c.if-from-bytes.false c.min.ensures in
+    omega (
+      arith,
+      count_fits Char s (length s - 34) c.args.from.at skip (skip + more)
+          c.known_mask-begins.result c.ones_between.result c.args.from.chars
+          c.known_mask-begins.ensures last.start last.within last.few c.ones_between.ensures
+          c.requires.front.chars,
+    )
+
+pub overflow_add-result-3 : goal.overflow_add-result-3
+overflow_add-result-3 c =
+    let s = c.args.bytes.now in
+    let skip : ℕ = c.args.from.at - (length s - 34) in
+    let more : ℕ = c.min.result in
+    let last = in_last (length s) c.args.from.at more c.first_mark.result c.requires.near
+    c.if-bytes-lt34.false c.if-from-bytes.false c.min.ensures in
+    omega (
+      arith,
+      count_fits Pair s (length s - 34) c.args.from.at skip (skip + more)
+          c.known_mask-pairs.result c.ones_between-2.result c.args.from.pairs
+          c.known_mask-pairs.ensures last.start last.within last.few c.ones_between-2.ensures
+          c.requires.front.pairs,
+    )
 
 pub returns : goal.returns
 returns c =
