@@ -5,7 +5,7 @@ use Rattle.std.proofs.lemmas.Bool.{cases_lt}
 use Rattle.std.proofs.lemmas.List.{append-nil, length-append, length-drop, length-take-le, take-append-drop, drop_more, nil_from_length}
 use Rattle.rope_text.specs.declared.line_breaks.LineBreaks.{LineBreaks}
 use Rattle.rope_text.specs.Text.{byte_len}
-use Rattle.rope_text.proofs.Measures.{IsMeasure-byte_len}
+use Rattle.rope_text.proofs.Measures.{IsMeasure-byte_len, size_parts}
 use Rattle.rope_text.proofs.CuttingLaws.{concat-append}
 use Rattle.rope_tree.specs.Leaves.{AreLeaves, IsSeam}
 use Rattle.rope_tree.specs.Tree.{Tree, text, joined, leaves_of, height_of, breaks_of, tree_over, IsTree, IsChild, AreChildren}
@@ -76,21 +76,18 @@ cuts_at n br h ts k t is a lt here =
       some = own.some;
     }
 
-pub byte_len-parts : (k : ℕ) (l : List ℕ) → byte_len (take k l) + byte_len (drop k l) ≡ byte_len l
-byte_len-parts k l =
-    omega (
-      arith,
-      IsMeasure-byte_len.joined (take k l) (drop k l),
-      ap byte_len (take-append-drop k l),
-    )
-
 -- a front may be joined to any tree that the whole may be joined to
 pub front_joins : (k : ℕ) (a t p : Tree) → k ≤ length (text t) → CanJoin a t → IsFront k t p
     → CanJoin a p
 front_joins k a t p le j i = record {
   same_breaks = i.same_breaks ∙ j.same_breaks;
   seam = rw i.text_is (seam-take k (text a) (text t) j.seam);
-  fits = omega (arith, j.fits, ap byte_len i.text_is, byte_len-parts k (text t));
+  fits = omega (
+    arith,
+    j.fits,
+    ap byte_len i.text_is,
+    size_parts byte_len IsMeasure-byte_len (text t) k,
+  );
 }
 
 pub back_joins : (k : ℕ) (t a p : Tree) → k ≤ length (text t) → CanJoin t a → IsBack k t p
@@ -98,7 +95,12 @@ pub back_joins : (k : ℕ) (t a p : Tree) → k ≤ length (text t) → CanJoin 
 back_joins k t a p le j i = record {
   same_breaks = j.same_breaks ∙ sym i.same_breaks;
   seam = rw i.text_is (seam-drop k (text t) (text a) j.seam);
-  fits = omega (arith, j.fits, ap byte_len i.text_is, byte_len-parts k (text t));
+  fits = omega (
+    arith,
+    j.fits,
+    ap byte_len i.text_is,
+    size_parts byte_len IsMeasure-byte_len (text t) k,
+  );
 }
 
 -- the first leaf of two lists, and the last

@@ -7,14 +7,13 @@ use Rattle.std.specs.Str.{chars}
 use Rattle.rope_text.specs.Text.{byte_len}
 use Rattle.rope_text.specs.Breaks.{begins_with_lf, ends_in_cr}
 use Rattle.rope_text.specs.Cutting.{parts_crlf}
-use Rattle.rope_text.proofs.Measures.{IsMeasure-byte_len}
+use Rattle.rope_text.proofs.Measures.{IsMeasure-byte_len, size_parts}
 use Rattle.rope_text.proofs.CuttingLaws.{concat-append, ends_in_cr-append}
 use Rattle.rope_text.proofs.TextParts.{lf_first, cr_last, some_cr}
 use Rattle.rope_tree.specs.Leaves.{IsSeam}
 use Rattle.rope_tree.specs.Tree.{Tree, text, leaf_tree}
 use Rattle.rope_tree.proofs.InsertLaws.{begins_some}
 use Rattle.rope_tree.proofs.InsertLeaves.{text_of_leaf}
-use Rattle.rope_join.proofs.Cuts.{byte_len-parts}
 use Rattle.rope_join.specs.Join.{CanJoin, IsJoin}
 
 -- the last of the first characters
@@ -114,7 +113,7 @@ meets t u i j le e =
 pub left_le : (t : List ℕ) (i j : ℕ) → i ≤ j
     → byte_len (take i t) + byte_len (drop j t) ≤ byte_len t
 left_le t i j le =
-    let whole = byte_len-parts j t in
-    let part = byte_len-parts i (take j t) in
+    let whole = size_parts byte_len IsMeasure-byte_len t j in
+    let part = size_parts byte_len IsMeasure-byte_len (take j t) i in
     let same = ap byte_len (take-take i j t le) in
     omega arith

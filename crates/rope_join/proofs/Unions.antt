@@ -13,6 +13,7 @@ use Rattle.rope_text.proofs.DenseLaws.{last_bytes-append, last_bytes-some, dense
 use Rattle.rope_tree.specs.Leaves.{AreLeaves, IsSeam, Recuts}
 use Rattle.rope_tree.specs.Tree.{Tree, text, joined, leaves_of, height_of, breaks_of, tree_over, leaf_tree, one_leaf, IsTree, IsWide, IsChild, AreChildren}
 use Rattle.rope_tree.specs.Siblings.{AreSiblings, AreParts}
+use Rattle.rope_tree.proofs.PartLaws.{same_set}
 use Rattle.rope_tree.proofs.LeafLaws.{all_left, all_right, seam_of_left, seam_of_right, recuts_kept, recuts_left, recuts_right}
 use Rattle.rope_tree.proofs.StandLaws.{one_leaf_is}
 use Rattle.rope_tree.proofs.TreeLaws.{height_of_is, breaks_of_is, wide_weaker, wide_more}
@@ -129,10 +130,6 @@ height_of-append : (xs ys : List Tree) → 1 ≤ length xs → height_of (xs ++ 
 height_of-append [] ys some = absurd (omega arith)
 height_of-append (x ∷ xs) ys some = refl
 
-breaks_of-append : (xs ys : List Tree) → 1 ≤ length xs → breaks_of (xs ++ ys) ≡ breaks_of xs
-breaks_of-append [] ys some = absurd (omega arith)
-breaks_of-append (x ∷ xs) ys some = refl
-
 siblings_make : (br : LineBreaks) (h : ℕ) (xs ys : List Tree) → All (IsChild br h) xs
     → All (IsChild br h) ys → AreLeaves (leaves_of xs ++ leaves_of ys)
     → byte_len (joined xs) + byte_len (joined ys) < 2 ^ 63 → AreSiblings br h (xs ++ ys)
@@ -184,7 +181,7 @@ module _ (a b : Tree) (xs ys : List Tree) (ea : a ≡ tree_over xs) (eb : b ≡ 
   inner_siblings =
       let j' = rw (ea, eb) at j in
       let some : 1 ≤ length xs = omega (arith, ca.at_least_two) in
-      rw (height_of-append xs ys some, breaks_of-append xs ys some)
+      rw (height_of-append xs ys some, sym (same_set xs ys some))
       (siblings_make (breaks_of xs) (height_of xs) xs ys ca.each (rw (level, one_set) at cb.each)
       both_recuts.leaves j'.fits)
 
@@ -194,7 +191,7 @@ module _ (a b : Tree) (xs ys : List Tree) (ea : a ≡ tree_over xs) (eb : b ≡ 
   inner_union ts el p =
       let some : 1 ≤ length xs = omega (arith, ca.at_least_two) in
       let e : height_of xs + 1 ≡ height_of ys + 1 = rw (ea, eb) at same in
-      let p' = rw (height_of-append xs ys some, breaks_of-append xs ys some, length-append xs ys) at
+      let p' = rw (height_of-append xs ys some, sym (same_set xs ys some), length-append xs ys) at
       p in
       let r : Recuts (leaves_of xs) (leaves_of ys) (leaves_of ts) =
       rw (el, leaves_of-append) both_recuts in

@@ -228,38 +228,6 @@ pub fn between(editor: &mut Editor, node: &Node, start: usize, end: usize) -> Ma
     back(editor, &front, start)
 }
 
-/// Returns whether the character `at` is between the first child of an inner node and the last.
-fn is_inside(node: &Node, at: usize) -> bool
-    ensures { IsTree node.now }
-{
-    if node.height() == 0 {
-        return false;
-    }
-    let View::Inner(children, totals) = node.view() else {
-        return false;
-    };
-    totals.get(0).chars <= at && at <= total_before(totals, children.len() - 1).chars
-}
-
-/// Returns whether a split before the character `at` may be done in place: whether it is inside the
-/// root, or inside the first child of the root or the last. Elsewhere an attempt would be in vain.
-fn may_split_in_place(node: &Node, at: usize) -> bool
-    ensures { IsTree node.now }
-{
-    if is_inside(node, at) {
-        return true;
-    }
-    let View::Inner(children, totals) = node.view() else {
-        return false;
-    };
-    if at < totals.get(0).chars {
-        return children[0].height() == 0 || is_inside(&children[0], at);
-    }
-    let last = children.len() - 1;
-    let before = total_before(totals, last).chars;
-    children[last].height() == 0 || is_inside(&children[last], at.saturating_sub(before))
-}
-
 /// Splits a tree: keeps the characters before `at`, and returns a tree of those from it on. Where
 /// the nodes on the path and beside it have no other owner, they are split in place. Else a front
 /// and a back that share the tree's nodes replace it, as the last step.
@@ -273,12 +241,10 @@ pub fn split_off(editor: &mut Editor, root: &mut Node, at: usize) -> Made<Node>
     ensures back_tree { IfOk result (λ back. IsTree back) }
     ensures err { OnErr result (root.new ≡ root.old) }
     ensures made { editor.new.maker.made ≤ editor.old.maker.made + 12 * root.old.height + 2 }
-    ensures searched { HasSearched (3 * root.old.height) (17 * root.old.height) editor.old
+    ensures searched { HasSearched (5 * root.old.height) (31 * root.old.height) editor.old
         editor.new }
 {
-    if may_split_in_place(root, at)
-        && let Some(back) = root.split_in_place(editor, at)?
-    {
+    if let Some(back) = root.split_in_place(editor, at)? {
         return Ok(back);
     }
     let first = front(editor, root, at)?;

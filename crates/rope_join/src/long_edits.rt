@@ -87,15 +87,13 @@ fn append(editor: &mut Editor, left: &Node, right: &Node) -> Made<Node>
     join_parts(editor, left, left.info().chars, right, 0)
 }
 
-/// Returns whether two trees have one height, and adjacent leaves that are long enough beside each
-/// other.
-fn are_level(left: &Node, right: &Node) -> bool
-    ensures level { result ≡ true → right.now.height ≡ left.now.height }
-    ensures near { result ≡ true
+/// Returns whether two trees are higher than a leaf, with adjacent leaves that are long enough
+/// beside each other.
+fn are_near(left: &Node, right: &Node) -> bool
+    ensures { result ≡ true
         → IsDenseAfter (last_bytes MIN_TWO_LEAVES_BYTES left.now.leaves) right.now.leaves }
 {
-    let height = left.height();
-    if height == 0 || height != right.height() {
+    if left.height() == 0 || right.height() == 0 {
         return false;
     }
     if end_leaf_len(left, true) + end_leaf_len(right, false) < MIN_TWO_LEAVES_BYTES {
@@ -104,11 +102,11 @@ fn are_level(left: &Node, right: &Node) -> bool
     true
 }
 
-/// Appends a tree of the same height: in place, if the two roots have no other owner; else a tree
-/// of both replaces the old one as the last step. The other tree may lose its text.
-fn append_level(maker: &mut Maker, root: &mut Node, other: &mut Node) -> Made<()>
+/// Appends a tree whose first leaf needs no other text: in place, if the nodes where they meet have
+/// no other owner; else a tree of both replaces the old one as the last step. The other tree may
+/// lose its text.
+fn append_near(maker: &mut Maker, root: &mut Node, other: &mut Node) -> Made<()>
     requires same_breaks { other.old.breaks ≡ root.old.breaks }
-    requires level { other.old.height ≡ root.old.height }
     requires seam { IsSeam (text root.old) (text other.old) }
     requires near { IsDenseAfter (last_bytes MIN_TWO_LEAVES_BYTES root.old.leaves)
         other.old.leaves }
@@ -116,25 +114,33 @@ fn append_level(maker: &mut Maker, root: &mut Node, other: &mut Node) -> Made<()
     ensures text { OnOk result (text root.new ≡ text root.old ++ text other.old) }
     ensures breaks { root.new.breaks ≡ root.old.breaks }
     ensures tree { IsTree root.new }
+    ensures other_tree { IsTree other.new }
     ensures err { OnErr result (root.new ≡ root.old) }
-    ensures made { maker.new.made ≤ maker.old.made + 2 * root.old.height + 3 }
+    ensures made { maker.new.made
+        ≤ maker.old.made + 2 * max root.old.height other.old.height + 3 }
 {
-    if !root.append_in_place(maker, other)? {
+    let did = if root.height() == other.height() {
+        root.append_in_place(maker, other)?
+    } else {
+        root.append_uneven(other)
+    };
+    if !did {
         *root = join(maker, root, other)?;
     }
     Ok(())
 }
 
 /// Appends the text of another tree. If that is a short leaf, its text is inserted into the last
-/// leaf in place. If the trees have one height and their roots no other owner, their children move
-/// into one tree. Else a tree of both replaces the old one as the last step. The other tree may
-/// lose its text.
+/// leaf in place. If the nodes where the trees meet have no other owner, children move into one
+/// tree. Else a tree of both replaces the old one as the last step. The other tree may lose its
+/// text.
 pub fn append_to(editor: &mut Editor, root: &mut Node, other: &mut Node) -> Made<()>
     requires same_breaks { other.old.breaks ≡ root.old.breaks }
     requires fits { byte_len (text root.old) + byte_len (text other.old) < 2 ^ 63 }
     ensures text { OnOk result (text root.new ≡ text root.old ++ text other.old) }
     ensures breaks { root.new.breaks ≡ root.old.breaks }
     ensures tree { IsTree root.new }
+    ensures other_tree { IsTree other.new }
     ensures err { OnErr result (root.new ≡ root.old) }
     ensures made { editor.new.maker.made
         ≤ editor.old.maker.made + 16 * max root.old.height other.old.height + 11 }
@@ -142,14 +148,15 @@ pub fn append_to(editor: &mut Editor, root: &mut Node, other: &mut Node) -> Made
         + 4) (33 * max root.old.height other.old.height) editor.old editor.new }
 {
     let end = root.info().chars;
-    if let View::Leaf(leaf) = other.view()
+    if other.height() == 0
+        && let View::Leaf(leaf) = other.view()
         && leaf.len() > 0
         && leaf.len() <= MAX_SHORT_BYTES
     {
         return insert_at(editor, root, end, leaf.as_str());
     }
-    if are_level(root, other) && !meets(editor, root, end, other, 0) {
-        return append_level(&mut editor.maker, root, other);
+    if are_near(root, other) && !meets(editor, root, end, other, 0) {
+        return append_near(&mut editor.maker, root, other);
     }
     *root = append(editor, root, other)?;
     Ok(())

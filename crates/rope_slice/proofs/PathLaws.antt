@@ -25,7 +25,7 @@ use Rattle.rope_tree.proofs.Descents.{Descends, count_of-nil}
 use Rattle.rope_tree.proofs.LeafLaws.{nonempty_leaves}
 use Rattle.rope_tree.proofs.LookupDescent.{IsOnDescent, at_start, at_end, further}
 use Rattle.rope_tree.proofs.LeafCounts.{lowest}
-use Rattle.rope_tree.proofs.LeafSplits.{one_text}
+use Rattle.rope_tree.proofs.BesideLaws.{one_text}
 use Rattle.rope_slice.specs.Path.{Place, leaves, IsNext, HoldsPlace}
 use Rattle.rope_slice.specs.Descent.{place_at, IsLow, AreInList, IsDescent}
 use Rattle.rope_slice.specs.Starts.{IsItem}

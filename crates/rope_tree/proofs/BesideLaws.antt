@@ -19,13 +19,13 @@ lone_is (x ∷ []) one = ap (λ y. y ∷ []) (sym (append-nil x))
 lone_is (x ∷ y ∷ xs) one = absurd (omega arith)
 
 -- a child that is a leaf has one leaf
-leaf_child : (br : LineBreaks) (t : Tree) → IsChild br 0 t → t.leaves ≡ text t ∷ []
-leaf_child br t c = lone_is t.leaves (omega (arith, c.some, c.tree.lone c.at_height))
+pub one_text : (br : LineBreaks) (t : Tree) → IsChild br 0 t → t.leaves ≡ text t ∷ []
+one_text br t c = lone_is t.leaves (omega (arith, c.some, c.tree.lone c.at_height))
 
 leaf_bytes : (br : LineBreaks) (t : Tree) → IsChild br 0 t → 1 ≤ byte_len (text t)
 leaf_bytes br t c =
     All-head (λ leaf. 1 ≤ byte_len leaf) (text t) []
-    (subst (λ xs. All (λ leaf. 1 ≤ byte_len leaf) xs) (leaf_child br t c)
+    (subst (λ xs. All (λ leaf. 1 ≤ byte_len leaf) xs) (one_text br t c)
     (leaf_sizes t.leaves c.tree.leaves.each))
 
 -- the children up to one, and from it on
@@ -108,13 +108,13 @@ module _ (br : LineBreaks) (h : ℕ) (ts : List Tree) (j : ℕ) (a : AreChildren
     leaf_next_after n =
         rw (
           upto_is,
-          leaf_child br own own_leaf,
+          one_text br own own_leaf,
           last_bytes-append n (leaves_of (take j ts)) (text own ∷ []),
         ) enough
 
     pub leaf_next_ahead : IsDenseAfter least (leaves_of (drop j ts))
     leaf_next_ahead =
         let is : leaves_of (drop j ts) ≡ text own ∷ leaves_of (drop (j + 1) ts) = from_is
-        ∙ ap (λ xs. xs ++ leaves_of (drop (j + 1) ts)) (leaf_child br own own_leaf) in
+        ∙ ap (λ xs. xs ++ leaves_of (drop (j + 1) ts)) (one_text br own own_leaf) in
         let dense = subst (λ xs. AreDense xs) is from.dense in
         rw is (omega (arith, enough), dense.1)

@@ -13,7 +13,7 @@ use Rattle.rope_text.specs.declared.line_breaks.LineBreaks.{LineBreaks}
 use Rattle.rope_text.specs.Text.{byte_len}
 use Rattle.rope_text.specs.Cuts.{is_cut}
 use Rattle.rope_text.specs.Cutting.{parts_crlf}
-use Rattle.rope_text.proofs.Apart.{apart_at_cut}
+use Rattle.rope_text.proofs.Apart.{some_char, apart_at_cut}
 use Rattle.rope_text.proofs.Walks.{byte_len-chars}
 use Rattle.rope_text.proofs.CuttingLaws.{concat-append}
 use Rattle.rope_text.proofs.DenseLaws.{last_bytes-append, dense-append}
@@ -70,10 +70,6 @@ nodes_more breaks text ts rest x y t a parts leaf seam long is tree = record {
       (fronts_more text (leaves_of ts) rest x y a.fronts parts leaf seam long);
 }
 
-pub some_chars : (x : List ℕ) → 1 ≤ byte_len x → 1 ≤ length x
-some_chars [] some = absurd (omega arith)
-some_chars (c ∷ x) some = omega arith
-
 -- one more node, for the front of the rest
 pub nodes_front : (breaks : LineBreaks) (text : List ℕ) (ts : List Tree) (rest x y : List ℕ)
     (t : Tree) → AreFrontNodes breaks text ts rest → x ++ y ≡ rest → 1 ≤ byte_len x → IsSeam x y
@@ -81,7 +77,7 @@ pub nodes_front : (breaks : LineBreaks) (text : List ℕ) (ts : List Tree) (rest
     → t ≡ leaf_tree breaks x → IsTree t → AreFrontNodes breaks text (ts ++ t ∷ []) y
     × (length (leaves_of (ts ++ t ∷ [])) ≡ length (leaves_of ts) + 1)
 nodes_front breaks text ts rest x y t a parts some seam long is tree =
-    let inside : 1 ≤ length x = some_chars x some in
+    let inside : 1 ≤ length x = some_char x some in
     let lone : t.leaves ≡ x ∷ [] = ap (λ u. u.leaves) is ∙ one_leaf_is x inside in
     let i : IsLeafText x =
     All-head IsLeafText x [] (subst (All IsLeafText) lone tree.leaves.each) in (
@@ -94,7 +90,7 @@ leaf_of_bytes : (bs : List ℕ) → IsUtf8 bs → 0 < length bs → length bs �
 leaf_of_bytes bs u some short =
     let size : byte_len (chars bs) ≡ length bs = byte_len-chars bs u in
     record {
-      some = some_chars (chars bs) (omega arith);
+      some = some_char (chars bs) (omega arith);
       fits = omega arith;
       scalars = scalars-chars bs u;
     }

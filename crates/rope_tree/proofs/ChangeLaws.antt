@@ -6,17 +6,18 @@ use Rattle.rope_text.specs.declared.line_breaks.LineBreaks.TheVariants.{Lf}
 use Rattle.rope_text.specs.declared.text_info.TextInfo.{TextInfo}
 use Rattle.rope_text.proofs.BreakLaws.{break_ends-nil}
 use Rattle.rope_text.specs.TextInfo.{info_of, info_sum, HasPart}
+use Rattle.rope_text.proofs.InfoLaws.{same_info}
 use Rattle.rope_tree.specs.Tree.{Tree, text, joined, AreChildren}
 use Rattle.rope_tree.specs.Search.{IsSmall}
 use Rattle.rope_tree.specs.Narrow.{FitsWith}
 use Rattle.rope_tree.specs.Change.{IsChange, no_counts}
-use Rattle.rope_tree.proofs.TotalLaws.{same_counts, has_part, even}
+use Rattle.rope_tree.proofs.TotalLaws.{has_part, even}
 
 -- the counts of an empty text, as a call returns them
 pub no_counts_are : (none : TextInfo) → ((breaks : LineBreaks) → none ≡ info_of breaks [])
     → none ≡ no_counts
 no_counts_are none is = is Lf
-    ∙ same_counts (info_of Lf []) no_counts refl refl refl (ap length (break_ends-nil Lf))
+    ∙ same_info (info_of Lf []) no_counts refl refl refl (ap length (break_ends-nil Lf))
 
 pub change_from : (none more old new : TextInfo)
     → ((breaks : LineBreaks) → none ≡ info_of breaks []) → IsChange no_counts more old new
@@ -43,7 +44,7 @@ grown_change old new more sum small =
     let pairs = ap (λ x. x.utf16_surrogates) sum in
     let breaks = ap (λ x. x.break_count) sum in
     record {
-      sum = same_counts (info_sum new no_counts) (info_sum old more) (omega (arith, bytes))
+      sum = same_info (info_sum new no_counts) (info_sum old more) (omega (arith, bytes))
           (omega (arith, chars)) (omega (arith, pairs)) (omega (arith, breaks));
       part = record {
         bytes = omega arith;
@@ -68,7 +69,7 @@ fallen_change old new less sum =
     let pairs = ap (λ x. x.utf16_surrogates) sum in
     let breaks = ap (λ x. x.break_count) sum in
     record {
-      sum = same_counts (info_sum new less) (info_sum old no_counts) (omega (arith, bytes))
+      sum = same_info (info_sum new less) (info_sum old no_counts) (omega (arith, bytes))
           (omega (arith, chars)) (omega (arith, pairs)) (omega (arith, breaks));
       part = record {
         bytes = omega (arith, bytes);
@@ -107,7 +108,7 @@ module _ (before after old new : TextInfo) (c : IsChange before after old new) w
   pub whole_changed : (t u : TextInfo) → info_sum u before ≡ info_sum t after
       → info_sum u old ≡ info_sum t new
   whole_changed t u e =
-      same_counts (info_sum u old) (info_sum t new)
+      same_info (info_sum u old) (info_sum t new)
       (omega (arith, ap (λ x. x.bytes) e, ap (λ x. x.bytes) c.sum))
       (omega (arith, ap (λ x. x.chars) e, ap (λ x. x.chars) c.sum))
       (omega (arith, ap (λ x. x.utf16_surrogates) e, ap (λ x. x.utf16_surrogates) c.sum))
@@ -117,7 +118,7 @@ module _ (before after old new : TextInfo) (c : IsChange before after old new) w
   pub change_above : (t u : TextInfo) → HasPart t old → info_sum u old ≡ info_sum t new
       → IsChange before after t u
   change_above t u p e = record {
-    sum = same_counts (info_sum u before) (info_sum t after)
+    sum = same_info (info_sum u before) (info_sum t after)
         (omega (arith, ap (λ x. x.bytes) e, ap (λ x. x.bytes) c.sum))
         (omega (arith, ap (λ x. x.chars) e, ap (λ x. x.chars) c.sum))
         (omega (arith, ap (λ x. x.utf16_surrogates) e, ap (λ x. x.utf16_surrogates) c.sum))

@@ -10,7 +10,7 @@ use Rattle.rope_tree.specs.declared.search.count_rows.CountRows.TheInside.{Insid
 use Rattle.rope_tree.specs.CountRows.{counts_at, all_totals, IsTotals}
 use Rattle.rope_tree.specs.Narrow.{IsBelow, IsNarrow, AreNarrow, IsBelowWith, FitsWith}
 use Rattle.rope_tree.specs.Shifted.{IsShifted}
-use Rattle.rope_tree.proofs.TotalLaws.{same_counts}
+use Rattle.rope_text.proofs.InfoLaws.{same_info}
 use Rattle.rope_tree.proofs.CellRows.{pasted, set_same, set_other, in_length, in_here, in_before, in_after}
 use Rattle.rope_tree.proofs.Rows.{put_before, put_within, put_length}
 
@@ -49,7 +49,7 @@ module _ (a b : Inside) (ts : List TextInfo) (i : IsTotals a) (view : all_totals
       (breaks : b.breaks ≡ set a.breaks a.len total.break_count) where
     pushed_before : (k : ℕ) → k < a.len → counts_at a k ≡ counts_at b k
     pushed_before k lt = sym (
-        same_counts (counts_at b k) (counts_at a k) (ap (λ l. get_or l k 0) bytes
+        same_info (counts_at b k) (counts_at a k) (ap (λ l. get_or l k 0) bytes
         ∙ set_other a.bytes a.len k total.bytes lt) (ap (λ l. get_or l k 0) chars
         ∙ set_other a.chars a.len k total.chars lt)
         (ap (λ l. get_or l k 0) pairs ∙ set_other a.pairs a.len k total.utf16_surrogates lt)
@@ -59,7 +59,7 @@ module _ (a b : Inside) (ts : List TextInfo) (i : IsTotals a) (view : all_totals
     pushed_last : counts_at b a.len ≡ total
     pushed_last =
         let n = many a ts view in
-        same_counts (counts_at b a.len) total (ap (λ l. get_or l a.len 0) bytes
+        same_info (counts_at b a.len) total (ap (λ l. get_or l a.len 0) bytes
         ∙ set_same a.bytes a.len total.bytes (omega (arith, n, i.bytes)))
         (ap (λ l. get_or l a.len 0) chars
         ∙ set_same a.chars a.len total.chars (omega (arith, n, i.chars)))
@@ -98,13 +98,13 @@ module _ (a b : Inside) (ts : List TextInfo) (i : IsTotals a) (view : all_totals
       (breaks : IsShifted a.breaks b.breaks place a.len old.break_count new.break_count) where
     early_at : (j : ℕ) → j < place → counts_at b j ≡ counts_at a j
     early_at j lt =
-        same_counts (counts_at b j) (counts_at a j) (bytes.early j lt) (chars.early j lt)
+        same_info (counts_at b j) (counts_at a j) (bytes.early j lt) (chars.early j lt)
         (pairs.early j lt) (breaks.early j lt)
 
     late_at : (j : ℕ) → place ≤ j → j < a.len
         → info_sum (counts_at b j) old ≡ info_sum (counts_at a j) new
     late_at j le lt =
-        same_counts (info_sum (counts_at b j) old) (info_sum (counts_at a j) new)
+        same_info (info_sum (counts_at b j) old) (info_sum (counts_at a j) new)
         (bytes.within j le lt) (chars.within j le lt) (pairs.within j le lt) (breaks.within j le lt)
 
     pub early_same : (j : ℕ) (d : TextInfo) → j < length ts → j < place
@@ -155,7 +155,7 @@ module _ (a b : Inside) (ts : List TextInfo) (i : IsTotals a) (view : all_totals
     where
       before_at : (k : ℕ) → k < place → counts_at b k ≡ counts_at a k
       before_at k lt =
-          same_counts (counts_at b k) (counts_at a k) (ap (λ l. get_or l k 0) bytes
+          same_info (counts_at b k) (counts_at a k) (ap (λ l. get_or l k 0) bytes
           ∙ in_before a.bytes place total.bytes i.bytes (omega arith) k lt)
           (ap (λ l. get_or l k 0) chars
           ∙ in_before a.chars place total.chars i.chars (omega arith) k lt)
@@ -166,7 +166,7 @@ module _ (a b : Inside) (ts : List TextInfo) (i : IsTotals a) (view : all_totals
 
       here_at : counts_at b place ≡ total
       here_at =
-          same_counts (counts_at b place) total (ap (λ l. get_or l place 0) bytes
+          same_info (counts_at b place) total (ap (λ l. get_or l place 0) bytes
           ∙ in_here a.bytes place total.bytes i.bytes (omega arith))
           (ap (λ l. get_or l place 0) chars
           ∙ in_here a.chars place total.chars i.chars (omega arith))
@@ -178,7 +178,7 @@ module _ (a b : Inside) (ts : List TextInfo) (i : IsTotals a) (view : all_totals
       after_at : (k : ℕ) → place ≤ k → k < a.len → counts_at b (k + 1) ≡ counts_at a k
       after_at k le lt =
           let to : k < 23 = omega (arith, lt, many a ts view, room) in
-          same_counts (counts_at b (k + 1)) (counts_at a k) (ap (λ l. get_or l (k + 1) 0) bytes
+          same_info (counts_at b (k + 1)) (counts_at a k) (ap (λ l. get_or l (k + 1) 0) bytes
           ∙ in_after a.bytes place total.bytes i.bytes (omega arith) k le to)
           (ap (λ l. get_or l (k + 1) 0) chars
           ∙ in_after a.chars place total.chars i.chars (omega arith) k le to)
@@ -252,7 +252,7 @@ module _ (a b : Inside) (ts : List TextInfo) (i : IsTotals a) (view : all_totals
 
     kept_at : (k : ℕ) → k < a.len → counts_at b k ≡ counts_at a k
     kept_at k lt =
-        same_counts (counts_at b k) (counts_at a k) (ap (λ l. get_or l k 0) bytes
+        same_info (counts_at b k) (counts_at a k) (ap (λ l. get_or l k 0) bytes
         ∙ kept_cell a.bytes o.bytes k i.bytes lt) (ap (λ l. get_or l k 0) chars
         ∙ kept_cell a.chars o.chars k i.chars lt)
         (ap (λ l. get_or l k 0) pairs ∙ kept_cell a.pairs o.pairs k i.pairs lt)
@@ -260,7 +260,7 @@ module _ (a b : Inside) (ts : List TextInfo) (i : IsTotals a) (view : all_totals
 
     moved_at : (k : ℕ) → k < count → counts_at b (a.len + k) ≡ counts_at o (from + k)
     moved_at k lt =
-        same_counts (counts_at b (a.len + k)) (counts_at o (from + k))
+        same_info (counts_at b (a.len + k)) (counts_at o (from + k))
         (ap (λ l. get_or l (a.len + k) 0) bytes ∙ moved_cell a.bytes o.bytes k i.bytes j.bytes lt)
         (ap (λ l. get_or l (a.len + k) 0) chars ∙ moved_cell a.chars o.chars k i.chars j.chars lt)
         (ap (λ l. get_or l (a.len + k) 0) pairs ∙ moved_cell a.pairs o.pairs k i.pairs j.pairs lt)

@@ -8,13 +8,14 @@ use Rattle.rope_text.specs.declared.line_breaks.LineBreaks.{LineBreaks}
 use Rattle.rope_text.specs.declared.text_info.TextInfo.{TextInfo}
 use Rattle.rope_text.specs.Text.{byte_len}
 use Rattle.rope_text.specs.TextInfo.{info_of, info_sum}
+use Rattle.rope_text.proofs.InfoLaws.{same_info}
 use Rattle.rope_tree.specs.Tree.{Tree, text, joined, height_of, breaks_of, IsChild, AreChildren}
 use Rattle.rope_tree.specs.Totals.{HasTotals}
 use Rattle.rope_tree.specs.Narrow.{IsNarrow, AreNarrow, FitsWith}
 use Rattle.rope_tree.specs.Search.{IsSmall}
 use Rattle.rope_tree.proofs.Infos.{info_within, small_info}
 use Rattle.rope_tree.proofs.NodeLaws.{child_at, more_at, byte_len-joined}
-use Rattle.rope_tree.proofs.TotalLaws.{same_counts, sums_more, sums_cancel, get_or_self}
+use Rattle.rope_tree.proofs.TotalLaws.{sums_more, sums_cancel, get_or_self}
 
 -- the counts of the first m children
 abbrev counted : LineBreaks → List Tree → ℕ → TextInfo
@@ -24,7 +25,7 @@ counted br xs m = info_of br (joined (take m xs))
 sums_split : (t c u x : TextInfo) → info_sum (info_sum (info_sum t u) x) c
     ≡ info_sum (info_sum t c) (info_sum u x)
 sums_split t c u x =
-    same_counts (info_sum (info_sum (info_sum t u) x) c) (info_sum (info_sum t c) (info_sum u x))
+    same_info (info_sum (info_sum (info_sum t u) x) c) (info_sum (info_sum t c) (info_sum u x))
     (omega arith) (omega arith) (omega arith) (omega arith)
 
 -- the child c at k was split into u and x

@@ -11,7 +11,7 @@ use Rattle.rope_text.specs.Cutting.{parts_crlf}
 use Rattle.rope_text.proofs.Measures.{IsMeasure-byte_len}
 use Rattle.rope_text.proofs.CuttingLaws.{concat-append}
 use Rattle.rope_text.proofs.BreakLaws.{break_ends-nil}
-use Rattle.rope_text.proofs.InfoLaws.{info_of-append_apart}
+use Rattle.rope_text.proofs.InfoLaws.{same_info, info_of-append_apart}
 use Rattle.rope_tree.specs.declared.search.Unit.{Unit}
 use Rattle.rope_tree.specs.declared.search.Unit.TheVariants.{Byte, Char, CodeUnit, LineBreak}
 use Rattle.rope_tree.specs.Leaves.{AreLeaves, IsSeam}
@@ -22,7 +22,6 @@ use Rattle.rope_tree.specs.Found.{IsFound}
 use Rattle.rope_tree.proofs.LeafLaws.{seam_of_left, leaves_seam}
 use Rattle.rope_tree.proofs.NodeLaws.{leaves_of-append, byte_len-joined, child_at, more_at}
 use Rattle.rope_tree.proofs.Infos.{small_info}
-use Rattle.rope_tree.proofs.TotalLaws.{same_counts}
 
 -- a count of joined texts
 pub count_of-sum : (unit : Unit) (a b : TextInfo)
@@ -113,7 +112,7 @@ pub child_counts : (ts : List Tree) (totals : List TextInfo) (k : ℕ) (child : 
     → own ≡ info_of child.breaks (text child)
 child_counts ts totals k child front all own a h l here before is sum =
     let e = sum ∙ child_total ts totals k child front all a h l here before is in
-    same_counts own (info_of child.breaks (text child)) (omega (arith, ap (λ i. i.bytes) e))
+    same_info own (info_of child.breaks (text child)) (omega (arith, ap (λ i. i.bytes) e))
     (omega (arith, ap (λ i. i.chars) e)) (omega (arith, ap (λ i. i.utf16_surrogates) e))
     (omega (arith, ap (λ i. i.break_count) e))
 
@@ -129,16 +128,17 @@ pub record Descends (breaks : LineBreaks) (unit : Unit) (at : ℕ) (ts : List Tr
   pub not_past : count_of unit front ≤ at
   pub past : at < count_of unit front + count_of unit (info_of child.breaks (text child))
 
-pub descends_to : (unit : Unit) (at : ℕ) (ts : List Tree) (totals : List TextInfo) (k : ℕ)
+pub descends : (unit : Unit) (at : ℕ) (ts : List Tree) (totals : List TextInfo) (k : ℕ)
     (child : Tree) (front : TextInfo)
     → AreChildren (breaks_of ts) (height_of ts) ts → HasTotals (breaks_of ts) totals ts
-    → k < length totals → get_or ts k child ≡ child
+    → k < length totals → child ≡ get_or ts k child
     → (k ≡ 0 → (s : LineBreaks) → front ≡ info_of s [])
     → ((d : TextInfo) → 0 < k → front ≡ get_or totals (k - 1) d)
     → ((d : TextInfo) → 0 < k → count_of unit (get_or totals (k - 1) d) ≤ at)
     → ((d : TextInfo) → at < count_of unit (get_or totals k d))
     → Descends (breaks_of ts) unit at ts k child front
-descends_to unit at ts totals k child front a h lt here first later not_past past =
+descends unit at ts totals k child front a h lt is first later not_past past =
+    let here : get_or ts k child ≡ child = sym is in
     let breaks = breaks_of ts in
     let l : k < length ts = omega (arith, h.as_many) in
     let f = front_is breaks totals ts k front h (omega arith) first later in
@@ -176,17 +176,6 @@ descends_to unit at ts totals k child front a h lt here first later not_past pas
     first_front unit at (suc k) totals front first later not_past = let e =
         ap (count_of unit) (later front (omega arith)) in
         omega (arith, e, not_past front (omega arith))
-
-pub descends : (unit : Unit) (at : ℕ) (ts : List Tree) (totals : List TextInfo) (k : ℕ)
-    (child : Tree) (front : TextInfo) → AreChildren (breaks_of ts) (height_of ts) ts
-    → HasTotals (breaks_of ts) totals ts → k < length totals → child ≡ get_or ts k child
-    → (k ≡ 0 → (s : LineBreaks) → front ≡ info_of s [])
-    → ((d : TextInfo) → 0 < k → front ≡ get_or totals (k - 1) d)
-    → ((d : TextInfo) → 0 < k → count_of unit (get_or totals (k - 1) d) ≤ at)
-    → ((d : TextInfo) → at < count_of unit (get_or totals k d))
-    → Descends (breaks_of ts) unit at ts k child front
-descends unit at ts totals k child front a h lt is first later not_past past =
-    descends_to unit at ts totals k child front a h lt (sym is) first later not_past past
 
 -- the result of a search in a leaf
 pub found_leaf : (unit : Unit) (at : ℕ) (t : Tree) (leaf : List ℕ) (before : TextInfo)

@@ -15,7 +15,7 @@ use Rattle.rope_text.specs.Lines.{line_start}
 use Rattle.rope_text.specs.Conversions.{byte_to_char, utf16_to_char, char_to_byte, char_to_utf16, char_to_line, byte_to_line, line_to_byte}
 use Rattle.rope_text.specs.Cutting.{parts_crlf}
 use Rattle.rope_text.proofs.Measures.{IsMeasure-byte_len, IsMeasure-utf16_len, front-le-length}
-use Rattle.rope_text.proofs.ConversionLaws.{byte_to_char-char_to_byte, utf16_to_char-char_to_utf16, char_to_line_end, byte_to_line-byte_to_char}
+use Rattle.rope_text.proofs.ConversionLaws.{byte_to_char-byte_len, utf16_to_char-char_to_utf16, char_to_line_end, byte_to_line-byte_to_char}
 use Rattle.rope_text.proofs.LineLaws.{line_start-le-length}
 use Rattle.rope_text.proofs.InfoLaws.{info_of-append_apart}
 use Rattle.rope_text.proofs.ChunkLaws.{before, after, before_more, concat_at, byte_to_char_at, utf16_to_char_at, char_to_line_at, byte_to_line_at, line_start_at}
@@ -28,11 +28,6 @@ use Rattle.rope_text.proofs.InfoLaws.{break_count-le-length}
 use Rattle.rope_tree.proofs.LeafLaws.{nonempty_leaves, leaves_left, leaves_seam}
 
 -- at the end of the text
-pub byte_to_char_end : (text : List ℕ) → byte_to_char text (byte_len text) ≡ length text
-byte_to_char_end text =
-    ap (λ s. byte_to_char text (byte_len s)) (sym (take_all (length text) text (omega arith)))
-    ∙ byte_to_char-char_to_byte text (length text) (omega arith)
-
 pub utf16_to_char_end : (text : List ℕ) → utf16_to_char text (utf16_len text) ≡ length text
 utf16_to_char_end text =
     ap (λ s. utf16_to_char text (utf16_len s)) (sym (take_all (length text) text (omega arith)))
@@ -47,7 +42,7 @@ char_to_utf16_end text = ap utf16_len (take_all (length text) text (omega arith)
 pub byte_to_line_end : (breaks : LineBreaks) (text : List ℕ)
     → byte_to_line breaks text (byte_len text) ≡ break_count breaks text
 byte_to_line_end breaks text = byte_to_line-byte_to_char breaks text (byte_len text)
-    ∙ ap (char_to_line breaks text) (byte_to_char_end text) ∙ char_to_line_end breaks text
+    ∙ ap (char_to_line breaks text) (byte_to_char-byte_len text) ∙ char_to_line_end breaks text
 
 -- the line breaks up to the end of a leaf
 break_count_apart : (t : Tree) (leaf : List ℕ) (k : ℕ) → IsTree t → k < length t.leaves

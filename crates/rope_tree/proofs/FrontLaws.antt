@@ -1,18 +1,18 @@
 -- The first leaf of two adjacent texts.
-use Rattle.std.proofs.Common.{◌≡◌, ℕ, ◌+◌, ◌-◌, ◌<◌, ◌≤◌, ◌||◌, true, false, List, [], ◌++◌, length, take, drop, get_or, ap, ◌∷◌, ap₂, sym, ◌∙◌, arith, append_assoc}
+use Rattle.std.proofs.Common.{◌≡◌, ℕ, ◌+◌, ◌-◌, ◌<◌, ◌≤◌, ◌||◌, true, false, List, [], ◌++◌, length, take, drop, get_or, ap, ap₂, sym, ◌∙◌, arith, append_assoc}
 use Rattle.std.specs.Prelude.{◌==◌}
 use Rattle.std.specs.Str.{chars, IsUtf8}
 use Rattle.std.proofs.Math.Seq.{take-append-add, drop-append-add}
 use Rattle.std.proofs.lemmas.Bool.Decides.{nat_tests}
-use Rattle.std.proofs.lemmas.List.{append-nil, length-append, length-take-le, get_or-take, take-take, nil_from_length}
-use Rattle.std.proofs.lemmas.Str.{length-le-encodes, IsUtf8-append}
+use Rattle.std.proofs.lemmas.List.{append-nil, length-append, length-take-le, get_or-take, take-take}
+use Rattle.std.proofs.lemmas.Str.{IsUtf8-append}
 use Rattle.rope_text.specs.Text.{byte_len}
 use Rattle.rope_text.specs.Cuts.{is_cut, is_cut_between}
 use Rattle.rope_text.specs.Cutting.{parts_crlf}
 use Rattle.rope_text.proofs.CutOff.{IsCutOff, cut_off}
-use Rattle.rope_text.proofs.CuttingLaws.{parts_crlf-append}
 use Rattle.rope_text.proofs.Walks.{byte_len-chars}
-use Rattle.rope_tree.proofs.BuildLaws.{some_chars}
+use Rattle.rope_text.proofs.Apart.{some_char}
+use Rattle.rope_tree.proofs.HalfLaws.{apart_after}
 
 -- the leaf, and the text after it
 pub cut_whole : (bs : List ℕ) (r : ℕ) (leaf more whole : List ℕ) → IsCutOff bs r
@@ -77,11 +77,6 @@ module _ (rest text front ahead : List ℕ) (p r : ℕ) (u : IsUtf8 rest) (v : I
       ap₂ take (let e : r - 0 ≡ r = omega arith in e) ahead_is
       ∙ take-take r (length rest + p) (rest ++ text) (omega (arith, ahead_len))
 
-apart_after : (s x u : List ℕ) → 1 ≤ length x → parts_crlf x u ≡ false
-    → parts_crlf (s ++ x) u ≡ false
-apart_after s [] u some apart = absurd (omega (arith, some))
-apart_after s (c ∷ t) u some apart = parts_crlf-append s c t u ∙ apart
-
 -- a leaf that consists of the first text and a prefix of the second
 module _ (bs : List ℕ) (r : ℕ) (rest leaf front : List ℕ) (off : IsCutOff bs r)
     (is_leaf : leaf ≡ rest ++ chars front) (is_front : front ≡ take (r - 0) bs) where
@@ -106,10 +101,6 @@ module _ (bs : List ℕ) (r : ℕ) (rest leaf front : List ℕ) (off : IsCutOff 
       let bytes : byte_len (chars (take r bs)) ≡ r = byte_len-chars (take r bs) off.front
       ∙ length-take-le r bs within in
       let taken : 1 ≤ length (chars (take r bs)) =
-      some_chars (chars (take r bs)) (omega (arith, bytes, some)) in
+      some_char (chars (take r bs)) (omega (arith, bytes, some)) in
       ap (λ x. parts_crlf x (chars (drop r bs))) leaf_chars
       ∙ apart_after rest (chars (take r bs)) (chars (drop r bs)) taken off.apart
-
--- a text of no bytes
-pub no_bytes : (cs : List ℕ) → byte_len cs ≡ 0 → cs ≡ []
-no_bytes cs none = nil_from_length cs (omega (arith, length-le-encodes cs))

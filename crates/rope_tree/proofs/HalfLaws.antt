@@ -96,16 +96,17 @@ of_rest : (p r b : List ℕ) → 1 ≤ length r → parts_crlf (p ++ r) b ≡ fa
 of_rest p [] b some apart = absurd (omega arith)
 of_rest p (c ∷ t) b some apart = sym (parts_crlf-append p c t b) ∙ apart
 
-with_rest : (p r b : List ℕ) → 1 ≤ length r → parts_crlf r b ≡ false → parts_crlf (p ++ r) b ≡ false
-with_rest p [] b some apart = absurd (omega arith)
-with_rest p (c ∷ t) b some apart = parts_crlf-append p c t b ∙ apart
+pub apart_after : (p r b : List ℕ) → 1 ≤ length r → parts_crlf r b ≡ false
+    → parts_crlf (p ++ r) b ≡ false
+apart_after p [] b some apart = absurd (omega arith)
+apart_after p (c ∷ t) b some apart = parts_crlf-append p c t b ∙ apart
 
 -- inside of a half, the inserted text isn't at the seam
 pub front_seam : (f b s : List ℕ) (at : ℕ) → at < length f → parts_crlf f b ≡ false
     → parts_crlf (inserted f at s) b ≡ false
 front_seam f b s at inside apart =
     let some : 1 ≤ length (drop at f) = omega (arith, length-drop at f) in
-    with_rest (take at f ++ s) (drop at f) b some
+    apart_after (take at f ++ s) (drop at f) b some
     (of_rest (take at f) (drop at f) b some
     (subst (λ x. parts_crlf x b ≡ false) (sym (take-append-drop at f)) apart))
 

@@ -1,9 +1,10 @@
 -- Properties of the texts of adjacent leaves.
-use Rattle.std.proofs.Common.{◌≡◌, ℕ, ◌≤◌, ◌<◌, Bool, true, false, ◌&&◌, List, [], ◌∷◌, ◌++◌, length, take, drop, refl, sym, ap, ◌∙◌, arith}
+use Rattle.std.proofs.Common.{ℕ, ◌≤◌, ◌<◌, List, [], ◌∷◌, ◌++◌, length, take, drop, refl, sym, ap, ◌∙◌, arith}
 use Rattle.std.specs.List.{All, concat}
 use Rattle.std.proofs.lemmas.List.{append-nil, append_assoc, length-append, take-append-drop}
 use Rattle.std.proofs.lemmas.List.Elements.{All-nil, All-cons, All-head, All-tail, All-append, All-weaker}
 use Rattle.std.proofs.lemmas.Str.{length-le-encodes}
+use Rattle.std.proofs.Math.Bool.{and-false}
 use Rattle.rope_text.specs.Text.{byte_len}
 use Rattle.rope_text.specs.Breaks.{ends_in_cr}
 use Rattle.rope_text.proofs.CuttingLaws.{concat-append, ends_in_cr-append, KeepsCrlf-append}
@@ -12,12 +13,8 @@ use Rattle.rope_text.specs.Dense.{IsDenseAfter, AreDense, last_bytes}
 use Rattle.rope_text.proofs.DenseLaws.{last_bytes-append, last_bytes-some, last_bytes_more, dense-append, dense_left, dense_right, dense_more, dense_alone}
 use Rattle.rope_tree.specs.Leaves.{IsSeam, IsLeafText, AreLeaves, Recuts}
 
-and_false : (b : Bool) → (b && false) ≡ false
-and_false true = refl
-and_false false = refl
-
 pub seam-nil : (xs : List ℕ) → IsSeam xs []
-seam-nil xs = record { apart = and_false (ends_in_cr xs) }
+seam-nil xs = record { apart = and-false (ends_in_cr xs) }
 
 pub nil-seam : (ys : List ℕ) → IsSeam [] ys
 nil-seam ys = record { apart = refl }

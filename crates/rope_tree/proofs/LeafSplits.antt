@@ -13,6 +13,7 @@ use Rattle.rope_text.proofs.Measures.{IsMeasure-byte_len}
 use Rattle.rope_tree.specs.Leaves.{AreLeaves, IsSeam}
 use Rattle.rope_tree.specs.Tree.{Tree, text, joined, leaves_of, height_of, breaks_of, leaf_tree, IsTree, IsChild, AreFamily}
 use Rattle.rope_tree.specs.Siblings.{AreSiblings}
+use Rattle.rope_tree.proofs.BesideLaws.{one_text}
 use Rattle.rope_tree.proofs.LeafLaws.{leaves_right, leaves_seam, seam-take, seam-drop}
 use Rattle.rope_tree.proofs.NodeLaws.{leaves_of-append, joined-append, joined_one}
 use Rattle.rope_tree.proofs.SiblingLaws.{byte_len-append, siblings_left, siblings_right}
@@ -21,15 +22,6 @@ use Rattle.rope_tree.proofs.StandLaws.{one_leaf_is}
 use Rattle.rope_tree.proofs.InsertLeaves.{wide_leaf}
 use Rattle.rope_tree.proofs.MoveLaws.{AreMovable, level_of, siblings-append}
 use Rattle.rope_tree.specs.Split.{IsFrontOf, IsBackOf, MayFollow, EndsAs}
-
--- the text of a leaf that is a child
-pub one_text : (b : LineBreaks) (t : Tree) → IsChild b 0 t → t.leaves ≡ text t ∷ []
-one_text b t i = go t.leaves i.some (i.tree.lone i.at_height)
-  where
-    go : (ls : List (List ℕ)) → 1 ≤ length ls → length ls ≤ 1 → ls ≡ concat ls ∷ []
-    go [] some few = absurd (omega arith)
-    go (l ∷ []) some few = ap (λ x. x ∷ []) (sym (append-nil l))
-    go (l ∷ m ∷ ls) some few = absurd (omega arith)
 
 lone_siblings : (b : LineBreaks) (t : Tree) → IsChild b 0 t → AreSiblings b 0 (t ∷ [])
 lone_siblings b t i = record {

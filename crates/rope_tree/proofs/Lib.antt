@@ -51,3 +51,5 @@ mod SettledLaws
 mod FrontSides
 mod BackSides
 pub mod MoveLaws
+pub mod PaddingLaws
+pub mod UnevenLaws

@@ -8,7 +8,7 @@ use Rattle.std.proofs.Math.Seq.{take-add, take-length, take-append_seam, take-ap
 use Rattle.rope_text.specs.declared.line_breaks.LineBreaks.{LineBreaks}
 use Rattle.rope_text.specs.declared.text_info.TextInfo.{TextInfo}
 use Rattle.rope_text.specs.TextInfo.{info_of, info_sum, HasPart}
-use Rattle.rope_text.proofs.InfoLaws.{info_of-append_apart}
+use Rattle.rope_text.proofs.InfoLaws.{same_info, info_of-append_apart}
 use Rattle.rope_tree.specs.Leaves.{AreLeaves}
 use Rattle.rope_text.specs.Text.{byte_len}
 use Rattle.rope_tree.specs.Tree.{Tree, joined, leaves_of, height_of, breaks_of, IsChild, AreChildren}
@@ -22,9 +22,9 @@ use Rattle.rope_tree.specs.NewList.{NewList, nodes_in, IsNewList}
 use Rattle.rope_tree.proofs.LeafLaws.{leaves_left, leaves_seam}
 use Rattle.rope_tree.proofs.NodeLaws.{leaves_of-append, joined-append, byte_len-joined, small_totals}
 use Rattle.rope_tree.proofs.TreeLaws.{breaks_of_is}
-use Rattle.rope_tree.proofs.TotalLaws.{same_counts, sums_cancel}
+use Rattle.rope_tree.proofs.TotalLaws.{sums_cancel}
 use Rattle.rope_tree.proofs.SiblingLaws.{byte_len-append, siblings_right}
-use Rattle.rope_tree.proofs.RowLaws.{siblings_of}
+use Rattle.rope_tree.proofs.RowLaws.{front_counts, siblings_of}
 use Rattle.rope_tree.proofs.Infos.{small_info}
 
 -- the counts of adjacent trees are sums
@@ -124,16 +124,10 @@ pub same_set : (xs ys : List Tree) → 1 ≤ length xs → breaks_of xs ≡ brea
 same_set [] ys some = absurd (omega arith)
 same_set (t ∷ ts) ys some = refl
 
--- the counts of all trees, by the set of line breaks of these trees and others
-front_counts : (xs ys : List Tree) (before : TextInfo) → IsTotalOf xs before
-    → before ≡ info_of (breaks_of (xs ++ ys)) (joined xs)
-front_counts [] ys before is = is.none refl (breaks_of ys)
-front_counts (t ∷ ts) ys before is = is.all (omega arith)
-
 sums_turned : (base own before : TextInfo)
     → info_sum (info_sum base own) before ≡ info_sum (info_sum before own) base
 sums_turned base own before =
-    same_counts (info_sum (info_sum base own) before) (info_sum (info_sum before own) base)
+    same_info (info_sum (info_sum base own) before) (info_sum (info_sum before own) base)
     (omega arith) (omega arith) (omega arith) (omega arith)
 
 -- a row of the children of a node, after other trees

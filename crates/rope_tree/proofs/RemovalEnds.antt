@@ -1,18 +1,15 @@
 -- The neighbours that a text may have after a removal.
-use Rattle.std.proofs.Common.{◌≡◌, ℕ, ◌≤◌, Bool, true, false, ◌&&◌, List, [], ◌∷◌, ◌++◌, length, refl, arith}
+use Rattle.std.proofs.Common.{◌≡◌, ℕ, ◌≤◌, false, List, [], ◌∷◌, ◌++◌, length, refl, arith}
 use Rattle.std.proofs.lemmas.List.{append-nil, length-append}
+use Rattle.std.proofs.Math.Bool.{and-false}
 use Rattle.rope_text.specs.Breaks.{begins_with_lf, ends_in_cr}
 use Rattle.rope_tree.specs.Leaves.{IsSeam}
 use Rattle.rope_tree.specs.Removal.{KeepsEnds}
 use Rattle.rope_tree.proofs.LeafLaws.{seam_of_left, seam_of_right}
 use Rattle.rope_tree.proofs.InsertLaws.{no_cr, seam_begins, seam_ends}
 
-and_false : (b : Bool) → (b && false) ≡ false
-and_false true = refl
-and_false false = refl
-
 no_lf : (p r : List ℕ) → begins_with_lf r ≡ false → IsSeam p r
-no_lf p r e = record { apart = rw e (and_false (ends_in_cr p)) }
+no_lf p r e = record { apart = rw e (and-false (ends_in_cr p)) }
 
 first_kept : (f x y p : List ℕ) → 1 ≤ length f → IsSeam p (f ++ x) → IsSeam p (f ++ y)
 first_kept [] x y p some s = absurd (omega arith)

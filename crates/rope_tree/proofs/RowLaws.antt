@@ -32,11 +32,11 @@ counts_more b xs x a =
     ap (info_of b) (joined-append xs (x ∷ []) ∙ ap (λ l. joined xs ++ l) (joined_one x))
     ∙ info_of-append_apart b (joined xs) (text x) apart
 
--- the counts of all trees, by the set of line breaks of these trees and one more
-front_counts : (xs : List Tree) (x : Tree) (before : TextInfo) → IsTotalOf xs before
-    → before ≡ info_of (breaks_of (xs ++ x ∷ [])) (joined xs)
-front_counts [] x before is = is.none refl x.breaks
-front_counts (t ∷ ts) x before is = is.all (omega arith)
+-- the counts of all trees, by the set of line breaks of these trees and others
+pub front_counts : (xs ys : List Tree) (before : TextInfo) → IsTotalOf xs before
+    → before ≡ info_of (breaks_of (xs ++ ys)) (joined xs)
+front_counts [] ys before is = is.none refl (breaks_of ys)
+front_counts (t ∷ ts) ys before is = is.all (omega arith)
 
 -- the last total of a list counts all its nodes
 pub last_counts_all : (a : NewList) (m : ℕ) (total : TextInfo) → IsNewList a → m ≡ length a.totals
@@ -84,7 +84,7 @@ module _ (xs : List Tree) (x : Tree)
       → AddsTree xs x before info
   adds_tree before info is counted =
       let b = breaks_of (xs ++ x ∷ []) in
-      let front = front_counts xs x before is in
+      let front = front_counts xs (x ∷ []) before is in
       let mine : info ≡ info_of b (text x) = counted
       ∙ ap (λ br. info_of br (text x)) own.same_breaks in
       let whole : info_of b (joined (xs ++ x ∷ [])) ≡ info_sum before info =

@@ -1,5 +1,5 @@
 -- Lists of children that are split between two children, or at one.
-use Rattle.std.proofs.Common.{Bool, true, false, ◌≡◌, ℕ, ◌+◌, ◌^◌, ◌<◌, ◌≤◌, List, [], ◌∷◌, ◌++◌, length, take, drop, sym, ap, subst, ◌∙◌, Result, Ok, Err, IfOk, OnErr, arith, zero, suc, refl}
+use Rattle.std.proofs.Common.{Bool, true, false, ◌≡◌, ℕ, ◌+◌, ◌*◌, ◌^◌, ◌<◌, ◌≤◌, List, [], ◌∷◌, ◌++◌, length, take, drop, sym, ap, subst, ◌∙◌, Result, Ok, Err, IfOk, OnErr, arith, zero, suc, refl}
 use Rattle.std.specs.List.{All}
 use Rattle.std.proofs.lemmas.List.{append-nil, length-append, length-take-le, length-drop, take-append-drop, take-append-le}
 use Rattle.std.proofs.lemmas.List.Elements.{All-head, All-tail}
@@ -12,6 +12,8 @@ use Rattle.rope_text.proofs.CuttingLaws.{concat-append}
 use Rattle.rope_text.proofs.Measures.{IsMeasure-byte_len}
 use Rattle.rope_tree.specs.Tree.{Tree, joined, leaves_of, height_of, breaks_of, IsTree, IsChild, AreFamily, tree_over}
 use Rattle.rope_tree.specs.Siblings.{AreSiblings, gathered}
+use Rattle.rope_tree.specs.Searched.{HasSearched}
+use Rattle.rope_tree.specs.declared.editor.Editor.{Editor}
 use Rattle.rope_tree.specs.Split.{IsFrontOf, IsBackOf, AreSides, IsWhole}
 use Rattle.rope_tree.proofs.LeafLaws.{all_right}
 use Rattle.rope_tree.proofs.NodeLaws.{leaves_of-append, joined-append, joined_one, joined_parts}
@@ -102,6 +104,15 @@ module _ (old pre x post : List Tree) (t : Tree) (is : old ≡ pre ++ (t ∷ tre
         ap byte_len (joined_one (tree_over x)),
       )
 
+-- what the split of a child counts, by the height of that child
+pub deeper : (h : ℕ) (xs x : List Tree) (old new : Editor) → xs ≡ x → height_of x + 1 ≡ h
+    → HasSearched (height_of xs + 1) (7 * height_of xs + 7) old new → HasSearched h (7 * h) old new
+deeper h xs x old new same up s = record {
+  rise = s.rise;
+  nodes = omega (arith, s.nodes, ap height_of same, up);
+  compares = omega (arith, s.compares, ap height_of same, up);
+}
+
 -- what a split that was not done leaves
 pub not_done : {E P : Type 0} (r : Result Bool E) → IfOk r (λ did. did ≡ false → P)
     → OnErr r P → (r ≡ Ok true → ⊥) → P
@@ -134,9 +145,9 @@ pub none_of : (ts : List Tree) → length ts ≡ 0 → ts ≡ []
 none_of [] none = refl
 none_of (t ∷ ts) none = absurd (omega (arith, none))
 
--- a part of the first child of a root, or of the last, without a node over it
+-- a part of the first child, or of the last, without a node over it
 module _ (old pre x post : List Tree) (is : old ≡ pre ++ (tree_over x ∷ post))
-    (family : AreFamily old) (own : AreFamily x) where
+    (family : AreFamily old) where
   own_x : IsChild (breaks_of old) (height_of old) (tree_over x)
   own_x =
       let P = IsChild (breaks_of old) (height_of old) in
@@ -159,37 +170,30 @@ module _ (old pre x post : List Tree) (is : old ≡ pre ++ (tree_over x ∷ post
         IsMeasure-byte_len.joined (joined x) (joined post),
       )
 
-  -- some trees of the height of its children, under a root of their own
-  whole_level : (ts : List Tree) → AreSiblings (breaks_of x) (height_of x) ts → 1 ≤ length ts
-      → AreSiblings (breaks_of old) (height_of ts) ts
-  whole_level ts level some =
-      subst (λ b. AreSiblings b (height_of ts) ts) own_x.same_breaks
-      (subst (λ h. AreSiblings (breaks_of x) h ts)
-      (sym (height_of_is (breaks_of x) (height_of x) ts some level.each)) level)
-
   pub end_front : (at : ℕ) (f : List Tree) → length pre ≡ 0 → at ≤ length (joined x)
-      → IsFrontOf at x f → IsWhole (breaks_of old) (take at (joined old)) f
-  end_front at f none within s = record {
-    text_is = s.text_is
+      → IsWhole (breaks_of x) (take at (joined x)) f
+      → IsWhole (breaks_of old) (take at (joined old)) f
+  end_front at f none within w = record {
+    text_is = w.text_is
         ∙ sym (ap (take at) (end_text ∙ ap (λ l. joined l ++ (joined x ++ joined post))
         (none_of pre none)) ∙ take-append-le at (joined x) (joined post) within);
-    level = whole_level f s.level s.some;
-    some = s.some;
-    few = omega (arith, s.few, own.at_most_24);
+    level = subst (λ b. AreSiblings b (height_of f) f) own_x.same_breaks w.level;
+    some = w.some;
+    few = w.few;
   }
 
   pub end_back : (inside : ℕ) (k : List Tree) → length post ≡ 0 → inside ≤ length (joined x)
-      → IsBackOf inside x k
+      → IsWhole (breaks_of x) (drop inside (joined x)) k
       → IsWhole (breaks_of old) (drop (length (joined pre) + inside) (joined old)) k
-  end_back inside k none within s = record {
-    text_is = s.text_is
+  end_back inside k none within w = record {
+    text_is = w.text_is
         ∙ sym (ap (drop (length (joined pre) + inside)) (end_text
         ∙ ap (λ l. joined pre ++ (joined x ++ joined l)) (none_of post none)
         ∙ ap (λ l. joined pre ++ l) (append-nil (joined x)))
         ∙ drop-append-add (joined pre) (joined x) inside);
-    level = whole_level k s.level s.some;
-    some = s.some;
-    few = omega (arith, s.few, own.at_most_24);
+    level = subst (λ b. AreSiblings b (height_of k) k) own_x.same_breaks w.level;
+    some = w.some;
+    few = w.few;
   }
 
 -- such trees under one root

@@ -6,29 +6,12 @@ use Rattle.rope_text.specs.declared.line_breaks.LineBreaks.{LineBreaks}
 use Rattle.rope_text.specs.declared.text_info.TextInfo.{TextInfo}
 use Rattle.rope_text.specs.Text.{byte_len}
 use Rattle.rope_text.specs.TextInfo.{info_of, info_sum, HasPart}
+use Rattle.rope_text.proofs.InfoLaws.{same_info}
 use Rattle.rope_tree.specs.Tree.{Tree, text, joined, AreChildren}
 use Rattle.rope_tree.specs.Totals.{HasTotals}
 use Rattle.rope_tree.specs.Narrow.{FitsWith}
 use Rattle.rope_tree.proofs.Infos.{info_within}
 use Rattle.rope_tree.proofs.NodeLaws.{more_at, byte_len-joined}
-
--- four equal counts
-pub same_counts : (a b : TextInfo) → a.bytes ≡ b.bytes → a.chars ≡ b.chars
-    → a.utf16_surrogates ≡ b.utf16_surrogates → a.break_count ≡ b.break_count → a ≡ b
-same_counts a b bytes chars pairs breaks =
-    let same : ◌≡◌ {A = TextInfo} (record {
-      bytes = a.bytes;
-      chars = a.chars;
-      utf16_surrogates = a.utf16_surrogates;
-      break_count = a.break_count;
-    })
-    (record {
-      bytes = b.bytes;
-      chars = b.chars;
-      utf16_surrogates = b.utf16_surrogates;
-      break_count = b.break_count;
-    }) = cc in
-    same
 
 -- an entry of a list in which the counts of a slice are replaced
 pub sum_at : (xs : List TextInfo) (i : ℕ) (d e old new less more : TextInfo) → i < length xs
@@ -36,7 +19,7 @@ pub sum_at : (xs : List TextInfo) (i : ℕ) (d e old new less more : TextInfo) �
     → info_sum more old ≡ info_sum (get_or xs i d) new
 sum_at xs i d e old new less more lt part sum =
     let is : info_sum old less ≡ get_or xs i d = part ∙ get_or_default xs i e d lt in
-    same_counts (info_sum more old) (info_sum (get_or xs i d) new)
+    same_info (info_sum more old) (info_sum (get_or xs i d) new)
     (omega (arith, ap (λ t. t.bytes) is, ap (λ t. t.bytes) sum))
     (omega (arith, ap (λ t. t.chars) is, ap (λ t. t.chars) sum))
     (omega (arith, ap (λ t. t.utf16_surrogates) is, ap (λ t. t.utf16_surrogates) sum))
@@ -45,18 +28,18 @@ sum_at xs i d e old new less more lt part sum =
 pub sums_more : (x y i j n : TextInfo) → info_sum x i ≡ info_sum y j
     → info_sum (info_sum x n) i ≡ info_sum (info_sum y n) j
 sums_more x y i j n e =
-    same_counts (info_sum (info_sum x n) i) (info_sum (info_sum y n) j)
+    same_info (info_sum (info_sum x n) i) (info_sum (info_sum y n) j)
     (omega (arith, ap (λ t. t.bytes) e)) (omega (arith, ap (λ t. t.chars) e))
     (omega (arith, ap (λ t. t.utf16_surrogates) e)) (omega (arith, ap (λ t. t.break_count) e))
 
 sums_turned : (x i j : TextInfo) → info_sum (info_sum x j) i ≡ info_sum (info_sum x i) j
 sums_turned x i j =
-    same_counts (info_sum (info_sum x j) i) (info_sum (info_sum x i) j) (omega arith) (omega arith)
+    same_info (info_sum (info_sum x j) i) (info_sum (info_sum x i) j) (omega arith) (omega arith)
     (omega arith) (omega arith)
 
 pub sums_cancel : (x y i : TextInfo) → info_sum x i ≡ info_sum y i → x ≡ y
 sums_cancel x y i e =
-    same_counts x y (omega (arith, ap (λ t. t.bytes) e)) (omega (arith, ap (λ t. t.chars) e))
+    same_info x y (omega (arith, ap (λ t. t.bytes) e)) (omega (arith, ap (λ t. t.chars) e))
     (omega (arith, ap (λ t. t.utf16_surrogates) e)) (omega (arith, ap (λ t. t.break_count) e))
 
 pub part_last : (x i : TextInfo) → HasPart (info_sum x i) i

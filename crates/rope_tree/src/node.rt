@@ -21,6 +21,7 @@ pub(crate) mod anew;
 mod append;
 mod in_place;
 mod moves;
+mod padding;
 mod pieces;
 pub mod row;
 mod split;
@@ -183,6 +184,15 @@ impl Node {
         }
     }
 
+    /// Returns an empty text. It takes no memory.
+    fn empty(breaks: LineBreaks) -> Node
+        ensures value { result ≡ leaf_tree breaks [] }
+        ensures tree { IsTree result }
+    {
+        let form = Form::Empty(breaks);
+        Node { form }
+    }
+
     /// Wraps a leaf as a node.
     pub(crate) fn of_leaf(leaf: Rc<Leaf>) -> Node
         requires { IsLeafNode leaf.value }
@@ -257,8 +267,7 @@ fn leaf_node(
 {
     maker.add_made();
     if text.len() == 0 {
-        let form = Form::Empty(breaks);
-        return Ok(Node { form });
+        return Ok(Node::empty(breaks));
     }
     let leaf = match known {
         Some(info) => Leaf::of_text(maker.alloc, breaks, text, info)?,

@@ -395,6 +395,18 @@ impl Totals {
         others.truncate(from);
     }
 
+    /// Appends the total of one more child, which fits in 32 bits if the others do.
+    pub(crate) fn push_fitting(&mut self, total: TextInfo)
+        requires room { length self.old < MAX_CHILDREN }
+        requires narrow { AreNarrow self.old → IsNarrow total }
+        ensures { self.new ≡ self.old ++ total ∷ [] }
+    {
+        match &mut self.width {
+            Width::Narrow(totals) => totals.push(total),
+            Width::Wide(totals) => totals.push(total),
+        }
+    }
+
     /// Inserts the total of one more child before the one at an index.
     pub(crate) fn insert(&mut self, place: usize, total: TextInfo)
         requires within { place ≤ length self.old }

@@ -484,8 +484,6 @@ impl Rope {
         let mut editor = Editor::new(self.alloc);
         editor.enter();
         let appended = append_to(&mut editor, &mut self.root, &mut other.root);
-        // What is left in the other is a tree, by the contract of any call on its root.
-        other.root.height();
         *steps = editor.steps();
         Ok(appended?)
     }

@@ -23,14 +23,7 @@ pub(super) const MAX_NARROW_BYTES: usize = 4_294_967_295;
 pub(super) fn empty_list(alloc: Global) -> Made<Sole<Children>>
     ensures { IfOk result (λ list. list.value ≡ []) }
 {
-    let none = Children {
-        height: 1,
-        breaks: LineBreaks::Unicode,
-        last: 0,
-        totals: Totals::new(),
-        nodes: Default::default(),
-    };
-    match Sole::new(alloc, none) {
+    match Sole::new(alloc, Children::none()) {
         Ok(list) => Ok(list),
         Err(refused) => {
             // It is empty, so nothing leaks; dropping it would add a 400-byte move to the path that
@@ -63,6 +56,36 @@ pub(super) fn over(list: Sole<Children>) -> Node
 }
 
 impl Children {
+    /// Returns an empty list.
+    #[inline(always)]
+    pub(super) fn none() -> Children
+        ensures { result ≡ [] }
+    {
+        Children {
+            height: 1,
+            breaks: LineBreaks::Unicode,
+            last: 0,
+            totals: Totals::new(),
+            nodes: Default::default(),
+        }
+    }
+
+    /// Returns the number of children.
+    #[inline(always)]
+    pub(super) fn count(&self) -> usize
+        ensures { result ≡ length self.now }
+    {
+        self.totals.len()
+    }
+
+    /// Returns the height of a node over the children.
+    #[inline(always)]
+    pub(super) fn levels(&self) -> u8
+        ensures { result ≡ height_of self.now + 1 }
+    {
+        self.height
+    }
+
     /// Moves the children of another list from the index `from` on to the end of this one.
     pub(super) fn take_from(&mut self, other: &mut Children, from: usize)
         requires level { AreLevel (self.old ++ drop from other.old) }
@@ -96,7 +119,7 @@ impl Children {
     {
         let len = self.totals.len();
         let total = total_before(&self.totals, len).plus(node.info());
-        self.totals.insert(len, total);
+        self.totals.push_fitting(total);
         self.height = (node.height() + 1) as u8;
         self.breaks = node.line_breaks();
         self.nodes[len] = node;
@@ -143,9 +166,33 @@ impl Children {
         requires room { length self.old < MAX_CHILDREN }
         ensures { self.new ≡ self.old ++ nodes_over list.value }
     {
-        if list.as_ref().totals.len() > 0 {
+        if list.as_ref().count() > 0 {
             self.push(over(list));
         }
+    }
+
+    /// Moves children between two adjacent lists, so that this one has `count`.
+    pub(super) fn share_out(&mut self, right: &mut Children, count: usize, pocket: &mut Children)
+        requires level { AreLevel (self.old ++ right.old) }
+        requires few { byte_len (joined (self.old ++ right.old)) < 2 ^ 32 }
+        requires within { count ≤ length (self.old ++ right.old) }
+        requires most { count ≤ MAX_CHILDREN }
+        requires most_right { length (self.old ++ right.old) ≤ count + MAX_CHILDREN }
+        requires none { pocket.old ≡ [] }
+        ensures same { self.new ++ right.new ≡ self.old ++ right.old }
+        ensures count { length self.new ≡ count }
+        ensures rest { count + length right.new ≡ length (self.old ++ right.old) }
+        ensures none { pocket.new ≡ [] }
+    {
+        let first = self.totals.len();
+        if first > count {
+            pocket.take_from(self, count);
+            pocket.take_from(right, 0);
+        } else {
+            pocket.take_from(right, count - first);
+            self.take_from(right, 0);
+        }
+        mem::swap(pocket, right);
     }
 
     /// Moves children between two adjacent lists, so that each has at least 12, or the second none.
@@ -172,15 +219,7 @@ impl Children {
             self.take_from(right, 0);
             return;
         }
-        let half = (first + second) / 2;
-        if first > half {
-            pocket.take_from(self, half);
-            pocket.take_from(right, 0);
-        } else {
-            pocket.take_from(right, half - first);
-            self.take_from(right, 0);
-        }
-        mem::swap(pocket, right);
+        self.share_out(right, (first + second) / 2, pocket);
     }
 
     /// Removes the last two children, and returns their lists, if neither has another owner.
@@ -355,7 +394,7 @@ pub(super) fn gathered(mut list: Sole<Children>) -> Node
     requires level { AreLevel list.value }
     ensures { result ≡ gathered list.value }
 {
-    if list.as_ref().totals.len() > 1 {
+    if list.as_ref().count() > 1 {
         return over(list);
     }
     list.as_mut().pop()

@@ -1,12 +1,12 @@
 //! Splits of a tree in place: the nodes beside the path move to one side or the other, so that no
 //! count of owners is written.
 //!
-//! On the descent each level allocates the list that it needs, and takes the list on the path and
-//! the two beside it out of their list, if these have no other owner. The leaf is split last. From
-//! there on nothing fails: on the ascent each level moves children between the two parts of a split
-//! list and the lists beside them, so that each keeps at least 12. At the root, the first child and
-//! the last need one list beside them. Where a node is shared, or the path is at the end of a list
-//! below the root, nothing has changed and the caller makes two new trees.
+//! A path along the start or the end of the tree needs one list beside it. Any other path is padded
+//! first, so that it has a child on each side. On the descent each level allocates the list that it
+//! needs, and takes the list on the path and those beside it out of their list, if these have no
+//! other owner. The leaf is split last. From there on nothing fails: on the ascent each level moves
+//! children between the two parts of a split list and the lists beside them, so that each keeps at
+//! least 12. Where a node is shared, the tree is as it was, and the caller makes two new trees.
 ghost use Rattle.std.specs.Prelude.{◌≡◌, ◌+◌, ◌-◌, ◌*◌, ◌^◌, ◌<◌, ◌≤◌, [], ◌∷◌, ◌++◌, true, false, length, take, drop, slice_index_or, IfOk, IfSome, IfNone, OnErr};
 ghost use Rattle.rope_text.specs.declared.TheConstants.{MIN_TWO_LEAVES_BYTES};
 ghost use Rattle.rope_text.specs.Text.{byte_len};
@@ -207,9 +207,10 @@ impl Children {
         Ok(true)
     }
 
-    /// Splits the first child of a root before the character `at`, which is in it. Keeps the
-    /// children of its first part, and moves the second part and the other children to an empty
-    /// list. Returns whether it did.
+    /// Splits the first child before the character `at`, which is in it. Keeps the children of its
+    /// first part, without the nodes over them that have no other child, and moves the second part
+    /// and the other children to an empty list. Returns whether it did.
+    #[cycle(split_front)]
     fn split_first(
         &mut self,
         editor: &mut Editor,
@@ -226,10 +227,11 @@ impl Children {
         requires none_in_pocket { pocket.old ≡ [] }
         ensures front { IfOk result (λ did. did ≡ true
             → IsWhole (breaks_of self.old) (take at (joined self.old)) self.new) }
-        ensures back { IfOk result (λ did. did ≡ true
-            → IsWhole (breaks_of self.old) (drop at (joined self.old)) rest.new) }
+        ensures back { IfOk result (λ did. did ≡ true → IsBackOf at self.old rest.new) }
+        ensures ahead { IfOk result (λ did. did ≡ true → EndsAs self.old rest.new) }
         ensures kept { IfOk result (λ did. did ≡ false → self.new ≡ self.old) }
         ensures err { OnErr result (self.new ≡ self.old) }
+        ensures none_in_pocket { pocket.new ≡ [] }
         ensures idle { IfOk result (λ did. did ≡ false
             → editor.new.maker.made ≡ editor.old.maker.made) }
         ensures made { editor.new.maker.made ≤ editor.old.maker.made + height_of self.old + 1 }
@@ -242,7 +244,7 @@ impl Children {
             self.take_from(rest, 0);
             return Ok(false);
         };
-        let did = list.as_mut().split(editor, at, back.as_mut(), pocket);
+        let did = list.as_mut().split_front(editor, at, back.as_mut(), pocket);
         if !matches!(did, Ok(true)) {
             self.push_two(list, right);
             self.take_from(rest, 0);
@@ -254,9 +256,10 @@ impl Children {
         Ok(true)
     }
 
-    /// Splits the last child of a root, `inside` characters from its start. Keeps the other
-    /// children and the first part, and moves the children of the second part to an empty list.
-    /// Returns whether it did.
+    /// Splits the last child, `inside` characters from its start. Keeps the other children and the
+    /// first part, and moves the children of the second part to an empty list, without the nodes
+    /// over them that have no other child. Returns whether it did.
+    #[cycle(split_back)]
     fn split_last(
         &mut self,
         editor: &mut Editor,
@@ -272,14 +275,15 @@ impl Children {
             < length (joined self.old) }
         requires none { rest.old ≡ [] }
         requires none_in_pocket { pocket.old ≡ [] }
-        ensures front { IfOk result (λ did. did ≡ true → IsWhole (breaks_of self.old)
-            (take (length (joined (take (length self.old - 1) self.old)) + inside)
-            (joined self.old)) self.new) }
+        ensures front { IfOk result (λ did. did ≡ true → IsFrontOf
+            (length (joined (take (length self.old - 1) self.old)) + inside) self.old self.new) }
+        ensures following { IfOk result (λ did. did ≡ true → MayFollow self.old self.new) }
         ensures back { IfOk result (λ did. did ≡ true → IsWhole (breaks_of self.old)
             (drop (length (joined (take (length self.old - 1) self.old)) + inside)
             (joined self.old)) rest.new) }
         ensures kept { IfOk result (λ did. did ≡ false → self.new ≡ self.old) }
         ensures err { OnErr result (self.new ≡ self.old) }
+        ensures none_in_pocket { pocket.new ≡ [] }
         ensures idle { IfOk result (λ did. did ≡ false
             → editor.new.maker.made ≡ editor.old.maker.made) }
         ensures made { editor.new.maker.made ≤ editor.old.maker.made + height_of self.old + 1 }
@@ -290,7 +294,9 @@ impl Children {
         let Some((left, mut list)) = self.pop_two() else {
             return Ok(false);
         };
-        let did = list.as_mut().split(editor, inside, back.as_mut(), pocket);
+        let did = list
+            .as_mut()
+            .split_back(editor, inside, back.as_mut(), pocket);
         if !matches!(did, Ok(true)) {
             self.push_two(left, list);
             return did;
@@ -299,6 +305,86 @@ impl Children {
         self.push_settled(left, list, pocket);
         mem::swap(rest, back.as_mut());
         Ok(true)
+    }
+
+    /// Splits the children before the character `at`, which is neither the first nor past the
+    /// last, where nothing is before them. Keeps those before it, without the nodes over them that
+    /// have no other child, and moves those from it on to an empty list. Returns whether it did.
+    #[cycle(split_front)]
+    fn split_front(
+        &mut self,
+        editor: &mut Editor,
+        at: usize,
+        rest: &mut Children,
+        pocket: &mut Children,
+    ) -> Made<bool>
+        requires children { AreFamily self.old }
+        requires few { byte_len (joined self.old) < 2 ^ 32 }
+        requires some { 1 ≤ at }
+        requires within { at < length (joined self.old) }
+        requires none { rest.old ≡ [] }
+        requires none_in_pocket { pocket.old ≡ [] }
+        ensures front { IfOk result (λ did. did ≡ true
+            → IsWhole (breaks_of self.old) (take at (joined self.old)) self.new) }
+        ensures back { IfOk result (λ did. did ≡ true → IsBackOf at self.old rest.new) }
+        ensures ahead { IfOk result (λ did. did ≡ true → EndsAs self.old rest.new) }
+        ensures kept { IfOk result (λ did. did ≡ false → self.new ≡ self.old) }
+        ensures err { OnErr result (self.new ≡ self.old) }
+        ensures none_in_pocket { pocket.new ≡ [] }
+        ensures idle { IfOk result (λ did. did ≡ false
+            → editor.new.maker.made ≡ editor.old.maker.made) }
+        ensures made { editor.new.maker.made ≤ editor.old.maker.made + height_of self.old + 1 }
+        ensures searched { HasSearched (height_of self.old + 1) (7 * height_of self.old + 7)
+            editor.old editor.new }
+    {
+        if at >= self.totals.get(0).chars {
+            return self.split(editor, at, rest, pocket);
+        }
+        if self.height == 1 {
+            return self.split_leaf_at(&mut editor.maker, 0, at, rest, pocket);
+        }
+        self.split_first(editor, at, rest, pocket)
+    }
+
+    /// Splits the children before the character `at`, which is neither the first nor past the
+    /// last, where nothing is after them. Keeps those before it, and moves those from it on to an
+    /// empty list, without the nodes over them that have no other child. Returns whether it did.
+    #[cycle(split_back)]
+    fn split_back(
+        &mut self,
+        editor: &mut Editor,
+        at: usize,
+        rest: &mut Children,
+        pocket: &mut Children,
+    ) -> Made<bool>
+        requires children { AreFamily self.old }
+        requires few { byte_len (joined self.old) < 2 ^ 32 }
+        requires some { 1 ≤ at }
+        requires within { at < length (joined self.old) }
+        requires none { rest.old ≡ [] }
+        requires none_in_pocket { pocket.old ≡ [] }
+        ensures front { IfOk result (λ did. did ≡ true → IsFrontOf at self.old self.new) }
+        ensures following { IfOk result (λ did. did ≡ true → MayFollow self.old self.new) }
+        ensures back { IfOk result (λ did. did ≡ true
+            → IsWhole (breaks_of self.old) (drop at (joined self.old)) rest.new) }
+        ensures kept { IfOk result (λ did. did ≡ false → self.new ≡ self.old) }
+        ensures err { OnErr result (self.new ≡ self.old) }
+        ensures none_in_pocket { pocket.new ≡ [] }
+        ensures idle { IfOk result (λ did. did ≡ false
+            → editor.new.maker.made ≡ editor.old.maker.made) }
+        ensures made { editor.new.maker.made ≤ editor.old.maker.made + height_of self.old + 1 }
+        ensures searched { HasSearched (height_of self.old + 1) (7 * height_of self.old + 7)
+            editor.old editor.new }
+    {
+        let last = self.totals.len() - 1;
+        let before = total_before(&self.totals, last).chars;
+        if at <= before {
+            return self.split(editor, at, rest, pocket);
+        }
+        if self.height == 1 {
+            return self.split_leaf_at(&mut editor.maker, last, at - before, rest, pocket);
+        }
+        self.split_last(editor, at - before, rest, pocket)
     }
 
     /// Splits the children of a root before the character `at`, which is neither the first nor past
@@ -329,21 +415,10 @@ impl Children {
         ensures searched { HasSearched (height_of self.old + 1) (7 * height_of self.old + 7)
             editor.old editor.new }
     {
-        let last = self.totals.len() - 1;
-        let before = total_before(&self.totals, last).chars;
         if at < self.totals.get(0).chars {
-            if self.height == 1 {
-                return self.split_leaf_at(&mut editor.maker, 0, at, rest, pocket);
-            }
-            return self.split_first(editor, at, rest, pocket);
+            return self.split_front(editor, at, rest, pocket);
         }
-        if at > before {
-            if self.height == 1 {
-                return self.split_leaf_at(&mut editor.maker, last, at - before, rest, pocket);
-            }
-            return self.split_last(editor, at - before, rest, pocket);
-        }
-        self.split(editor, at, rest, pocket)
+        self.split_back(editor, at, rest, pocket)
     }
 }
 
@@ -390,9 +465,9 @@ impl Node {
 
     /// Splits a tree before the character `at`, where it stands: keeps the characters before it,
     /// and returns a tree of those from it on. Returns `None`, leaving the tree as it was, if a
-    /// node on the path or beside it has another owner, if the path is at the end of a list below
-    /// the root, if a part of the leaf would be too short, or if the tree is a leaf or has 4 GiB or
-    /// more. Takes memory for a list a level, two more, and a leaf.
+    /// node on the path or beside it has another owner, if the path is at the end of a list that
+    /// gets no child from the one beside it, if a part of the leaf would be too short, or if the
+    /// tree is a leaf or has 4 GiB or more. Takes memory for a list a level, one more, and a leaf.
     pub fn split_in_place(&mut self, editor: &mut Editor, at: usize) -> Made<Option<Node>>
         requires { at ≤ length (text self.old) }
         ensures front { IfOk result (λ found. IfSome found
@@ -409,14 +484,16 @@ impl Node {
         ensures idle { IfOk result (λ found. IfNone found
             (editor.new.maker.made ≡ editor.old.maker.made)) }
         ensures made { editor.new.maker.made ≤ editor.old.maker.made + self.old.height + 1 }
-        ensures searched { HasSearched self.old.height (7 * self.old.height) editor.old editor.new }
+        ensures searched { HasSearched (3 * self.old.height) (21 * self.old.height) editor.old
+            editor.new }
     {
         let info = self.info();
         if at == 0 || at == info.chars || info.bytes > MAX_NARROW_BYTES {
             return Ok(None);
         }
         let mut rest = empty_list(editor.maker.alloc)?;
-        let mut pocket = empty_list(editor.maker.alloc)?;
+        let mut pocket = Children::none();
+        self.pad_path(editor, at, rest.as_mut(), &mut pocket);
         let mut list = match mem::take(self).into_list() {
             Ok(list) => list,
             Err(node) => {
@@ -426,7 +503,7 @@ impl Node {
         };
         let did = list
             .as_mut()
-            .split_root(editor, at, rest.as_mut(), pocket.as_mut());
+            .split_root(editor, at, rest.as_mut(), &mut pocket);
         if let Ok(true) = did {
             *self = gathered(list);
             editor.maker.add_made();

@@ -193,7 +193,7 @@ impl CountRows {
     /// Appends the total of one more child.
     pub fn push(&mut self, total: TextInfo)
         requires room { length self.old < MAX_CHILDREN }
-        requires narrow { IsNarrow total }
+        requires narrow { AreNarrow self.old → IsNarrow total }
         ensures { self.new ≡ self.old ++ total ∷ [] }
     {
         let len = self.len;

@@ -1,10 +1,9 @@
 use Rattle.std.proofs.Common.{ap, arith}
 use Rattle.rope_text.specs.Text.{byte_len}
-use Rattle.rope_text.proofs.Measures.{IsMeasure-byte_len}
 use Rattle.rope_text.proofs.Walks.{byte_len-chars}
 use Rattle.rope_tree.specs.Tree.{text}
 use Rattle.rope_tree.proofs.TreeLaws.{low_tree}
-use Rattle.rope_join.proofs.Cuts.{byte_len-parts}
+use Rattle.rope_text.proofs.Measures.{IsMeasure-byte_len, size_parts}
 use Rattle.rope_join.proofs.long_edits.insert_apart.Goals as goal
 
 -- the two sides and the new text together
@@ -13,7 +12,7 @@ append-requires-clause-fits c =
     omega (
       arith,
       c.requires.fits,
-      byte_len-parts c.args.at (text c.args.node.now),
+      size_parts byte_len IsMeasure-byte_len (text c.args.node.now) c.args.at,
       ap byte_len c.in_ok-front.ensures.front.text_is,
       ap byte_len c.in_ok-middle.ensures.text,
       byte_len-chars c.args.added.now c.utf8.added,
@@ -24,7 +23,7 @@ append-requires-2-clause-fits c =
     omega (
       arith,
       c.requires.fits,
-      byte_len-parts c.args.at (text c.args.node.now),
+      size_parts byte_len IsMeasure-byte_len (text c.args.node.now) c.args.at,
       ap byte_len c.in_ok-front.ensures.front.text_is,
       ap byte_len c.in_ok-back.ensures.back.text_is,
       ap byte_len c.in_ok-middle.ensures.text,

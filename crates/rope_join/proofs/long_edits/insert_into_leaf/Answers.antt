@@ -4,13 +4,12 @@ use Rattle.std.proofs.lemmas.List.{append_assoc}
 use Rattle.std.proofs.lemmas.Result.{IfOk-weaker}
 use Rattle.rope_text.specs.Text.{byte_len}
 use Rattle.rope_text.specs.Edit.{inserted}
-use Rattle.rope_text.proofs.Measures.{IsMeasure-byte_len}
+use Rattle.rope_text.proofs.Measures.{IsMeasure-byte_len, size_parts}
 use Rattle.rope_text.proofs.TextParts.{chars_front, chars_back}
 use Rattle.rope_text.proofs.Walks.{byte_len-chars}
 use Rattle.rope_tree.specs.Tree.{text}
 use Rattle.rope_tree.proofs.InsertLeaves.{text_of_leaf}
 use Rattle.rope_tree.proofs.InsertTrees.{inserted_is}
-use Rattle.rope_join.proofs.Cuts.{byte_len-parts}
 use Rattle.rope_join.proofs.long_edits.insert_into_leaf.Goals.{After-range, After-range_from, In_ok-append-3}
 use Rattle.rope_join.proofs.long_edits.insert_into_leaf.Goals as goal
 
@@ -40,7 +39,7 @@ append-requires-2 c =
       ap byte_len (c.in_ok-append.ensures.ok
           ∙ ap (λ z. z ++ chars c.range.result.now) c.new-builder.ensures.text ∙ front e),
       ap byte_len (leaf_text e),
-      byte_len-parts c.args.at c.args.leaf.now,
+      size_parts byte_len IsMeasure-byte_len c.args.leaf.now c.args.at,
     )
 
 pub append-requires-3 : goal.append-requires-3
@@ -58,7 +57,7 @@ append-requires-3 c =
       byte_len-chars c.range_from.result.now c.range_from.utf8,
       ap byte_len (back f),
       ap byte_len (leaf_text e),
-      byte_len-parts c.args.at c.args.leaf.now,
+      size_parts byte_len IsMeasure-byte_len c.args.leaf.now c.args.at,
     )
 
 -- the text that is built
@@ -96,6 +95,6 @@ returns-clause-made c =
       IsMeasure-byte_len.joined (take c.args.at c.args.leaf.now) (added ++ following),
       IsMeasure-byte_len.joined added following,
       byte_len-chars c.args.added.now c.utf8.added,
-      byte_len-parts c.args.at c.args.leaf.now,
+      size_parts byte_len IsMeasure-byte_len c.args.leaf.now c.args.at,
       c.as_str-text.ensures.fits,
     )

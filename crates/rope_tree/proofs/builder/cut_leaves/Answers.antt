@@ -6,7 +6,7 @@ use Rattle.rope_text.specs.Cutting.{parts_crlf}
 use Rattle.rope_tree.specs.Tree.{text, leaf_tree, leaves_of}
 use Rattle.rope_tree.specs.Fronts.{AreFrontNodes}
 use Rattle.rope_tree.proofs.BuildLaws.{nodes_cut, nodes_front}
-use Rattle.rope_tree.proofs.FrontLaws.{no_bytes}
+use Rattle.rope_tree.proofs.FormLaws.{no_text}
 use Rattle.rope_tree.proofs.builder.cut_leaves.Goals as goal
 
 pub overflow_add-len : goal.overflow_add-len
@@ -22,7 +22,7 @@ loop-left-preserved-then-len-eq0 c =
     let rest = c.range_from-left in
     let pushed = c.in_ok-push.ensures.items in
     let none : c.loop-left.rest ≡ [] =
-    no_bytes c.loop-left.rest (omega (arith, c.if-len-eq0.true, c.len.ensures.value)) in
+    no_text c.loop-left.rest (omega (arith, c.if-len-eq0.true, c.len.ensures.value)) in
     let nodes = ap (λ x. x ++ chars left) none in
     let more =
     nodes_cut c.args.breaks _ c.loop-left.leaves.items left c.range.result.now rest.result.now

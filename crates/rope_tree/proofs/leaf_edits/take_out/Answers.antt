@@ -8,7 +8,7 @@ use Rattle.rope_text.specs.TextInfo.{info_of}
 use Rattle.rope_text.specs.Edit.{removed}
 use Rattle.rope_tree.specs.Removal.{KeepsEnds}
 use Rattle.rope_text.proofs.Measures.{size_le, IsMeasure-byte_len}
-use Rattle.rope_tree.proofs.BuildLaws.{some_chars}
+use Rattle.rope_text.proofs.Apart.{some_char}
 use Rattle.rope_tree.proofs.RemovalEnds.{ends_kept}
 use Rattle.rope_text.proofs.TextParts.{chars_front, chars_back}
 use Rattle.rope_text.proofs.Walks.{byte_len-chars}
@@ -265,7 +265,7 @@ kept_ends c =
     let back = chars c.range_from-back.result.now in
     let yes = c.if-not-keeps_ends.false in
     let bytes = kept_bytes e in
-    let some = some_chars (removed c.args.leaf.now c.args.start c.args.end)
+    let some = some_char (removed c.args.leaf.now c.args.start c.args.end)
     (omega (arith, bytes, c.if-front-back.false, c.max.ensures)) in
     let both : front ++ back ≡ removed c.args.leaf.now c.args.start c.args.end =
     ap₂ (λ x y. x ++ y) p.front_is p.back_is in

@@ -1,4 +1,4 @@
-use Rattle.std.proofs.Common.{[], refl, ap, sym, arith}
+use Rattle.std.proofs.Common.{[], refl, ap, sym, ◌∙◌, arith}
 use Rattle.std.proofs.lemmas.Str.{scalars-chars}
 use Rattle.std.specs.Str.{chars}
 use Rattle.rope_text.proofs.Walks.{byte_len-chars}
@@ -16,8 +16,8 @@ leaf c =
     (scalars-chars c.args.text.now c.utf8.text)
 
 pub returns-then-text-eq0-clause-ok : goal.returns-then-text-eq0-clause-ok
-returns-then-text-eq0-clause-ok c =
-    ap (leaf_tree c.args.breaks)
+returns-then-text-eq0-clause-ok c = c.empty.ensures.value
+    ∙ ap (leaf_tree c.args.breaks)
     (sym (no_text (chars c.args.text.now)
     (omega (arith, byte_len-chars c.args.text.now c.utf8.text, c.if-text-eq0.true))))
 

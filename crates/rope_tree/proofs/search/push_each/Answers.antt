@@ -2,8 +2,8 @@ use Rattle.std.proofs.Common.{◌≡◌, ◌+◌, ◌-◌, ◌<◌, inl, inr, le
 use Rattle.std.proofs.lemmas.Bool.{cases_lt}
 use Rattle.rope_text.specs.declared.text_info.TextInfo.{TextInfo}
 use Rattle.rope_text.specs.TextInfo.{info_sum, HasPart}
+use Rattle.rope_text.proofs.InfoLaws.{same_info}
 use Rattle.rope_tree.specs.Narrow.{FitsWith}
-use Rattle.rope_tree.proofs.TotalLaws.{same_counts}
 use Rattle.rope_tree.proofs.search.push_each.Goals.{After-get}
 use Rattle.rope_tree.proofs.search.push_each.Goals as goal
 
@@ -11,7 +11,7 @@ use Rattle.rope_tree.proofs.search.push_each.Goals as goal
 sum_turned_at : (more less total old new : TextInfo) → more ≡ info_sum less new
     → info_sum old less ≡ total → info_sum more old ≡ info_sum total new
 sum_turned_at more less total old new sum part =
-    same_counts (info_sum more old) (info_sum total new)
+    same_info (info_sum more old) (info_sum total new)
     (omega (arith, ap (λ i. i.bytes) sum, ap (λ i. i.bytes) part))
     (omega (arith, ap (λ i. i.chars) sum, ap (λ i. i.chars) part))
     (omega (arith, ap (λ i. i.utf16_surrogates) sum, ap (λ i. i.utf16_surrogates) part))

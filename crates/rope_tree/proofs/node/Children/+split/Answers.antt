@@ -10,7 +10,7 @@ use Rattle.rope_tree.specs.Searched.{HasSearched}
 use Rattle.rope_tree.proofs.MoveLaws.{AreMovable, movable_left, movable_right, movable_of, movable_after, both_parts}
 use Rattle.rope_tree.proofs.FrontSides.{front_movable, front_enough, front_all, front_side, front_following}
 use Rattle.rope_tree.proofs.BackSides.{back_movable, back_enough, back_all, back_side, back_ahead}
-use Rattle.rope_tree.proofs.SplitLaws.{not_done, first_some, same_sides, between_sides, joined_two, middle_height, middle_few}
+use Rattle.rope_tree.proofs.SplitLaws.{deeper, not_done, first_some, same_sides, between_sides, joined_two, middle_height, middle_few}
 use Rattle.rope_tree.proofs.node.Children.+split.Goals.{split_list-In-Some, split_list-After-split-did, split_list-Joined-matches, split_list-After-over, split_list-in-Ok-true, split_list-in_default-matches, split_list-in_default-matches-2, split-After-take_from-2, split-Joined-matches, split-in-Ok-true, split-in_default, split-in_default-2}
 use Rattle.rope_tree.proofs.node.Children.+split.Goals as goal
 
@@ -281,21 +281,8 @@ module _ (t : ℕ) (c : split_list-Joined-matches t) where
 
   searched : HasSearched (height_of (c.args.self.now ++ c.args.rest.now))
       (7 * height_of (c.args.self.now ++ c.args.rest.now)) c.args.editor.now c.split-did.new.editor
-  searched = record {
-    rise = c.split-did.ensures.searched.rise;
-    nodes = omega (
-      arith,
-      c.split-did.ensures.searched.nodes,
-      ap height_of c.as_mut.ensures.value,
-      height_x t c,
-    );
-    compares = omega (
-      arith,
-      c.split-did.ensures.searched.compares,
-      ap height_of c.as_mut.ensures.value,
-      height_x t c,
-    );
-  }
+  searched =
+      deeper _ _ _ _ _ c.as_mut.ensures.value (height_x t c) c.split-did.ensures.searched
 
 pub split_list-returns-then-not-matches-clause-made :
     goal.split_list-returns-then-not-matches-clause-made

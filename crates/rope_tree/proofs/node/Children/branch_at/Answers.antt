@@ -1,4 +1,4 @@
-use Rattle.std.proofs.Common.{◌-◌, ◌≤◌, [], length, get_or, ap, refl, arith}
+use Rattle.std.proofs.Common.{◌-◌, ◌≤◌, [], length, get_or, ap, refl, arith, sym}
 use Rattle.std.proofs.lemmas.List.{get_or_default}
 use Rattle.rope_tree.specs.declared.search.Unit.TheVariants.{Char}
 use Rattle.rope_tree.specs.Tree.{Tree, text, joined, height_of, breaks_of}
@@ -6,7 +6,7 @@ use Rattle.rope_tree.specs.Totals.{HasTotals}
 use Rattle.rope_tree.specs.Listed.{listed}
 use Rattle.rope_tree.specs.Insert.{GoesIn}
 use Rattle.rope_tree.proofs.NodeLaws.{small_totals}
-use Rattle.rope_tree.proofs.Descents.{Descends, descends_to}
+use Rattle.rope_tree.proofs.Descents.{Descends, descends}
 use Rattle.rope_tree.proofs.InsertDescents.{last_total, inner_some, holds_within, goes_in}
 use Rattle.rope_tree.proofs.GrownLaws.{totals_seen}
 use Rattle.rope_tree.proofs.node.Children.branch_at.Goals.{After-total_before-before, After-self}
@@ -27,11 +27,11 @@ down c d =
     let ts = c.args.self.now in
     let k = c.try_place-place.result.0 in
     let h = totals (goal.at.returns-clause-place c).After-self in
-    descends_to Char c.char_to_hold-held.result ts c.self.inside.totals k (get_or ts k d)
+    descends Char c.char_to_hold-held.result ts c.self.inside.totals k (get_or ts k d)
     c.total_before-before.result
     c.requires.children h c.try_place-place.ensures.within
-    (get_or_default ts k (get_or ts k d) d
-    (omega (arith, c.try_place-place.ensures.within, h.as_many)))
+    (sym (get_or_default ts k (get_or ts k d) d
+    (omega (arith, c.try_place-place.ensures.within, h.as_many))))
     c.total_before-before.ensures.first c.total_before-before.ensures.later
     c.try_place-place.ensures.before c.try_place-place.ensures.past
 

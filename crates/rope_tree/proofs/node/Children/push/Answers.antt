@@ -1,4 +1,6 @@
-use Rattle.std.proofs.Common.{◌≡◌, ◌+◌, [], ◌∷◌, ◌++◌, refl, sym, ap, ◌∙◌, arith}
+use Rattle.std.proofs.Common.{◌≡◌, ◌+◌, [], ◌∷◌, ◌++◌, length, get_or, refl, sym, ap, ◌∙◌, arith}
+use Rattle.std.proofs.lemmas.List.{length-append, get_or_append_left}
+use Rattle.std.proofs.Math.Seq.{get_or-append_seam}
 use Rattle.rope_text.specs.TextInfo.{info_of}
 use Rattle.rope_tree.specs.Tree.{joined, breaks_of}
 use Rattle.rope_tree.specs.NewList.{new_list}
@@ -33,12 +35,12 @@ plus-total-requires c =
     let a = adds c in
     sum_of_small _ _ a.small_before a.small_own
 
-pub insert-requires-clause-narrow : goal.insert-requires-clause-narrow
-insert-requires-clause-narrow c narrow =
+pub push_fitting-requires-clause-narrow : goal.push_fitting-requires-clause-narrow
+push_fitting-requires-clause-narrow c narrow =
     let ts = c.args.self.now ++ c.args.node ∷ [] in
     let low =
     info_within (breaks_of ts) (joined ts) 4294967295 (omega (arith, c.requires.few)) in
-    rw (total (goal.at.insert-requires-clause-narrow c).After-plus-total) (record {
+    rw (total (goal.at.push_fitting-requires-clause-narrow c).After-plus-total) (record {
       bytes = omega (arith, low.bytes);
       chars = omega (arith, low.chars);
       pairs = omega (arith, low.pairs);
@@ -47,11 +49,15 @@ insert-requires-clause-narrow c narrow =
 
 pub invariant_of-self : goal.invariant_of-self
 invariant_of-self c =
+    let e = c.push_fitting.ensures in
     push_listed c.self.inside _ c.args.self.now c.args.node c.len-len.result c.plus-total.result
     c.self.invariant c.self.view_is c.requires.level c.requires.room c.len-len.ensures
-    c.insert.ensures.len
-    (λ j d lt. c.insert.ensures.before j d lt)
-    c.insert.ensures.here
+    (ap length e ∙ length-append c.self.inside.totals _)
+    (λ j d lt. ap (λ l. get_or l j d) e
+    ∙ get_or_append_left c.self.inside.totals _ d j (omega (arith, lt, c.len-len.ensures)))
+    (λ d. ap (λ l. get_or l c.len-len.result d) e
+    ∙ ap (λ n. get_or (c.self.inside.totals ++ c.plus-total.result ∷ []) n d) c.len-len.ensures
+    ∙ get_or-append_seam c.self.inside.totals c.plus-total.result [] d)
     (total (goal.at.invariant_of-self c).After-plus-total)
     refl
     (ap (λ m. m + 1) c.height.ensures.value)

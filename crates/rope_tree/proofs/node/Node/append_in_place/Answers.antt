@@ -9,7 +9,7 @@ use Rattle.rope_tree.specs.Siblings.{AreLevel}
 use Rattle.rope_tree.proofs.TreeLaws.{is_tree_over}
 use Rattle.rope_tree.proofs.MoveLaws.{AreMovable, movable_left}
 use Rattle.rope_tree.proofs.AppendLaws.{AreAppendable, appended_movable, appended_family, appended_text, first_family, second_family, root_movable, root_family, root_leaves}
-use Rattle.rope_tree.proofs.node.Node.append_in_place.Goals.{In-Ok-into_list, After-len-2, After-settle, After-over-2, After-over-3}
+use Rattle.rope_tree.proofs.node.Node.append_in_place.Goals.{In-Ok-into_list, After-count-2, After-settle, After-over-2, After-over-3}
 use Rattle.rope_tree.proofs.node.Node.append_in_place.Goals as goal
 
 module _ (c : In-Ok-into_list) where
@@ -23,7 +23,7 @@ module _ (c : In-Ok-into_list) where
   left_is = sym c.take.ensures.value ∙ c.in-Ok.ensures.node
 
   right_is : c.args.other.now ≡ tree_over r
-  right_is = sym c.take-2.ensures.value ∙ c.in-Ok-into_list.ensures.node
+  right_is = sym c.replace.ensures.value ∙ c.in-Ok-into_list.ensures.node
 
   appendable : AreAppendable l r
   appendable = record {
@@ -56,22 +56,19 @@ module _ (c : In-Ok-into_list) where
   whole : joined (l ++ r) ≡ text c.args.self.now ++ text c.args.other.now
   whole = appended_text l r appendable
       ∙ ap₂ (λ x y. text x ++ text y) (sym left_is) (sym right_is)
-  -- the number of children of both
 
-module _ (c : After-len-2) where
-  lengths : c.len.result + c.len-2.result ≡ length c.in-Ok.list.value
+-- the number of children of both
+module _ (c : After-count-2) where
+  lengths : c.count.result + c.count-2.result ≡ length c.in-Ok.list.value
       + length c.in-Ok-into_list.list.value
-  lengths = omega (
-    arith,
-    c.len.ensures,
-    c.len-2.ensures,
-    c.behind-left.invariant.totals_right.as_many,
-    c.behind-right.invariant.totals_right.as_many,
-    ap length c.behind-left.view_is,
-    ap length c.behind-right.view_is,
-    ap length c.as_ref.ensures,
-    ap length c.as_ref-2.ensures,
-  )
+  lengths =
+      omega (
+        arith,
+        c.count.ensures,
+        c.count-2.ensures,
+        ap length c.as_ref.ensures,
+        ap length c.as_ref-2.ensures,
+      )
 
 module _ (c : After-settle) where
   abbrev k : In-Ok-into_list
@@ -85,8 +82,8 @@ module _ (c : After-settle) where
   many = omega (
     arith,
     length-append (l k) (r k),
-    lengths (goal.at.After-settle c).After-len-2,
-    c.if-len-le-MAX_CHILDREN.false,
+    lengths (goal.at.After-settle c).After-count-2,
+    c.if-count-le-MAX_CHILDREN.false,
   )
 
   nodes_family : AreFamily (tree_over c.settle.new.self ∷ tree_over c.settle.new.right ∷ [])
@@ -125,44 +122,44 @@ module _ (c : After-over-3) where
 pub take_from-requires-clause-level : goal.take_from-requires-clause-level
 take_from-requires-clause-level c =
     let k = (goal.at.take_from-requires-clause-level c).In-Ok-into_list in
-    rw (c.as_mut.ensures.value, c.as_mut-then-len-le-MAX_CHILDREN.ensures.value)
+    rw (c.as_mut.ensures.value, c.as_mut-then-count-le-MAX_CHILDREN.ensures.value)
     (appended_movable (l k) (r k) (appendable k)).level
 
 pub take_from-requires-clause-few : goal.take_from-requires-clause-few
 take_from-requires-clause-few c =
     let k = (goal.at.take_from-requires-clause-few c).In-Ok-into_list in
-    rw (c.as_mut.ensures.value, c.as_mut-then-len-le-MAX_CHILDREN.ensures.value)
+    rw (c.as_mut.ensures.value, c.as_mut-then-count-le-MAX_CHILDREN.ensures.value)
     (appended_movable (l k) (r k) (appendable k)).few
 
-pub over-requires-then-len-le-MAX_CHILDREN : goal.over-requires-then-len-le-MAX_CHILDREN
-over-requires-then-len-le-MAX_CHILDREN c =
-    let k = (goal.at.over-requires-then-len-le-MAX_CHILDREN c).In-Ok-into_list in
-    let v = (goal.at.over-requires-then-len-le-MAX_CHILDREN c).After-len-2 in
+pub over-requires-then-count-le-MAX_CHILDREN : goal.over-requires-then-count-le-MAX_CHILDREN
+over-requires-then-count-le-MAX_CHILDREN c =
+    let k = (goal.at.over-requires-then-count-le-MAX_CHILDREN c).In-Ok-into_list in
+    let v = (goal.at.over-requires-then-count-le-MAX_CHILDREN c).After-count-2 in
     subst AreFamily (sym (c.take_from.ensures.moved
-    ∙ ap₂ (λ x y. x ++ y) c.as_mut.ensures.value c.as_mut-then-len-le-MAX_CHILDREN.ensures.value))
+    ∙ ap₂ (λ x y. x ++ y) c.as_mut.ensures.value c.as_mut-then-count-le-MAX_CHILDREN.ensures.value))
     (appended_family (l k) (r k) (appendable k)
-    (omega (arith, length-append (l k) (r k), lengths v, c.if-len-le-MAX_CHILDREN.true)))
+    (omega (arith, length-append (l k) (r k), lengths v, c.if-count-le-MAX_CHILDREN.true)))
 
-pub returns-then-len-le-MAX_CHILDREN-clause-done :
-    goal.returns-then-len-le-MAX_CHILDREN-clause-done
-returns-then-len-le-MAX_CHILDREN-clause-done c =
-    let k = (goal.at.returns-then-len-le-MAX_CHILDREN-clause-done c).In-Ok-into_list in
-    λ _. ap text (c.over-then-len-le-MAX_CHILDREN.ensures ∙ ap tree_over
+pub returns-then-count-le-MAX_CHILDREN-clause-done :
+    goal.returns-then-count-le-MAX_CHILDREN-clause-done
+returns-then-count-le-MAX_CHILDREN-clause-done c =
+    let k = (goal.at.returns-then-count-le-MAX_CHILDREN-clause-done c).In-Ok-into_list in
+    λ _. ap text (c.over-then-count-le-MAX_CHILDREN.ensures ∙ ap tree_over
     (c.take_from.ensures.moved
     ∙ ap₂ (λ x y. x ++ y) c.as_mut.ensures.value
-    c.as_mut-then-len-le-MAX_CHILDREN.ensures.value)) ∙ whole k
+    c.as_mut-then-count-le-MAX_CHILDREN.ensures.value)) ∙ whole k
 
-pub returns-then-len-le-MAX_CHILDREN-clause-tree :
-    goal.returns-then-len-le-MAX_CHILDREN-clause-tree
-returns-then-len-le-MAX_CHILDREN-clause-tree c =
-    let k = (goal.at.returns-then-len-le-MAX_CHILDREN-clause-tree c).In-Ok-into_list in
-    let v = (goal.at.returns-then-len-le-MAX_CHILDREN-clause-tree c).After-len-2 in
-    subst IsTree (sym (c.over-then-len-le-MAX_CHILDREN.ensures ∙ ap tree_over
+pub returns-then-count-le-MAX_CHILDREN-clause-tree :
+    goal.returns-then-count-le-MAX_CHILDREN-clause-tree
+returns-then-count-le-MAX_CHILDREN-clause-tree c =
+    let k = (goal.at.returns-then-count-le-MAX_CHILDREN-clause-tree c).In-Ok-into_list in
+    let v = (goal.at.returns-then-count-le-MAX_CHILDREN-clause-tree c).After-count-2 in
+    subst IsTree (sym (c.over-then-count-le-MAX_CHILDREN.ensures ∙ ap tree_over
     (c.take_from.ensures.moved
     ∙ ap₂ (λ x y. x ++ y) c.as_mut.ensures.value
-    c.as_mut-then-len-le-MAX_CHILDREN.ensures.value)))
+    c.as_mut-then-count-le-MAX_CHILDREN.ensures.value)))
     (is_tree_over _ _ _ (appended_family (l k) (r k) (appendable k)
-    (omega (arith, length-append (l k) (r k), lengths v, c.if-len-le-MAX_CHILDREN.true))))
+    (omega (arith, length-append (l k) (r k), lengths v, c.if-count-le-MAX_CHILDREN.true))))
 
 pub settle-requires-clause-level : goal.settle-requires-clause-level
 settle-requires-clause-level c =

@@ -14,15 +14,17 @@ module _ (c : In-Ok-true) where
   front : IsWhole (breaks_of ts) (take c.args.at (joined ts)) c.split_root-did.new.self
   front =
       subst (λ l. IsWhole (breaks_of l) (take c.args.at (joined l)) c.split_root-did.new.self)
-      c.as_mut.ensures.value (c.in-Ok-true.ensures.front c.in-Ok-true.field-0-test)
+      c.as_mut-2.ensures.value (c.in-Ok-true.ensures.front c.in-Ok-true.field-0-test)
 
   back : IsWhole (breaks_of ts) (drop c.args.at (joined ts)) c.split_root-did.new.rest
   back =
       subst (λ l. IsWhole (breaks_of l) (drop c.args.at (joined l)) c.split_root-did.new.rest)
-      c.as_mut.ensures.value (c.in-Ok-true.ensures.back c.in-Ok-true.field-0-test)
+      c.as_mut-2.ensures.value (c.in-Ok-true.ensures.back c.in-Ok-true.field-0-test)
 
   same_set : breaks_of ts ≡ c.args.self.now.breaks
-  same_set = ap (λ t. t.breaks) (sym c.in-Ok.ensures.node ∙ c.take.ensures.value)
+  same_set =
+      ap (λ t. t.breaks)
+      (sym c.in-Ok.ensures.node ∙ c.take.ensures.value ∙ c.pad_path.ensures.same)
 
 pub gathered-requires-clause-level : goal.gathered-requires-clause-level
 gathered-requires-clause-level c =
