@@ -66,17 +66,17 @@ handle_good (block_ptr b o) h fits = (and_tt (has_ty (layout Z) h) fits.0, (tt, 
 handle_good null_ptr h fits =
     (and_tt (has_ty (layout Z) h) fits.0, (record { fits = lib.Dec.lit< tt }, (fits.1, tt)))
 
--- what they own, and what is behind the pointer
+-- what they own, with what the pointer leads to
 abbrev pub owner : Ptr → Z.Denot → Fml → List Val → Fml
-owner p a behind vs = fsep ((Struct two).own_val (p, (a, tt)) vs) behind
+owner p a target vs = fsep ((Struct two).own_val (p, (a, tt)) vs) target
 
 module _ {M : Type 1} {𝓤 : Ura M} {𝓛 : Logic 𝓤} {K : Type 0} {Γ : List (Item 𝓤)} {G : Goal 𝓤 𝓛.H}
   where
-    pub owner_out : K → (p : Ptr) (a : Z.Denot) (behind : Fml) (vs : List Val)
+    pub owner_out : K → (p : Ptr) (a : Z.Denot) (target : Fml) (vs : List Val)
         → ((h : Val) → vs ≡ pair (ptr_val p) h ∷ [] → Good (layout Z) h
-        → Seq K 𝓛 (‵ behind ∷ ‵ (Z.own_val a (h ∷ [])) ∷ Γ) G)
-        → Seq K 𝓛 (‵ (owner p a behind vs) ∷ Γ) G
-    owner_out t p a behind vs k =
+        → Seq K 𝓛 (‵ target ∷ ‵ (Z.own_val a (h ∷ [])) ∷ Γ) G)
+        → Seq K 𝓛 (‵ (owner p a target vs) ∷ Γ) G
+    owner_out t p a target vs k =
         let Whole : List Val → List Val → Type 0 = λ ps hs.
         vs ≡ vstruct (of_list (ps ++ (hs ++ []))) ∷ [] in
         fsplit t $ fpick t (λ vss. fsplit t $ feq_l t (λ ev. fsplit t $ feq_l t (λ ep. fsplit t $
@@ -84,10 +84,10 @@ module _ {M : Type 1} {𝓤 : Ura M} {𝓛 : Logic 𝓤} {K : Type 0} {Γ : List
         k h (subst (Whole (ptr_val p ∷ [])) ea (subst (λ (ps : List Val). Whole ps vss.1.0) ep
         ev)) fits))))
 
-    pub owner_in : K → (p : Ptr) (h : Val) (a : Z.Denot) (behind : Fml)
-        → Step K 𝓛 (‵ (owner p a behind (pair (ptr_val p) h ∷ [])) ∷ Γ) G
-        (‵ behind ∷ ‵ (Z.own_val a (h ∷ [])) ∷ Γ) G
-    owner_in t p h a behind = step (λ s. let v : Val = pair (ptr_val p) h in
+    pub owner_in : K → (p : Ptr) (h : Val) (a : Z.Denot) (target : Fml)
+        → Step K 𝓛 (‵ (owner p a target (pair (ptr_val p) h ∷ [])) ∷ Γ) G
+        (‵ target ∷ ‵ (Z.own_val a (h ∷ [])) ∷ Γ) G
+    owner_in t p h a target = step (λ s. let v : Val = pair (ptr_val p) h in
         nothing t $ move t (2 ∷ 0 ∷ []) $ fjoin t $ feq_i t (List Val) (ptr_val p ∷ [])
         (ptr_val p ∷ []) refl $
         fjoin t $ feq_i t (List Val) (v ∷ []) (v ∷ []) refl $ fjoin t $
@@ -118,17 +118,17 @@ mover from into = record {
 }
 
 module _ {M : Type 1} {𝓤 : Ura M} {𝓛 : Logic 𝓤} {K : Type 0} where
-  -- what is behind the pointer moves with it
+  -- what the pointer leads to moves with it
   pub moves : K → (from into : Sym) (C : Calls 𝓤 𝓛.H) (Λ : Loops 𝓤 𝓛.H) (p : Ptr)
-      (a : Z.Denot) (behind : Fml) (vs : List Val) (Post : Val → SProp 𝓤)
-      → ((h : Val) → Seq K 𝓛 (‵ (owner p a behind (pair (ptr_val p) h ∷ [])) ∷ [])
+      (a : Z.Denot) (target : Fml) (vs : List Val) (Post : Val → SProp 𝓤)
+      → ((h : Val) → Seq K 𝓛 (‵ (owner p a target (pair (ptr_val p) h ∷ [])) ∷ [])
       (prop (Post (pair (ptr_val p) h))))
-      → Seq K 𝓛 (‵ (owner p a behind vs) ∷ [])
+      → Seq K 𝓛 (‵ (owner p a target vs) ∷ [])
       (prop (WpFn 𝓤 𝓛.H C Λ (mover from into) (vs ++ []) Post))
-  moves t from into C Λ p a behind vs Post k =
+  moves t from into C Λ p a target vs Post k =
       let fn = mover from into in
       let Run : List Val → SProp 𝓤 = λ us. WpFn 𝓤 𝓛.H C Λ fn us Post in
-      owner_out t p a behind vs (λ h ws fits. let w : Val = pair (ptr_val p) h in
+      owner_out t p a target vs (λ h ws fits. let w : Val = pair (ptr_val p) h in
       suffices t (Run (w ∷ [])) (subst (λ (us : List Val). ent 𝓤 (Run (w ∷ [])) (Run us))
       (sym (λ i. ws i ++ [])) (id⊢ 𝓤 (Run (w ∷ [])))) $
       enter t C Λ fn (w ∷ []) Post $ alloc_all t (λ l.
@@ -137,7 +137,7 @@ module _ {M : Type 1} {𝓤 : Ura M} {𝓛 : Logic 𝓤} {K : Type 0} where
       (pointer_good p) $
       sets t (of_opd t (get_in t (fld t refl (stop t)) (sub t 1 refl (whole t)))) refl fits $
       sets t (agg t (and_then t (get t refl) (and_then t (get t refl) (no_more t)))) refl
-      (handle_good p h fits) $ owner_in t p h a behind $
+      (handle_good p h fits) $ owner_in t p h a target $
       returns t (look_at t 0 refl) $ free_all t refl $ k h))
 
 module _ (R : RattleType) where

@@ -42,9 +42,9 @@ word p = vstruct (vcons (ptr_val p) vnil)
 abbrev alone : Shape
 alone = record { name = []; args = []; types = []; fields = RawPtr ∷ [] }
 
--- what it owns, and what is behind the pointer
+-- what it owns, with what the pointer leads to
 abbrev lender : Ptr → Fml → List Val → Fml
-lender p behind vs = fsep ((Struct alone).own_val (p, tt) vs) behind
+lender p target vs = fsep ((Struct alone).own_val (p, tt) vs) target
 
 module _ (laid : List Ty) where
   -- a share of the memory in which a lent pointer lies
@@ -53,28 +53,28 @@ module _ (laid : List Ty) where
 
   -- a share of a lent handle in that memory
   abbrev part : Ptr → Fml → ℕ → ℕ → Share → Fml
-  part p behind b o q =
-      fex (List Val) (λ vs. fsep (cell_at q laid vs b o) (lender p behind vs))
+  part p target b o q =
+      fex (List Val) (λ vs. fsep (cell_at q laid vs b o) (lender p target vs))
 
-  module _ {M : Type 1} {𝓤 : Ura M} (𝓛 : Logic 𝓤) (p : Ptr) (behind : Fml) (b o : ℕ)
+  module _ {M : Type 1} {𝓤 : Ura M} (𝓛 : Logic 𝓤) (p : Ptr) (target : Fml) (b o : ℕ)
       (q : Share) where
-    part_out : ent 𝓤 (sem 𝓛 (part p behind b o q))
-        (sep 𝓤 (sem 𝓛 (cell_of p b o q)) (sem 𝓛 behind))
-    part_out = qed 𝓛 (‵ (part p behind b o q) ∷ []) ∵ fpick ! (λ vs. fsplit ! $ move ! (1 ∷ []) $
+    part_out : ent 𝓤 (sem 𝓛 (part p target b o q))
+        (sep 𝓤 (sem 𝓛 (cell_of p b o q)) (sem 𝓛 target))
+    part_out = qed 𝓛 (‵ (part p target b o q) ∷ []) ∵ fpick ! (λ vs. fsplit ! $ move ! (1 ∷ []) $
         fsplit ! $ fpick ! (λ vss. fsplit ! $ feq_l ! (λ ev. fsplit ! $ feq_l ! (λ ep. drop ! $
         rewrite ! 1 (λ (us : List Val). ‵ (cell_at q laid us b o))
         (subst (λ (ps : List Val). vs ≡ vstruct (of_list (ps ++ [])) ∷ []) ep ev) refl $
         move ! (1 ∷ 0 ∷ []) $ done !))))
 
-    part_in : ent 𝓤 (sep 𝓤 (sem 𝓛 (cell_of p b o q)) (sem 𝓛 behind))
-        (sem 𝓛 (part p behind b o q))
+    part_in : ent 𝓤 (sep 𝓤 (sem 𝓛 (cell_of p b o q)) (sem 𝓛 target))
+        (sem 𝓛 (part p target b o q))
     part_in = let v : Val = word p in
-        qed 𝓛 (‵ (cell_of p b o q) ∷ ‵ behind ∷ []) ∵ move ! (1 ∷ []) $
+        qed 𝓛 (‵ (cell_of p b o q) ∷ ‵ target ∷ []) ∵ move ! (1 ∷ []) $
         nothing ! $ feq_i ! (List Val) (ptr_val p ∷ []) (ptr_val p ∷ []) refl $ fjoin ! $
         feq_i ! (List Val) (v ∷ []) (v ∷ []) refl $ fjoin ! $
         fpack ! (Valss (RawPtr ∷ [])) (within alone (p, tt) (v ∷ [])) (ptr_val p ∷ [], tt) $
         fjoin ! $ move ! (1 ∷ 0 ∷ []) $ fjoin ! $
-        fpack ! (List Val) (λ us. fsep (cell_at q laid us b o) (lender p behind us)) (v ∷ []) $
+        fpack ! (List Val) (λ us. fsep (cell_at q laid us b o) (lender p target us)) (v ∷ []) $
         done !
 
   pub cell_halves : {M : Type 1} {𝓤 : Ura M} (𝓛 : Logic 𝓤) (p : Ptr) (b o : ℕ)
@@ -245,9 +245,9 @@ module _ (R : RattleType) where
         (q : Share)
         → ent 𝓤 (sep 𝓤 (sem 𝓛 (fshr_bor κ (part laid p (held_lent R p lends) b o))) (A.lft κ q))
         (H.⇛ (Told 𝓛 p (cell_of laid p b o) κ q lends))
-    lender_told laid p lends b o = let behind = held_lent R p lends in
-        lent_told p lends (part laid p behind b o) (cell_of laid p b o) (cell_halves laid 𝓛 p b o)
-        (part_out laid 𝓛 p behind b o) (part_in laid 𝓛 p behind b o)
+    lender_told laid p lends b o = let target = held_lent R p lends in
+        lent_told p lends (part laid p target b o) (cell_of laid p b o) (cell_halves laid 𝓛 p b o)
+        (part_out laid 𝓛 p target b o) (part_in laid 𝓛 p target b o)
 
 -- a lent handle, by its name
 abbrev named_handle : Sym → Ty

@@ -50,14 +50,14 @@ into_box_spec {M} 𝓤 𝓛 𝓜 𝓡 wired T L =
     let Post : Val → SProp 𝓤 = (walk_of 𝓛 En hs c).post z in
     let Run : List Val → SProp 𝓤 = λ ws. WpFn 𝓤 𝓛.H 𝓣.C 𝓣.Λ fn ws Post in let Out : RattleType =
     type_at En.signature.result κs in
-    let behind = held_at R a d.at d.value in
+    let target = held_at R a d.at d.value in
     qed 𝓛 (((‵ (flft κ q) ⊛ ‵ ftrue) ⊛ ‵ (owns (types_at En.signature.params κs) z.0.3 z.0.4)) ∷ raw
     ((c κs z.0.3).requires z.1) ∷ []) ∵ split ! $ move ! (2 ∷ []) $
     use1 𝓛 (raw (fact 𝓤 (κ ⊑ T.lives)) ⊛ ‵ ftrue) (id⊢ 𝓤 _) $ split ! $
     heard ! (κ ⊑ T.lives) (λ lives. drop ! $ split ! $ move ! (1 ∷ []) $ drop ! $
     -- [the token; what is held]
     move ! (1 ∷ []) $ fsplit ! $
-    owner_out ! d.at a behind z.0.4.0 (λ h ws fits. either R ! a d.at d.value
+    owner_out ! d.at a target z.0.4.0 (λ h ws fits. either R ! a d.at d.value
     (λ is e. let w : Val = pair (ptr_val null_ptr) h in let same : z.0.4.0 ≡ w ∷ [] = ws ∙
     ap (λ (p : Ptr). pair (ptr_val p) h ∷ []) is in
     suffices ! (Run (w ∷ [])) (subst (λ (us : List Val). ent 𝓤 (Run (w ∷ [])) (Run us))
