@@ -53,3 +53,4 @@ mod BackSides
 pub mod MoveLaws
 pub mod PaddingLaws
 pub mod UnevenLaws
+mod FirstLaws

@@ -68,7 +68,7 @@ module _ (a b : Inside) (ts : List Tree) (k : ℕ) (u : Tree) (i : IsListed a) (
       listed_as a b ts (set ts k u) i view set_seen g height breaks (ap length nodes
       ∙ length-set a.nodes k u ∙ i.room) totals (rw following i.places)
 
-rotated : (p : List Tree) (x : Tree) (m zs : List Tree) → m ≡ p ++ x ∷ []
+pub rotated : (p : List Tree) (x : Tree) (m zs : List Tree) → m ≡ p ++ x ∷ []
     → zs ≡ drop (length m - 1) m ++ take (length m - 1) m → zs ≡ x ∷ p
 rotated p x m zs e r =
     let n : length m - 1 ≡ length p = omega (arith, ap length e, length-append p (x ∷ [])) in

@@ -407,6 +407,23 @@ impl Totals {
         }
     }
 
+    /// Puts a child of these counts before the others.
+    pub(crate) fn push_front(&mut self, info: TextInfo)
+        requires room { length self.old < MAX_CHILDREN }
+        requires small { AreSmall self.old }
+        requires narrow { IsNarrow info }
+        requires fits { FitFrom (2 ^ 32) 0 self.old no_counts info }
+        ensures len { length self.new ≡ length self.old + 1 }
+        ensures first { (d : TextInfo) → slice_index_or self.new 0 d ≡ info }
+        ensures later { (j : ℕ) (d : TextInfo) → j < length self.old
+            → slice_index_or self.new (j + 1) d ≡ info_sum (slice_index_or self.old j d) info }
+    {
+        if self.len() > 0 {
+            self.grow(0, &info);
+        }
+        self.insert(0, info);
+    }
+
     /// Inserts the total of one more child before the one at an index.
     pub(crate) fn insert(&mut self, place: usize, total: TextInfo)
         requires within { place ≤ length self.old }

@@ -12,6 +12,7 @@ use super::{Children, Node};
 use crate::{Made, Maker};
 use rope_shared::local::Sole;
 use rope_text::MAX_CHILDREN;
+use std::alloc::AllocError;
 use std::mem;
 
 /// Takes the lists of two nodes, if neither has another owner, and leaves empty texts there.
@@ -130,7 +131,7 @@ impl Children {
 impl Node {
     /// Appends the children of another tree of the same height. Returns `false`, leaving both trees
     /// as they were, if a root has another owner, or the text would have 4 GiB or more. Takes
-    /// memory for one list.
+    /// memory for one list, where one can't hold the children of both roots.
     pub fn append_in_place(&mut self, maker: &mut Maker, other: &mut Node) -> Made<bool>
         requires same_breaks { other.old.breaks ≡ self.old.breaks }
         requires level { other.old.height ≡ self.old.height }
@@ -152,28 +153,19 @@ impl Node {
         if self.info().bytes + other.info().bytes > MAX_NARROW_BYTES {
             return Ok(false);
         }
-        let mut root = empty_list(maker.alloc)?;
-        let mut left = match mem::take(self).into_list() {
-            Ok(list) => list,
-            Err(node) => {
-                *self = node;
-                return Ok(false);
-            }
-        };
-        let none = Node::empty(other.line_breaks());
-        let mut right = match mem::replace(other, none).into_list() {
-            Ok(list) => list,
-            Err(node) => {
-                *other = node;
-                *self = over(left);
-                return Ok(false);
-            }
+        let Some((mut left, mut right)) = take_lists(self, other) else {
+            return Ok(false);
         };
         if left.as_ref().count() + right.as_ref().count() <= MAX_CHILDREN {
             left.as_mut().take_from(right.as_mut(), 0);
             *self = over(left);
             return Ok(true);
         }
+        let Ok(mut root) = empty_list(maker.alloc) else {
+            *self = over(left);
+            *other = over(right);
+            return Err(AllocError);
+        };
         left.as_mut().settle(right.as_mut(), root.as_mut());
         root.as_mut().push(over(left));
         root.as_mut().push(over(right));

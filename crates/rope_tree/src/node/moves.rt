@@ -46,6 +46,16 @@ fn exchange(places: &mut [Node], at: usize, others: &mut [Node], from: usize, co
     places[at..at + count].swap_with_slice(&mut others[from..from + count]);
 }
 
+/// Puts a node before the others, and drops the last one, which is empty.
+fn put_first(nodes: &mut [Node], node: Node)
+    requires { 1 ≤ length nodes.old }
+    ensures { nodes.new ≡ node ∷ take (length nodes.old - 1) nodes.old }
+{
+    let last = nodes.len() - 1;
+    nodes[last] = node;
+    nodes.rotate_right(1);
+}
+
 /// Makes a node of a list.
 pub(super) fn over(list: Sole<Children>) -> Node
     requires { AreFamily list.value }
@@ -125,6 +135,20 @@ impl Children {
         self.nodes[len] = node;
     }
 
+    /// Puts a child before the others.
+    pub(super) fn push_front(&mut self, node: Node)
+        requires level { AreLevel (node ∷ self.old) }
+        requires few { byte_len (joined (node ∷ self.old)) < 2 ^ 32 }
+        requires room { length self.old < MAX_CHILDREN }
+        ensures { self.new ≡ node ∷ self.old }
+    {
+        let len = self.totals.len();
+        self.totals.push_front(node.info());
+        self.height = (node.height() + 1) as u8;
+        self.breaks = node.line_breaks();
+        put_first(&mut self.nodes[..len + 1], node);
+    }
+
     /// Removes the last child, and returns it.
     pub(super) fn pop(&mut self) -> Node
         requires { 1 ≤ length self.old }
@@ -168,6 +192,19 @@ impl Children {
     {
         if list.as_ref().count() > 0 {
             self.push(over(list));
+        }
+    }
+
+    /// Puts a node over a list before the children, unless the list is empty.
+    fn push_front_over(&mut self, list: Sole<Children>)
+        requires family { 1 ≤ length list.value → AreFamily list.value }
+        requires level { AreLevel (nodes_over list.value ++ self.old) }
+        requires few { byte_len (joined (nodes_over list.value ++ self.old)) < 2 ^ 32 }
+        requires room { length self.old < MAX_CHILDREN }
+        ensures { self.new ≡ nodes_over list.value ++ self.old }
+    {
+        if list.as_ref().count() > 0 {
+            self.push_front(over(list));
         }
     }
 
@@ -333,10 +370,8 @@ impl Children {
         ensures none { pocket.new ≡ [] }
     {
         first.as_mut().settle(second.as_mut(), pocket);
-        pocket.push_over(first);
-        pocket.push_over(second);
-        pocket.take_from(self, 0);
-        self.take_from(pocket, 0);
+        self.push_front_over(second);
+        self.push_front_over(first);
     }
 
     /// Returns the number of bytes of the last child, a leaf. Without children, it returns what

@@ -13,9 +13,40 @@ use crate::{Editor, total_before};
 use rope_text::{MAX_CHILDREN, MIN_CHILDREN};
 use std::rc::Rc;
 
+/// Returns how many of the children of two adjacent lists the first one is to have, so that neither
+/// the last of the first list nor the first of the second one is at the end of its list: one moves
+/// over from the other list, or two to it, if each list keeps at least 12 and has room.
+fn lent_count(len: usize, next_len: usize, to_next: bool) -> usize
+    requires least { MIN_CHILDREN ≤ len }
+    requires most { len ≤ MAX_CHILDREN }
+    requires least_next { MIN_CHILDREN ≤ next_len }
+    requires most_next { next_len ≤ MAX_CHILDREN }
+    ensures least { MIN_CHILDREN ≤ result }
+    ensures most { result ≤ MAX_CHILDREN }
+    ensures least_next { result + MIN_CHILDREN ≤ len + next_len }
+    ensures most_next { len + next_len ≤ result + MAX_CHILDREN }
+{
+    if to_next {
+        if len > MIN_CHILDREN && next_len < MAX_CHILDREN {
+            return len - 1;
+        }
+        if next_len > MIN_CHILDREN + 1 && len + 1 < MAX_CHILDREN {
+            return len + 2;
+        }
+        return len;
+    }
+    if next_len > MIN_CHILDREN && len < MAX_CHILDREN {
+        return len + 1;
+    }
+    if len > MIN_CHILDREN + 1 && next_len + 1 < MAX_CHILDREN {
+        return len - 2;
+    }
+    len
+}
+
 impl Children {
-    /// Moves the last child to the start of the next list, or the first child of that one to the
-    /// end of this, if each keeps at least 12 and has room.
+    /// Moves children between this list and the next one, so that the first child of the next list
+    /// isn't at its start any more if `to_next`, or the last child of this one not at its end.
     fn lend(&mut self, next: &mut Children, to_next: bool, pocket: &mut Children)
         requires level { AreLevel (self.old ++ next.old) }
         requires few { byte_len (joined (self.old ++ next.old)) < 2 ^ 32 }
@@ -31,15 +62,14 @@ impl Children {
         ensures most_next { length next.new ≤ MAX_CHILDREN }
         ensures none { pocket.new ≡ [] }
     {
-        let (len, next_len) = (self.count(), next.count());
-        if to_next && len > MIN_CHILDREN && next_len < MAX_CHILDREN {
-            self.share_out(next, len - 1, pocket);
-        } else if !to_next && next_len > MIN_CHILDREN && len < MAX_CHILDREN {
-            self.share_out(next, len + 1, pocket);
+        let len = self.count();
+        let count = lent_count(len, next.count(), to_next);
+        if count != len {
+            self.share_out(next, count, pocket);
         }
     }
 
-    /// Moves a child between the lists of the children at the indices `place` and `place + 1`, as
+    /// Moves children between the lists of the children at the indices `place` and `place + 1`, as
     /// [`lend`](Children::lend) does, if neither has another owner.
     fn shift(&mut self, place: usize, to_next: bool, rest: &mut Children, pocket: &mut Children)
         requires children { AreFamily self.old }
@@ -63,8 +93,8 @@ impl Children {
         self.take_from(rest, 0);
     }
 
-    /// Gives the child at an index, a list, a child of the list beside it, if its character
-    /// `inside` is in its first child or its last.
+    /// Moves children between the child at an index, a list, and a list beside it, if the character
+    /// `inside` is in the first child of the list or in its last.
     fn pad_child(&mut self, place: usize, inside: usize, rest: &mut Children, pocket: &mut Children)
         requires children { AreFamily self.old }
         requires lists { 1 ≤ height_of self.old }

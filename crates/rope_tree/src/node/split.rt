@@ -57,7 +57,7 @@ impl Children {
             return Ok(false);
         }
         if self.height == 1 {
-            return self.split_leaf_at(&mut editor.maker, place, inside, rest, pocket);
+            return self.split_leaf_at(&mut editor.maker, place, inside, rest);
         }
         rest.take_from(self, place + 2);
         let did = self.split_list(editor, inside, rest, pocket);
@@ -76,7 +76,6 @@ impl Children {
         place: usize,
         inside: usize,
         rest: &mut Children,
-        pocket: &mut Children,
     ) -> Made<bool>
         requires children { AreFamily self.old }
         requires leaves { height_of self.old ≡ 0 }
@@ -86,7 +85,6 @@ impl Children {
         requires within { (leaf : Tree)
             → inside < length (text (slice_index_or self.old place leaf)) }
         requires none { rest.old ≡ [] }
-        requires none_in_pocket { pocket.old ≡ [] }
         ensures front { IfOk result (λ did. did ≡ true → IsFrontOf
             (length (joined (take place self.old)) + inside) self.old self.new) }
         ensures back { IfOk result (λ did. did ≡ true → IsBackOf
@@ -97,12 +95,11 @@ impl Children {
             → EndsAs self.old rest.new) }
         ensures kept { IfOk result (λ did. did ≡ false → self.new ≡ self.old) }
         ensures err { OnErr result (self.new ≡ self.old) }
-        ensures none_in_pocket { pocket.new ≡ [] }
         ensures idle { IfOk result (λ did. did ≡ false → maker.new.made ≡ maker.old.made) }
         ensures made { maker.new.made ≤ maker.old.made + 1 }
     {
         rest.take_from(self, place + 1);
-        let did = self.split_leaf(maker, inside, rest, pocket);
+        let did = self.split_leaf(maker, inside, rest);
         if !matches!(did, Ok(true)) {
             self.take_from(rest, 0);
         }
@@ -112,13 +109,7 @@ impl Children {
     /// Splits the last child, a leaf, `inside` characters from its start, if both parts are long
     /// enough beside the leaves around it. Returns whether it did. The second part becomes the
     /// first child of `rest`, whose children follow.
-    fn split_leaf(
-        &mut self,
-        maker: &mut Maker,
-        inside: usize,
-        rest: &mut Children,
-        pocket: &mut Children,
-    ) -> Made<bool>
+    fn split_leaf(&mut self, maker: &mut Maker, inside: usize, rest: &mut Children) -> Made<bool>
         requires children { AreFamily (self.old ++ rest.old) }
         requires leaves { height_of (self.old ++ rest.old) ≡ 0 }
         requires few { byte_len (joined (self.old ++ rest.old)) < 2 ^ 32 }
@@ -126,7 +117,6 @@ impl Children {
         requires some { 1 ≤ inside }
         requires within { (leaf : Tree)
             → inside < length (text (slice_index_or self.old (length self.old - 1) leaf)) }
-        requires none { pocket.old ≡ [] }
         ensures front { IfOk result (λ did. did ≡ true → IsFrontOf
             (length (joined (take (length self.old - 1) self.old)) + inside)
             (self.old ++ rest.old) self.new) }
@@ -140,7 +130,6 @@ impl Children {
         ensures kept { IfOk result (λ did. did ≡ false
             → (self.new ≡ self.old) × (rest.new ≡ rest.old)) }
         ensures err { OnErr result ((self.new ≡ self.old) × (rest.new ≡ rest.old)) }
-        ensures none { pocket.new ≡ [] }
         ensures idle { IfOk result (λ did. did ≡ false → maker.new.made ≡ maker.old.made) }
         ensures made { maker.new.made ≤ maker.old.made + 1 }
     {
@@ -151,9 +140,7 @@ impl Children {
         let Some(back) = found? else {
             return Ok(false);
         };
-        pocket.push(back);
-        pocket.take_from(rest, 0);
-        rest.take_from(pocket, 0);
+        rest.push_front(back);
         Ok(true)
     }
 
@@ -341,7 +328,7 @@ impl Children {
             return self.split(editor, at, rest, pocket);
         }
         if self.height == 1 {
-            return self.split_leaf_at(&mut editor.maker, 0, at, rest, pocket);
+            return self.split_leaf_at(&mut editor.maker, 0, at, rest);
         }
         self.split_first(editor, at, rest, pocket)
     }
@@ -382,7 +369,7 @@ impl Children {
             return self.split(editor, at, rest, pocket);
         }
         if self.height == 1 {
-            return self.split_leaf_at(&mut editor.maker, last, at - before, rest, pocket);
+            return self.split_leaf_at(&mut editor.maker, last, at - before, rest);
         }
         self.split_last(editor, at - before, rest, pocket)
     }

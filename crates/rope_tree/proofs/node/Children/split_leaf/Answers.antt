@@ -1,9 +1,9 @@
-use Rattle.std.proofs.Common.{◌≡◌, ◌+◌, ◌-◌, ◌<◌, ◌⊎◌, inl, inr, [], ◌∷◌, ◌++◌, length, get_or, take, refl, sym, ap, subst, ◌∙◌, arith}
+use Rattle.std.proofs.Common.{◌≡◌, ◌+◌, ◌-◌, ◌<◌, ◌⊎◌, inl, inr, [], ◌∷◌, ◌++◌, length, get_or, take, sym, ap, subst, ◌∙◌, arith}
 use Rattle.std.proofs.lemmas.List.{append_assoc, length-append, take_all, take-append-le, get_or_push}
 use Rattle.rope_tree.specs.Tree.{text}
-use Rattle.rope_tree.proofs.MoveLaws.{AreMovable, level_of, movable_of, movable_left, movable_right}
+use Rattle.rope_tree.proofs.MoveLaws.{AreMovable, level_of, movable_of, movable_left}
 use Rattle.rope_tree.proofs.LeafSplits.{HasLeaf, IsStart, IsEnd, flat_height, cut_or_kept, level_before, level_after, own_leaf, move_first, move_second, leaf_front, leaf_back, leaf_following, leaf_ahead}
-use Rattle.rope_tree.proofs.node.Children.split_leaf.Goals.{After-pop-leaf, After-split_leaf-found, In-Some, After-take_from-2}
+use Rattle.rope_tree.proofs.node.Children.split_leaf.Goals.{After-pop-leaf, After-split_leaf-found, In-Some}
 use Rattle.rope_tree.proofs.node.Children.split_leaf.Goals as goal
 
 module _ (c : After-pop-leaf) where
@@ -121,53 +121,13 @@ module _ (c : In-Some) where
   moved : AreMovable (c.in-Some.back ∷ c.args.rest.now)
   moved = move_second _ _ _ _ (placed p) _ c.requires.some (within p) _ ended c.requires.few
 
-  alone : AreMovable (c.in-Some.back ∷ [])
-  alone = movable_left (c.in-Some.back ∷ []) c.args.rest.now moved
+pub push_front-requires-clause-level : goal.push_front-requires-clause-level
+push_front-requires-clause-level c =
+    (moved (goal.at.push_front-requires-clause-level c).In-Some).level
 
-pub push-requires-2-clause-level : goal.push-requires-2-clause-level
-push-requires-2-clause-level c =
-    rw c.requires.none (alone (goal.at.push-requires-2-clause-level c).In-Some).level
-
-pub push-requires-2-clause-few : goal.push-requires-2-clause-few
-push-requires-2-clause-few c =
-    rw c.requires.none (alone (goal.at.push-requires-2-clause-few c).In-Some).few
-
-pub take_from-requires-clause-level : goal.take_from-requires-clause-level
-take_from-requires-clause-level c =
-    rw (c.push-2.ensures, c.requires.none)
-    (moved (goal.at.take_from-requires-clause-level c).In-Some).level
-
-pub take_from-requires-clause-level_other : goal.take_from-requires-clause-level_other
-take_from-requires-clause-level_other c =
-    (movable_right c.args.self.now c.args.rest.now
-    (movable_of _ c.requires.children c.requires.few)).level
-
-pub take_from-requires-clause-few : goal.take_from-requires-clause-few
-take_from-requires-clause-few c =
-    rw (c.push-2.ensures, c.requires.none)
-    (moved (goal.at.take_from-requires-clause-few c).In-Some).few
-
-pub take_from-requires-2-clause-level : goal.take_from-requires-2-clause-level
-take_from-requires-2-clause-level c =
-    rw (c.take_from.ensures.rest, c.take_from.ensures.moved, c.push-2.ensures, c.requires.none)
-    (moved (goal.at.take_from-requires-2-clause-level c).In-Some).level
-
-pub take_from-requires-2-clause-level_other : goal.take_from-requires-2-clause-level_other
-take_from-requires-2-clause-level_other c =
-    rw (c.take_from.ensures.moved, c.push-2.ensures, c.requires.none)
-    (moved (goal.at.take_from-requires-2-clause-level_other c).In-Some).level
-
-pub take_from-requires-2-clause-few : goal.take_from-requires-2-clause-few
-take_from-requires-2-clause-few c =
-    rw (c.take_from.ensures.rest, c.take_from.ensures.moved, c.push-2.ensures, c.requires.none)
-    (moved (goal.at.take_from-requires-2-clause-few c).In-Some).few
-
--- the two lists
-module _ (c : After-take_from-2) where
-  back_is : c.take_from-2.new.self ≡ c.in-Some.back ∷ c.args.rest.now
-  back_is = c.take_from-2.ensures.moved
-      ∙ (rw (c.take_from.ensures.rest, c.take_from.ensures.moved, c.push-2.ensures, c.requires.none)
-      refl)
+pub push_front-requires-clause-few : goal.push_front-requires-clause-few
+push_front-requires-clause-few c =
+    (moved (goal.at.push_front-requires-clause-few c).In-Some).few
 
 pub returns-clause-front : goal.returns-clause-front
 returns-clause-front c = λ _.
@@ -180,7 +140,7 @@ pub returns-clause-back : goal.returns-clause-back
 returns-clause-back c = λ _.
     let s = (goal.at.returns-clause-back c).In-Some in
     let q = (goal.at.returns-clause-back c).After-pop-leaf in
-    rw (before_leaf q, back_is (goal.at.returns-clause-back c).After-take_from-2)
+    rw (before_leaf q, c.push_front.ensures)
     (leaf_back _ _ _ _ (placed q) _ c.requires.some (within q) _ (ended s))
 
 pub returns-clause-following : goal.returns-clause-following
@@ -195,5 +155,5 @@ pub returns-clause-ahead : goal.returns-clause-ahead
 returns-clause-ahead c = λ _ more.
     let s = (goal.at.returns-clause-ahead c).In-Some in
     let q = (goal.at.returns-clause-ahead c).After-pop-leaf in
-    rw (back_is (goal.at.returns-clause-ahead c).After-take_from-2)
+    rw c.push_front.ensures
     (leaf_ahead _ _ _ _ (placed q) _ c.requires.some (within q) _ (ended s) more)

@@ -9,26 +9,26 @@ use Rattle.rope_tree.specs.Siblings.{AreLevel}
 use Rattle.rope_tree.proofs.TreeLaws.{is_tree_over}
 use Rattle.rope_tree.proofs.MoveLaws.{AreMovable, movable_left}
 use Rattle.rope_tree.proofs.AppendLaws.{AreAppendable, appended_movable, appended_family, appended_text, first_family, second_family, root_movable, root_family, root_leaves}
-use Rattle.rope_tree.proofs.node.Node.append_in_place.Goals.{In-Ok-into_list, After-count-2, After-settle, After-over-2, After-over-3}
+use Rattle.rope_tree.proofs.node.Node.append_in_place.Goals.{In-Some, After-count-2, After-settle, After-over-2, After-over-3}
 use Rattle.rope_tree.proofs.node.Node.append_in_place.Goals as goal
 
-module _ (c : In-Ok-into_list) where
+module _ (c : In-Some) where
   abbrev l : List Tree
-  l = c.in-Ok.list.value
+  l = c.in-Some.left.value
 
   abbrev r : List Tree
-  r = c.in-Ok-into_list.list.value
+  r = c.in-Some.right.value
 
   left_is : c.args.self.now ≡ tree_over l
-  left_is = sym c.take.ensures.value ∙ c.in-Ok.ensures.node
+  left_is = c.in-Some.ensures.left
 
   right_is : c.args.other.now ≡ tree_over r
-  right_is = sym c.replace.ensures.value ∙ c.in-Ok-into_list.ensures.node
+  right_is = c.in-Some.ensures.right
 
   appendable : AreAppendable l r
   appendable = record {
-    left = c.in-Ok.ensures.family;
-    right = c.in-Ok-into_list.ensures.family;
+    left = c.in-Some.ensures.first;
+    right = c.in-Some.ensures.second;
     same_breaks = ap (λ t. t.breaks) (sym right_is) ∙ c.requires.same_breaks
         ∙ ap (λ t. t.breaks) left_is;
     level = omega (
@@ -59,8 +59,8 @@ module _ (c : In-Ok-into_list) where
 
 -- the number of children of both
 module _ (c : After-count-2) where
-  lengths : c.count.result + c.count-2.result ≡ length c.in-Ok.list.value
-      + length c.in-Ok-into_list.list.value
+  lengths : c.count.result + c.count-2.result ≡ length c.in-Some.left.value
+      + length c.in-Some.right.value
   lengths =
       omega (
         arith,
@@ -71,8 +71,8 @@ module _ (c : After-count-2) where
       )
 
 module _ (c : After-settle) where
-  abbrev k : In-Ok-into_list
-  k = (goal.at.After-settle c).In-Ok-into_list
+  abbrev k : In-Some
+  k = (goal.at.After-settle c).In-Some
 
   same : c.settle.new.self ++ c.settle.new.right ≡ l k ++ r k
   same = c.settle.ensures.same
@@ -121,20 +121,20 @@ module _ (c : After-over-3) where
 
 pub take_from-requires-clause-level : goal.take_from-requires-clause-level
 take_from-requires-clause-level c =
-    let k = (goal.at.take_from-requires-clause-level c).In-Ok-into_list in
+    let k = (goal.at.take_from-requires-clause-level c).In-Some in
     rw (c.as_mut.ensures.value, c.as_mut-then-count-le-MAX_CHILDREN.ensures.value)
     (appended_movable (l k) (r k) (appendable k)).level
 
 pub take_from-requires-clause-few : goal.take_from-requires-clause-few
 take_from-requires-clause-few c =
-    let k = (goal.at.take_from-requires-clause-few c).In-Ok-into_list in
+    let k = (goal.at.take_from-requires-clause-few c).In-Some in
     rw (c.as_mut.ensures.value, c.as_mut-then-count-le-MAX_CHILDREN.ensures.value)
     (appended_movable (l k) (r k) (appendable k)).few
 
-pub over-requires-then-count-le-MAX_CHILDREN : goal.over-requires-then-count-le-MAX_CHILDREN
-over-requires-then-count-le-MAX_CHILDREN c =
-    let k = (goal.at.over-requires-then-count-le-MAX_CHILDREN c).In-Ok-into_list in
-    let v = (goal.at.over-requires-then-count-le-MAX_CHILDREN c).After-count-2 in
+pub over-requires : goal.over-requires
+over-requires c =
+    let k = (goal.at.over-requires c).In-Some in
+    let v = (goal.at.over-requires c).After-count-2 in
     subst AreFamily (sym (c.take_from.ensures.moved
     ∙ ap₂ (λ x y. x ++ y) c.as_mut.ensures.value c.as_mut-then-count-le-MAX_CHILDREN.ensures.value))
     (appended_family (l k) (r k) (appendable k)
@@ -143,8 +143,8 @@ over-requires-then-count-le-MAX_CHILDREN c =
 pub returns-then-count-le-MAX_CHILDREN-clause-done :
     goal.returns-then-count-le-MAX_CHILDREN-clause-done
 returns-then-count-le-MAX_CHILDREN-clause-done c =
-    let k = (goal.at.returns-then-count-le-MAX_CHILDREN-clause-done c).In-Ok-into_list in
-    λ _. ap text (c.over-then-count-le-MAX_CHILDREN.ensures ∙ ap tree_over
+    let k = (goal.at.returns-then-count-le-MAX_CHILDREN-clause-done c).In-Some in
+    λ _. ap text (c.over.ensures ∙ ap tree_over
     (c.take_from.ensures.moved
     ∙ ap₂ (λ x y. x ++ y) c.as_mut.ensures.value
     c.as_mut-then-count-le-MAX_CHILDREN.ensures.value)) ∙ whole k
@@ -152,9 +152,9 @@ returns-then-count-le-MAX_CHILDREN-clause-done c =
 pub returns-then-count-le-MAX_CHILDREN-clause-tree :
     goal.returns-then-count-le-MAX_CHILDREN-clause-tree
 returns-then-count-le-MAX_CHILDREN-clause-tree c =
-    let k = (goal.at.returns-then-count-le-MAX_CHILDREN-clause-tree c).In-Ok-into_list in
+    let k = (goal.at.returns-then-count-le-MAX_CHILDREN-clause-tree c).In-Some in
     let v = (goal.at.returns-then-count-le-MAX_CHILDREN-clause-tree c).After-count-2 in
-    subst IsTree (sym (c.over-then-count-le-MAX_CHILDREN.ensures ∙ ap tree_over
+    subst IsTree (sym (c.over.ensures ∙ ap tree_over
     (c.take_from.ensures.moved
     ∙ ap₂ (λ x y. x ++ y) c.as_mut.ensures.value
     c.as_mut-then-count-le-MAX_CHILDREN.ensures.value)))
@@ -163,13 +163,13 @@ returns-then-count-le-MAX_CHILDREN-clause-tree c =
 
 pub settle-requires-clause-level : goal.settle-requires-clause-level
 settle-requires-clause-level c =
-    let k = (goal.at.settle-requires-clause-level c).In-Ok-into_list in
+    let k = (goal.at.settle-requires-clause-level c).In-Some in
     rw (c.as_mut-2.ensures.value, c.as_mut-3.ensures.value)
     (appended_movable (l k) (r k) (appendable k)).level
 
 pub settle-requires-clause-few : goal.settle-requires-clause-few
 settle-requires-clause-few c =
-    let k = (goal.at.settle-requires-clause-few c).In-Ok-into_list in
+    let k = (goal.at.settle-requires-clause-few c).In-Some in
     rw (c.as_mut-2.ensures.value, c.as_mut-3.ensures.value)
     (appended_movable (l k) (r k) (appendable k)).few
 
@@ -219,7 +219,7 @@ pub returns-clause-done : goal.returns-clause-done
 returns-clause-done c =
     let k = (goal.at.returns-clause-done c).After-over-3 in
     let e = (goal.at.returns-clause-done c).After-settle in
-    let i = (goal.at.returns-clause-done c).In-Ok-into_list in
+    let i = (goal.at.returns-clause-done c).In-Some in
     λ _. ap text (c.over-4.ensures ∙ ap tree_over (c.push-2.ensures ∙ both_are k))
     ∙ ap concat (root_leaves (l i) (r i) (appendable i) _ _ (same e) (many e)
     c.settle.ensures.least c.settle.ensures.most c.settle.ensures.least_right
