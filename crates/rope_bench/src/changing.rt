@@ -3,10 +3,11 @@ ghost use Rattle.std.specs.Prelude.{◌≤◌, IfOk};
 ghost use Rattle.std.specs.List.{All};
 
 use crate::fault::Fault;
-use crate::measure::{Outcome, mix, now, since, whole};
+use crate::measure::{Outcome, mix, now, whole};
 use crate::numbers::Numbers;
 use crate::sample::Sample;
 use rope_changes::{ChangeSet, Side};
+use ropey::Rope;
 use std::alloc::Global;
 use std::time::CpuClock;
 
@@ -93,21 +94,21 @@ fn sum_of_edits(change: &ChangeSet) -> u64 {
 
 fn type_in_a_row<C: CpuClock>(clock: &C, sample: &Sample) -> Result<Outcome, Fault> {
     let mut rope = sample.fresh()?;
+    type_into(clock, sample, &mut rope)
+}
+
+fn type_into<C: CpuClock>(clock: &C, sample: &Sample, rope: &mut Rope) -> Result<Outcome, Fault> {
     let operations = sample.operations(100_000);
     let middle = rope.len_chars() / 2;
-    let start = now(clock)?;
+    let start = now(clock);
     for k in 0..operations {
         let place = middle.saturating_add(k);
         let mut change = ChangeSet::new(sample.alloc, rope.len_chars())?;
         change.replace(place, place, "x")?;
-        change.apply(&mut rope)?;
+        change.apply(rope)?;
     }
-    let nanos = since(clock, start)?;
-    Ok(Outcome {
-        operations,
-        nanos,
-        checksum: whole(&rope),
-    })
+    let end = now(clock);
+    Outcome::new(operations, start, end, whole(rope))
 }
 
 fn edit_in_rounds<C: CpuClock>(
@@ -117,19 +118,25 @@ fn edit_in_rounds<C: CpuClock>(
     text: &str,
 ) -> Result<Outcome, Fault> {
     let mut rope = sample.fresh()?;
+    edit_repeatedly(clock, sample, &mut rope, deleted, text)
+}
+
+fn edit_repeatedly<C: CpuClock>(
+    clock: &C,
+    sample: &Sample,
+    rope: &mut Rope,
+    deleted: usize,
+    text: &str,
+) -> Result<Outcome, Fault> {
     let count = sample.operations(REPLACEMENTS);
     let mut numbers = Numbers::new();
-    let start = now(clock)?;
+    let start = now(clock);
     for _ in 0..ROUNDS {
         let len = rope.len_chars();
-        change_of(sample.alloc, len, count, deleted, text, &mut numbers)?.apply(&mut rope)?;
+        change_of(sample.alloc, len, count, deleted, text, &mut numbers)?.apply(rope)?;
     }
-    let nanos = since(clock, start)?;
-    Ok(Outcome {
-        operations: count.saturating_mul(ROUNDS),
-        nanos,
-        checksum: whole(&rope),
-    })
+    let end = now(clock);
+    Outcome::new(count.saturating_mul(ROUNDS), start, end, whole(rope))
 }
 
 /// Returns the change of many words of the workloads below.
@@ -140,28 +147,47 @@ fn words(sample: &Sample, len: usize, numbers: &mut Numbers) -> Result<ChangeSet
 
 fn invert<C: CpuClock>(clock: &C, sample: &Sample) -> Result<Outcome, Fault> {
     let change = words(sample, sample.rope.len_chars(), &mut Numbers::new())?;
-    let start = now(clock)?;
+    invert_one(clock, sample, &change)
+}
+
+fn invert_one<C: CpuClock>(
+    clock: &C,
+    sample: &Sample,
+    change: &ChangeSet,
+) -> Result<Outcome, Fault> {
+    let start = now(clock);
     let inverse = change.invert(&sample.rope)?;
-    let nanos = since(clock, start)?;
-    Ok(Outcome {
-        operations: sample.operations(REPLACEMENTS),
-        nanos,
-        checksum: sum_of_edits(&inverse),
-    })
+    let end = now(clock);
+    Outcome::new(
+        sample.operations(REPLACEMENTS),
+        start,
+        end,
+        sum_of_edits(&inverse),
+    )
 }
 
 fn compose<C: CpuClock>(clock: &C, sample: &Sample) -> Result<Outcome, Fault> {
     let mut numbers = Numbers::new();
     let first = words(sample, sample.rope.len_chars(), &mut numbers)?;
     let second = words(sample, first.len_after(), &mut numbers)?;
-    let start = now(clock)?;
-    let both = first.compose(&second)?;
-    let nanos = since(clock, start)?;
-    Ok(Outcome {
-        operations: sample.operations(REPLACEMENTS),
-        nanos,
-        checksum: sum_of_edits(&both),
-    })
+    compose_two(clock, sample, &first, &second)
+}
+
+fn compose_two<C: CpuClock>(
+    clock: &C,
+    sample: &Sample,
+    first: &ChangeSet,
+    second: &ChangeSet,
+) -> Result<Outcome, Fault> {
+    let start = now(clock);
+    let both = first.compose(second)?;
+    let end = now(clock);
+    Outcome::new(
+        sample.operations(REPLACEMENTS),
+        start,
+        end,
+        sum_of_edits(&both),
+    )
 }
 
 /// Returns ten indices, in order, for each replacement of a change.
@@ -182,16 +208,12 @@ fn sorted_indices(sample: &Sample, len: usize) -> Result<Vec<usize>, Fault>
 fn move_indices<C: CpuClock>(clock: &C, sample: &Sample) -> Result<Outcome, Fault> {
     let change = words(sample, sample.rope.len_chars(), &mut Numbers::new())?;
     let mut indices = sorted_indices(sample, change.len_before())?;
-    let start = now(clock)?;
+    let start = now(clock);
     change.map_sorted(indices.as_mut_slice(), Side::After);
-    let nanos = since(clock, start)?;
+    let end = now(clock);
     let mut checksum = 0;
     for index in &indices {
         checksum = mix(checksum, *index);
     }
-    Ok(Outcome {
-        operations: indices.len(),
-        nanos,
-        checksum,
-    })
+    Outcome::new(indices.len(), start, end, checksum)
 }

@@ -3,7 +3,7 @@ ghost use Rattle.std.specs.Prelude.{◌+◌, ◌%◌, ◌^◌, length};
 
 use crate::edits::cut_otherwise;
 use crate::fault::Fault;
-use crate::measure::{Outcome, now, since};
+use crate::measure::{Outcome, now};
 use crate::numbers::{Fnv, Numbers};
 use crate::sample::Sample;
 use ropey::Rope;
@@ -89,14 +89,10 @@ impl Comparing {
 pub fn compare<C: CpuClock>(clock: &C, sample: &Sample, what: Comparing) -> Result<Outcome, Fault> {
     let operations = what.operations(sample);
     let other = what.other(sample)?;
-    let start = now(clock)?;
+    let start = now(clock);
     let checksum = what.answer(sample, &other, operations);
-    let nanos = since(clock, start)?;
-    Ok(Outcome {
-        operations,
-        nanos,
-        checksum,
-    })
+    let end = now(clock);
+    Outcome::new(operations, start, end, checksum)
 }
 
 fn number_of(order: Ordering) -> u64 {

@@ -1,6 +1,6 @@
 //! Counts over a plain text, ten times the sample's.
 use crate::fault::Fault;
-use crate::measure::{Outcome, now, since};
+use crate::measure::{Outcome, now};
 use crate::sample::Sample;
 use crate::texts::repeated;
 use rope_text::{LineBreaks, str_utils};
@@ -54,12 +54,8 @@ fn counts_of_slice(text: &str) -> usize {
 /// Counts once over the text.
 pub fn count<C: CpuClock>(clock: &C, sample: &Sample, what: Counting) -> Result<Outcome, Fault> {
     let text = repeated(sample.alloc, sample.text.as_str(), 10)?;
-    let start = now(clock)?;
+    let start = now(clock);
     let counted = what.of(text.as_str());
-    let nanos = since(clock, start)?;
-    Ok(Outcome {
-        operations: 1,
-        nanos,
-        checksum: counted as u64,
-    })
+    let end = now(clock);
+    Outcome::new(1, start, end, counted as u64)
 }

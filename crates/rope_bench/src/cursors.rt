@@ -1,7 +1,7 @@
 //! Cursors over a rope: their starts, and all their steps in each direction.
 use crate::fault::Fault;
 use crate::lookups::{byte_of, sum_of};
-use crate::measure::{Outcome, mix, now, since};
+use crate::measure::{Outcome, mix, now};
 use crate::numbers::Numbers;
 use crate::sample::Sample;
 use ropey::Rope;
@@ -132,14 +132,10 @@ impl Walk {
 /// Walks over the rope once, or to many indices.
 pub fn go_over<C: CpuClock>(clock: &C, sample: &Sample, what: Walk) -> Result<Outcome, Fault> {
     let operations = what.operations(sample);
-    let start = now(clock)?;
+    let start = now(clock);
     let checksum = what.sum(&sample.rope, operations)?;
-    let nanos = since(clock, start)?;
-    Ok(Outcome {
-        operations,
-        nanos,
-        checksum,
-    })
+    let end = now(clock);
+    Outcome::new(operations, start, end, checksum)
 }
 
 /// Returns the sum of the bytes ahead.

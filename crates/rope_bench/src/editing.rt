@@ -5,7 +5,7 @@ use crate::edits::{
     type_text,
 };
 use crate::fault::Fault;
-use crate::measure::{Outcome, lens, now, since, whole};
+use crate::measure::{Outcome, lens, now, whole};
 use crate::sample::Sample;
 use crate::scaling::Portion;
 use crate::texts::first_lines;
@@ -39,10 +39,6 @@ pub enum Edit {
     SplitAndAppend,
     /// Splits the rope at random indices, and joins its two parts again.
     SplitAnywhere,
-    /// Appends ropes of single lines.
-    AppendSmall,
-    /// Appends ropes of single lines to an empty rope.
-    AppendSmallFromEmpty,
     /// Appends the text's first characters, one by one, to an empty rope.
     TypeFromEmpty,
     /// Inserts a text of two lines at random indices of a rope that starts empty.
@@ -70,8 +66,6 @@ impl Edit {
             Edit::RemoveLong => "remove_10KB",
             Edit::SplitAndAppend => "split_and_append",
             Edit::SplitAnywhere => "split_anywhere",
-            Edit::AppendSmall => "append_small",
-            Edit::AppendSmallFromEmpty => "append_small_from_empty",
             Edit::TypeFromEmpty => "type_from_empty",
             Edit::GrowFromEmpty => "grow_from_empty",
             Edit::ShrinkToFit => "shrink_to_fit",
@@ -91,11 +85,9 @@ impl Edit {
             | Edit::RemoveInsertRandom
             | Edit::TypeFromEmpty => sample.operations(100_000),
             Edit::GrowFromEmpty => sample.operations(200_000),
-            Edit::InsertLong
-            | Edit::SplitAndAppend
-            | Edit::SplitAnywhere
-            | Edit::AppendSmall
-            | Edit::AppendSmallFromEmpty => sample.operations(1_000),
+            Edit::InsertLong | Edit::SplitAndAppend | Edit::SplitAnywhere => {
+                sample.operations(1_000)
+            }
             Edit::RemoveLong => sample.operations(500),
             Edit::ShrinkToFit | Edit::ShrinkToFitLong => 1,
             Edit::Insert(portion) => portions_of(sample, portion).max(3),
@@ -106,9 +98,7 @@ impl Edit {
     /// Returns the rope to edit.
     fn start(self, sample: &Sample) -> Result<Rope, Fault> {
         match self {
-            Edit::AppendSmallFromEmpty | Edit::TypeFromEmpty | Edit::GrowFromEmpty => {
-                Ok(Rope::new(sample.alloc)?)
-            }
+            Edit::TypeFromEmpty | Edit::GrowFromEmpty => Ok(Rope::new(sample.alloc)?),
             Edit::ShrinkToFitLong => ten_times(sample),
             _ => sample.fresh(),
         }
@@ -123,21 +113,12 @@ impl Edit {
         }
     }
 
-    /// Returns the ropes to append.
-    fn others(self, sample: &Sample, count: usize) -> Result<Vec<Rope>, Fault> {
-        match self {
-            Edit::AppendSmall | Edit::AppendSmallFromEmpty => ropes_of_lines(sample, count),
-            _ => Ok(Vec::new(sample.alloc)),
-        }
-    }
-
-    /// Runs the edit `count` times, with the text to insert and the ropes to append.
+    /// Runs the edit `count` times, with the text to insert.
     fn apply(
         self,
         rope: &mut Rope,
         sample: &Sample,
         piece: &str,
-        others: Vec<Rope>,
         count: usize,
     ) -> Result<(), Fault> {
         match self {
@@ -154,7 +135,6 @@ impl Edit {
             }
             Edit::SplitAndAppend => split_near_middle(rope, count),
             Edit::SplitAnywhere => split_at_random(rope, count),
-            Edit::AppendSmall | Edit::AppendSmallFromEmpty => append_all(rope, others),
             Edit::TypeFromEmpty => type_text(rope, sample.text.as_str(), count),
             Edit::ShrinkToFit | Edit::ShrinkToFitLong => Ok(rope.shrink_to_fit()?),
         }
@@ -171,18 +151,74 @@ impl Edit {
 
 /// Runs many edits of one kind.
 pub fn edit_rope<C: CpuClock>(clock: &C, sample: &Sample, what: Edit) -> Result<Outcome, Fault> {
-    let operations = what.operations(sample);
     let piece = what.piece(sample)?;
-    let others = what.others(sample, operations)?;
     let mut rope = what.start(sample)?;
-    let start = now(clock)?;
-    what.apply(&mut rope, sample, piece.as_str(), others, operations)?;
-    let nanos = since(clock, start)?;
-    Ok(Outcome {
-        operations,
-        nanos,
-        checksum: what.checksum(&rope),
-    })
+    edit_in(clock, &mut rope, sample, piece.as_str(), what)
+}
+
+fn edit_in<C: CpuClock>(
+    clock: &C,
+    rope: &mut Rope,
+    sample: &Sample,
+    piece: &str,
+    what: Edit,
+) -> Result<Outcome, Fault> {
+    let operations = what.operations(sample);
+    let start = now(clock);
+    what.apply(rope, sample, piece, operations)?;
+    let end = now(clock);
+    Outcome::new(operations, start, end, what.checksum(rope))
+}
+
+/// Ropes of single lines that are appended to one rope.
+#[derive(Clone, Copy)]
+pub enum Append {
+    /// To the sample's.
+    ToRope,
+    /// To an empty one.
+    ToEmpty,
+}
+
+impl Append {
+    /// Returns the name of the workload.
+    pub fn name(self) -> &'static str {
+        match self {
+            Append::ToRope => "append_small",
+            Append::ToEmpty => "append_small_from_empty",
+        }
+    }
+
+    /// Returns the rope to append to.
+    fn start(self, sample: &Sample) -> Result<Rope, Fault> {
+        match self {
+            Append::ToRope => sample.fresh(),
+            Append::ToEmpty => Ok(Rope::new(sample.alloc)?),
+        }
+    }
+}
+
+/// Appends ropes of the first lines.
+pub fn append_ropes<C: CpuClock>(
+    clock: &C,
+    sample: &Sample,
+    what: Append,
+) -> Result<Outcome, Fault> {
+    let count = sample.operations(1_000);
+    let others = ropes_of_lines(sample, count)?;
+    let mut rope = what.start(sample)?;
+    append_in(clock, &mut rope, others, count)
+}
+
+fn append_in<C: CpuClock>(
+    clock: &C,
+    rope: &mut Rope,
+    others: Vec<Rope>,
+    count: usize,
+) -> Result<Outcome, Fault> {
+    let start = now(clock);
+    append_all(rope, others)?;
+    let end = now(clock);
+    Outcome::new(count, start, end, whole(rope))
 }
 
 /// Returns the number of portions of the text, at most 10,000.
@@ -202,8 +238,13 @@ fn ten_times(sample: &Sample) -> Result<Rope, Fault> {
 /// Returns a rope of each of the first lines.
 fn ropes_of_lines(sample: &Sample, count: usize) -> Result<Vec<Rope>, Fault> {
     let mut ropes = Vec::new(sample.alloc);
+    push_ropes(&mut ropes, sample, count)?;
+    Ok(ropes)
+}
+
+fn push_ropes(ropes: &mut Vec<Rope>, sample: &Sample, count: usize) -> Result<(), Fault> {
     for line in sample.text.as_str().split_inclusive('\n').take(count) {
         ropes.push(Rope::from_str(sample.alloc, line)?)?;
     }
-    Ok(ropes)
+    Ok(())
 }

@@ -2,7 +2,7 @@
 use crate::edits::insert_chars_at_random;
 use crate::fault::Fault;
 use crate::keeping::edit_and_keep;
-use crate::measure::{Outcome, lens, mix, now, since};
+use crate::measure::{Outcome, lens, mix, now};
 use crate::texts::{Text, repeated};
 use ropey::{Rope, RopeBuilder};
 use std::alloc::Global;
@@ -86,7 +86,7 @@ impl Memory {
 
 /// Makes the rope and runs the edits.
 pub fn fill<C: CpuClock>(clock: &C, alloc: Global, what: Memory) -> Result<Outcome, Fault> {
-    let start = now(clock)?;
+    let start = now(clock);
     let mut rope = long_rope(alloc)?;
     let count = what.edits();
     let kept = match what {
@@ -96,12 +96,8 @@ pub fn fill<C: CpuClock>(clock: &C, alloc: Global, what: Memory) -> Result<Outco
             Vec::new(alloc)
         }
     };
-    let nanos = since(clock, start)?;
-    Ok(Outcome {
-        operations: count.max(1),
-        nanos,
-        checksum: mix(lens(&rope), kept.len()),
-    })
+    let end = now(clock);
+    Outcome::new(count.max(1), start, end, mix(lens(&rope), kept.len()))
 }
 
 /// Returns a rope of 100 MB. Its text is passed in pieces, so that it takes no memory of its own.

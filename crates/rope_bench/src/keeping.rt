@@ -1,6 +1,6 @@
 //! Clones that are edited, and clones that are kept for undo.
 use crate::fault::Fault;
-use crate::measure::{Outcome, mix, now, since, whole};
+use crate::measure::{Outcome, mix, now, whole};
 use crate::numbers::Numbers;
 use crate::sample::Sample;
 use ropey::Rope;
@@ -49,19 +49,15 @@ fn clone_and_insert<C: CpuClock>(
 ) -> Result<Outcome, Fault> {
     let mut numbers = Numbers::new();
     let mut checksum: u64 = 0;
-    let start = now(clock)?;
+    let start = now(clock);
     for _ in 0..count {
         let mut copy = sample.rope.clone()?;
         let place = numbers.up_to(copy.len_chars());
         copy.insert_char(place, 'x')?;
         checksum = checksum.wrapping_add(copy.len_bytes() as u64);
     }
-    let nanos = since(clock, start)?;
-    Ok(Outcome {
-        operations: count,
-        nanos,
-        checksum,
-    })
+    let end = now(clock);
+    Outcome::new(count, start, end, checksum)
 }
 
 /// Inserts characters at random indices, and returns each earlier rope.
@@ -78,25 +74,26 @@ pub fn edit_and_keep(alloc: Global, rope: &mut Rope, count: usize) -> Result<Vec
 
 fn undo<C: CpuClock>(clock: &C, sample: &Sample, count: usize) -> Result<Outcome, Fault> {
     let mut rope = sample.fresh()?;
-    let start = now(clock)?;
-    let kept = edit_and_keep(sample.alloc, &mut rope, count)?;
-    let nanos = since(clock, start)?;
-    Ok(Outcome {
-        operations: count,
-        nanos,
-        checksum: mix(whole(&rope), kept.len()),
-    })
+    keep_all(clock, sample.alloc, &mut rope, count)
+}
+
+fn keep_all<C: CpuClock>(
+    clock: &C,
+    alloc: Global,
+    rope: &mut Rope,
+    count: usize,
+) -> Result<Outcome, Fault> {
+    let start = now(clock);
+    let kept = edit_and_keep(alloc, rope, count)?;
+    let end = now(clock);
+    Outcome::new(count, start, end, mix(whole(rope), kept.len()))
 }
 
 fn undo_drop<C: CpuClock>(clock: &C, sample: &Sample, count: usize) -> Result<Outcome, Fault> {
     let mut rope = sample.fresh()?;
     let kept = edit_and_keep(sample.alloc, &mut rope, count)?;
-    let start = now(clock)?;
+    let start = now(clock);
     drop(kept);
-    let nanos = since(clock, start)?;
-    Ok(Outcome {
-        operations: count,
-        nanos,
-        checksum: whole(&rope),
-    })
+    let end = now(clock);
+    Outcome::new(count, start, end, whole(&rope))
 }

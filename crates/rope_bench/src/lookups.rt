@@ -2,7 +2,7 @@
 ghost use Rattle.std.specs.Prelude.{ℕ, ◌≤◌};
 
 use crate::fault::Fault;
-use crate::measure::{Outcome, mix, now, since};
+use crate::measure::{Outcome, mix, now};
 use crate::numbers::Numbers;
 use crate::sample::Sample;
 use rope_position::{Position, Positions};
@@ -102,14 +102,10 @@ fn ask<C: CpuClock>(
     what: LookUp,
     count: usize,
 ) -> Result<Outcome, Fault> {
-    let start = now(clock)?;
+    let start = now(clock);
     let checksum = what.answers(&sample.rope, count);
-    let nanos = since(clock, start)?;
-    Ok(Outcome {
-        operations: count,
-        nanos,
-        checksum,
-    })
+    let end = now(clock);
+    Outcome::new(count, start, end, checksum)
 }
 
 /// Returns the sum of the results at random indices from 0 to `most`.
@@ -204,14 +200,10 @@ fn positions_to_chars<C: CpuClock>(
     count: usize,
 ) -> Result<Outcome, Fault> {
     let positions = positions_of(sample, count)?;
-    let start = now(clock)?;
+    let start = now(clock);
     let checksum = mix_of_places(&sample.rope, positions.as_slice());
-    let nanos = since(clock, start)?;
-    Ok(Outcome {
-        operations: count,
-        nanos,
-        checksum,
-    })
+    let end = now(clock);
+    Outcome::new(count, start, end, checksum)
 }
 
 fn positions_of(sample: &Sample, count: usize) -> Result<Vec<Position>, Fault> {

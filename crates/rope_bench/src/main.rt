@@ -37,15 +37,12 @@ use task::{Mode, Task};
 
 /// Returns the task of the command line: a mode, and words that select workloads.
 fn task_of<R: Env + AllocGlobal>(rt: &R) -> Result<Task, Fault> {
-    let mut words = Vec::new(rt.alloc());
     let mut arguments = env::args(rt)?.skip(1);
     let mode = match arguments.next() {
         None => Mode::Small,
         Some(word) => Mode::of_word(word.as_str())?,
     };
-    for word in arguments {
-        words.push(word)?;
-    }
+    let words = arguments.collect(rt.alloc())?;
     Ok(Task { mode, words })
 }
 

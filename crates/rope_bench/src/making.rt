@@ -1,10 +1,11 @@
 //! Ropes that are made of texts and of slices.
 use crate::fault::Fault;
-use crate::measure::{Outcome, lens, mix, now, since};
+use crate::measure::{Outcome, lens, mix, now};
 use crate::numbers::Numbers;
 use crate::sample::Sample;
 use crate::texts::{lines_of, pieces_of};
 use ropey::{Rope, RopeBuilder};
+use std::alloc::Global;
 use std::time::CpuClock;
 
 /// A workload that makes ropes.
@@ -58,76 +59,75 @@ pub fn make<C: CpuClock>(clock: &C, sample: &Sample, what: Making) -> Result<Out
 }
 
 fn from_str<C: CpuClock>(clock: &C, sample: &Sample) -> Result<Outcome, Fault> {
-    let start = now(clock)?;
+    let start = now(clock);
     let rope = Rope::from_str(sample.alloc, sample.text.as_str())?;
-    let nanos = since(clock, start)?;
-    Ok(Outcome {
-        operations: 1,
-        nanos,
-        checksum: lens(&rope),
-    })
+    let end = now(clock);
+    Outcome::new(1, start, end, lens(&rope))
 }
 
 fn builder_by_lines<C: CpuClock>(clock: &C, sample: &Sample) -> Result<Outcome, Fault> {
     let lines = lines_of(sample.alloc, sample.text.as_str(), sample.text.len())?;
-    let start = now(clock)?;
-    let mut builder = RopeBuilder::new(sample.alloc)?;
+    build(clock, sample.alloc, lines.as_slice())
+}
+
+/// Makes one rope of the lines.
+fn build<C: CpuClock>(clock: &C, alloc: Global, lines: &[&str]) -> Result<Outcome, Fault> {
+    let start = now(clock);
+    let mut builder = RopeBuilder::new(alloc)?;
     for line in lines.iter() {
         builder.append(line)?;
     }
     let rope = builder.finish()?;
-    let nanos = since(clock, start)?;
-    Ok(Outcome {
-        operations: lines.len(),
-        nanos,
-        checksum: lens(&rope),
-    })
+    let end = now(clock);
+    Outcome::new(lines.len(), start, end, lens(&rope))
 }
 
 fn from_iter<C: CpuClock>(clock: &C, sample: &Sample) -> Result<Outcome, Fault> {
     let lines = lines_of(sample.alloc, sample.text.as_str(), sample.text.len())?;
     let operations = lines.len();
-    let start = now(clock)?;
+    let start = now(clock);
     let rope = Rope::from_str_iter(sample.alloc, lines)?;
-    let nanos = since(clock, start)?;
-    Ok(Outcome {
-        operations,
-        nanos,
-        checksum: lens(&rope),
-    })
+    let end = now(clock);
+    Outcome::new(operations, start, end, lens(&rope))
 }
 
 fn from_lines<C: CpuClock>(clock: &C, sample: &Sample) -> Result<Outcome, Fault> {
     let count = sample.operations(100_000);
     let lines = lines_of(sample.alloc, sample.text.as_str(), count)?;
+    make_each_line(clock, sample.alloc, lines.as_slice())
+}
+
+/// Makes a rope of each line.
+fn make_each_line<C: CpuClock>(clock: &C, alloc: Global, lines: &[&str]) -> Result<Outcome, Fault> {
     let mut checksum: u64 = 0;
-    let start = now(clock)?;
+    let start = now(clock);
     for line in lines.iter() {
-        let rope = Rope::from_str(sample.alloc, line)?;
+        let rope = Rope::from_str(alloc, line)?;
         checksum = checksum.wrapping_add(rope.len_chars() as u64);
     }
-    let nanos = since(clock, start)?;
-    Ok(Outcome {
-        operations: lines.len(),
-        nanos,
-        checksum,
-    })
+    let end = now(clock);
+    Outcome::new(lines.len(), start, end, checksum)
 }
 
 fn from_pieces<C: CpuClock>(clock: &C, sample: &Sample) -> Result<Outcome, Fault> {
     let pieces = pieces_of(sample.alloc, sample.text.as_str(), 2_048)?;
+    make_each_piece(clock, sample.alloc, pieces.as_slice())
+}
+
+/// Makes a rope of each piece.
+fn make_each_piece<C: CpuClock>(
+    clock: &C,
+    alloc: Global,
+    pieces: &[String],
+) -> Result<Outcome, Fault> {
     let mut checksum: u64 = 0;
-    let start = now(clock)?;
+    let start = now(clock);
     for piece in pieces.iter() {
-        let rope = Rope::from_str(sample.alloc, piece.as_str())?;
+        let rope = Rope::from_str(alloc, piece.as_str())?;
         checksum = checksum.wrapping_add(rope.len_chars() as u64);
     }
-    let nanos = since(clock, start)?;
-    Ok(Outcome {
-        operations: pieces.len(),
-        nanos,
-        checksum,
-    })
+    let end = now(clock);
+    Outcome::new(pieces.len(), start, end, checksum)
 }
 
 /// Makes ropes of slices of a number of characters.
@@ -137,14 +137,10 @@ fn from_slices<C: CpuClock>(
     chars: usize,
     count: usize,
 ) -> Result<Outcome, Fault> {
-    let start = now(clock)?;
+    let start = now(clock);
     let checksum = mix_of_ropes(sample, chars, count)?;
-    let nanos = since(clock, start)?;
-    Ok(Outcome {
-        operations: count,
-        nanos,
-        checksum,
-    })
+    let end = now(clock);
+    Outcome::new(count, start, end, checksum)
 }
 
 fn mix_of_ropes(sample: &Sample, chars: usize, count: usize) -> Result<u64, Fault> {

@@ -2,6 +2,7 @@
 use crate::fault::Fault;
 use crate::numbers::Fnv;
 use ropey::Rope;
+use std::io;
 use std::time::CpuClock;
 
 /// The cost and result of a run of a workload.
@@ -15,8 +16,28 @@ pub struct Outcome {
     pub checksum: u64,
 }
 
+impl Outcome {
+    /// Returns the outcome of a run between two readings of the clock, or the error of the clock.
+    ///
+    /// A workload passes the readings as they are: a `?` between them would drop its ropes there,
+    /// too, and each such return takes the prover seconds.
+    pub fn new(
+        operations: usize,
+        start: io::Result<u64>,
+        end: io::Result<u64>,
+        checksum: u64,
+    ) -> Result<Outcome, Fault> {
+        let start = start?;
+        Ok(Outcome {
+            operations,
+            nanos: end?.wrapping_sub(start),
+            checksum,
+        })
+    }
+}
+
 /// Returns the processor time that this thread has used, in nanoseconds.
-pub fn now<C: CpuClock>(clock: &C) -> Result<u64, Fault> {
+pub fn now<C: CpuClock>(clock: &C) -> io::Result<u64> {
     let time = clock.thread_cpu_time()?;
     let nanos = u64::from(time.subsec_nanos());
     Ok(
@@ -24,11 +45,6 @@ pub fn now<C: CpuClock>(clock: &C) -> Result<u64, Fault> {
             .wrapping_mul(1_000_000_000)
             .wrapping_add(nanos),
     )
-}
-
-/// Returns the nanoseconds of processor time since `start`.
-pub fn since<C: CpuClock>(clock: &C, start: u64) -> Result<u64, Fault> {
-    Ok(now(clock)?.wrapping_sub(start))
 }
 
 /// Returns the four lengths of a rope in one number.

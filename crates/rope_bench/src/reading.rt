@@ -1,10 +1,11 @@
 //! Ropes that are read from readers, and written to writers and strings.
 use crate::fault::Fault;
-use crate::measure::{Outcome, lens, now, since};
+use crate::measure::{Outcome, lens, now};
 use crate::numbers::Fnv;
 use crate::sample::Sample;
 use crate::texts::{pieces_of, repeated};
 use ropey::Rope;
+use std::alloc::Global;
 use std::time::CpuClock;
 
 /// A workload that reads or writes.
@@ -53,51 +54,43 @@ pub fn read<C: CpuClock>(clock: &C, sample: &Sample, what: Reading) -> Result<Ou
 }
 
 fn from_reader<C: CpuClock>(clock: &C, sample: &Sample, text: &str) -> Result<Outcome, Fault> {
-    let start = now(clock)?;
+    let start = now(clock);
     let rope = Rope::from_reader(sample.alloc, text.as_bytes())?;
-    let nanos = since(clock, start)?;
-    Ok(Outcome {
-        operations: 1,
-        nanos,
-        checksum: lens(&rope),
-    })
+    let end = now(clock);
+    Outcome::new(1, start, end, lens(&rope))
 }
 
 fn read_pieces<C: CpuClock>(clock: &C, sample: &Sample) -> Result<Outcome, Fault> {
     let pieces = pieces_of(sample.alloc, sample.text.as_str(), 2_048)?;
+    read_each(clock, sample.alloc, pieces.as_slice())
+}
+
+fn read_each<C: CpuClock>(clock: &C, alloc: Global, pieces: &[String]) -> Result<Outcome, Fault> {
     let mut checksum: u64 = 0;
-    let start = now(clock)?;
+    let start = now(clock);
     for piece in pieces.iter() {
-        let rope = Rope::from_reader(sample.alloc, piece.as_str().as_bytes())?;
+        let rope = Rope::from_reader(alloc, piece.as_str().as_bytes())?;
         checksum = checksum.wrapping_add(rope.len_chars() as u64);
     }
-    let nanos = since(clock, start)?;
-    Ok(Outcome {
-        operations: pieces.len(),
-        nanos,
-        checksum,
-    })
+    let end = now(clock);
+    Outcome::new(pieces.len(), start, end, checksum)
 }
 
 fn write_to<C: CpuClock>(clock: &C, sample: &Sample) -> Result<Outcome, Fault> {
-    let mut bytes: Vec<u8> = Vec::with_capacity(sample.alloc, sample.rope.len_bytes())?;
-    let start = now(clock)?;
-    sample.rope.write_to(&mut bytes)?;
-    let nanos = since(clock, start)?;
-    Ok(Outcome {
-        operations: 1,
-        nanos,
-        checksum: Fnv::of(bytes.as_slice()),
-    })
+    let mut bytes = Vec::with_capacity(sample.alloc, sample.rope.len_bytes())?;
+    write_into(clock, &sample.rope, &mut bytes)
+}
+
+fn write_into<C: CpuClock>(clock: &C, rope: &Rope, bytes: &mut Vec<u8>) -> Result<Outcome, Fault> {
+    let start = now(clock);
+    rope.write_to(&mut *bytes)?;
+    let end = now(clock);
+    Outcome::new(1, start, end, Fnv::of(bytes.as_slice()))
 }
 
 fn to_string<C: CpuClock>(clock: &C, sample: &Sample) -> Result<Outcome, Fault> {
-    let start = now(clock)?;
+    let start = now(clock);
     let text = sample.rope.try_to_string(sample.alloc)?;
-    let nanos = since(clock, start)?;
-    Ok(Outcome {
-        operations: 1,
-        nanos,
-        checksum: Fnv::of(text.as_str().as_bytes()),
-    })
+    let end = now(clock);
+    Outcome::new(1, start, end, Fnv::of(text.as_str().as_bytes()))
 }

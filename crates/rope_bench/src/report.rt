@@ -87,13 +87,25 @@ impl Round<'_> {
     fn run<R: CpuClock + Print>(&self, rt: &R, task: &Task, sample: &Sample) -> Result<(), Fault> {
         for workload in self.workloads {
             let name = self.name_of(sample.alloc, *workload)?;
-            if task.wants(name.as_str()) {
-                let best = workload.best_of(rt, sample, runs(task))?;
-                show(rt, task, name.as_str(), best)?;
-            }
+            run_one(rt, task, sample, *workload, name.as_str())?;
         }
         Ok(())
     }
+}
+
+/// Runs the workload of this name, if it is selected.
+fn run_one<R: CpuClock + Print>(
+    rt: &R,
+    task: &Task,
+    sample: &Sample,
+    workload: Workload,
+    name: &str,
+) -> Result<(), Fault> {
+    if task.wants(name) {
+        let best = workload.best_of(rt, sample, runs(task))?;
+        show(rt, task, name, best)?;
+    }
+    Ok(())
 }
 
 fn runs(task: &Task) -> usize {

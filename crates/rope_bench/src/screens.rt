@@ -1,7 +1,7 @@
 //! Fifty lines from a random one on, as a screen shows them.
 use crate::cursors::{len_of_chunks, sum_of_chars};
 use crate::fault::Fault;
-use crate::measure::{Outcome, now, since};
+use crate::measure::{Outcome, now};
 use crate::numbers::Numbers;
 use crate::sample::Sample;
 use ropey::iter::Lines;
@@ -57,14 +57,10 @@ impl Screen {
 /// Draws many screens.
 pub fn draw<C: CpuClock>(clock: &C, sample: &Sample, what: Screen) -> Result<Outcome, Fault> {
     let count = sample.operations(SCREENS);
-    let start = now(clock)?;
+    let start = now(clock);
     let checksum = what.sum(&sample.rope, count);
-    let nanos = since(clock, start)?;
-    Ok(Outcome {
-        operations: count,
-        nanos,
-        checksum,
-    })
+    let end = now(clock);
+    Outcome::new(count, start, end, checksum)
 }
 
 fn screens<D: Drawing>(rope: &Rope, count: usize) -> u64 {

@@ -1,7 +1,7 @@
 //! Slices of a thousand characters at random indices.
 use crate::cursors::{mix_of_lines, sum_of_bytes, sum_of_chars};
 use crate::fault::Fault;
-use crate::measure::{Outcome, mix, now, since};
+use crate::measure::{Outcome, mix, now};
 use crate::numbers::Numbers;
 use crate::sample::Sample;
 use ropey::{Rope, RopeSlice};
@@ -102,14 +102,10 @@ fn read<C: CpuClock>(
     what: Slicing,
     count: usize,
 ) -> Result<Outcome, Fault> {
-    let start = now(clock)?;
+    let start = now(clock);
     let checksum = sum_of_slices(&sample.rope, what, count);
-    let nanos = since(clock, start)?;
-    Ok(Outcome {
-        operations: count,
-        nanos,
-        checksum,
-    })
+    let end = now(clock);
+    Outcome::new(count, start, end, checksum)
 }
 
 /// Returns the last index at which a slice begins.
@@ -201,14 +197,10 @@ fn part(sum: u64, slice: RopeSlice<'_>, numbers: &mut Numbers) -> u64 {
 /// Takes slices by bytes, whose offsets were looked up before.
 fn byte_slices<C: CpuClock>(clock: &C, sample: &Sample, count: usize) -> Result<Outcome, Fault> {
     let ranges = byte_ranges(sample, count)?;
-    let start = now(clock)?;
+    let start = now(clock);
     let checksum = mix_of_ranges(&sample.rope, ranges.as_slice());
-    let nanos = since(clock, start)?;
-    Ok(Outcome {
-        operations: count,
-        nanos,
-        checksum,
-    })
+    let end = now(clock);
+    Outcome::new(count, start, end, checksum)
 }
 
 /// Returns the byte offsets of the start and end of a slice.
@@ -240,14 +232,10 @@ fn mix_of_ranges(rope: &Rope, ranges: &[(usize, usize)]) -> u64 {
 
 /// Makes strings of slices.
 fn strings<C: CpuClock>(clock: &C, sample: &Sample, count: usize) -> Result<Outcome, Fault> {
-    let start = now(clock)?;
+    let start = now(clock);
     let checksum = mix_of_strings(sample.alloc, &sample.rope, count)?;
-    let nanos = since(clock, start)?;
-    Ok(Outcome {
-        operations: count,
-        nanos,
-        checksum,
-    })
+    let end = now(clock);
+    Outcome::new(count, start, end, checksum)
 }
 
 fn mix_of_strings(alloc: Global, rope: &Rope, count: usize) -> Result<u64, Fault> {
@@ -265,14 +253,10 @@ fn mix_of_strings(alloc: Global, rope: &Rope, count: usize) -> Result<u64, Fault
 
 /// Makes strings of slices, only if a slice has several pieces.
 fn texts<C: CpuClock>(clock: &C, sample: &Sample, count: usize) -> Result<Outcome, Fault> {
-    let start = now(clock)?;
+    let start = now(clock);
     let checksum = mix_of_texts(sample.alloc, &sample.rope, count)?;
-    let nanos = since(clock, start)?;
-    Ok(Outcome {
-        operations: count,
-        nanos,
-        checksum,
-    })
+    let end = now(clock);
+    Outcome::new(count, start, end, checksum)
 }
 
 fn mix_of_texts(alloc: Global, rope: &Rope, count: usize) -> Result<u64, Fault> {

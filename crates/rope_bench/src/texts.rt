@@ -205,9 +205,5 @@ pub fn first_lines(alloc: Global, text: &str, least: usize) -> Result<String, Fa
 
 /// Returns the first lines of a text, each with its LF, which the last may lack.
 pub fn lines_of(alloc: Global, text: &str, most: usize) -> Result<Vec<&str>, Fault> {
-    let mut lines = Vec::new(alloc);
-    for line in text.split_inclusive('\n').take(most) {
-        lines.push(line)?;
-    }
-    Ok(lines)
+    Ok(text.split_inclusive('\n').take(most).collect(alloc)?)
 }

@@ -4,7 +4,7 @@
 //! quotes the character to insert, if any. A quote and a backslash are escaped by a backslash, and
 //! \n, \t and \r have their usual meaning.
 use crate::fault::Fault;
-use crate::measure::{Outcome, now, since, whole};
+use crate::measure::{Outcome, now, whole};
 use ropey::Rope;
 use std::alloc::Global;
 use std::io;
@@ -68,14 +68,18 @@ pub fn replay<C: CpuClock>(
     edits: &[Keystroke],
 ) -> Result<Outcome, Fault> {
     let mut rope = Rope::new(alloc)?;
-    let start = now(clock)?;
-    apply(&mut rope, edits)?;
-    let nanos = since(clock, start)?;
-    Ok(Outcome {
-        operations: edits.len(),
-        nanos,
-        checksum: whole(&rope),
-    })
+    replay_in(clock, &mut rope, edits)
+}
+
+fn replay_in<C: CpuClock>(
+    clock: &C,
+    rope: &mut Rope,
+    edits: &[Keystroke],
+) -> Result<Outcome, Fault> {
+    let start = now(clock);
+    apply(rope, edits)?;
+    let end = now(clock);
+    Outcome::new(edits.len(), start, end, whole(rope))
 }
 
 fn apply(rope: &mut Rope, edits: &[Keystroke]) -> Result<(), Fault> {

@@ -3,7 +3,7 @@ use crate::changing::{Changing, change};
 use crate::comparing::{Comparing, compare};
 use crate::counting::{Counting, count};
 use crate::cursors::{Walk, go_over};
-use crate::editing::{Edit, edit_rope};
+use crate::editing::{Append, Edit, append_ropes, edit_rope};
 use crate::fault::Fault;
 use crate::keeping::{Keeping, keep};
 use crate::lookups::{LookUp, look_up};
@@ -25,6 +25,7 @@ pub enum Workload {
     Make(Making),
     Read(Reading),
     Edit(Edit),
+    Append(Append),
     Keep(Keeping),
     Change(Changing),
     LookUp(LookUp),
@@ -60,8 +61,8 @@ pub const OF_TEXTS: [Workload; 104] = [
     Workload::Edit(Edit::RemoveLong),
     Workload::Edit(Edit::SplitAndAppend),
     Workload::Edit(Edit::SplitAnywhere),
-    Workload::Edit(Edit::AppendSmall),
-    Workload::Edit(Edit::AppendSmallFromEmpty),
+    Workload::Append(Append::ToRope),
+    Workload::Append(Append::ToEmpty),
     Workload::Edit(Edit::TypeFromEmpty),
     Workload::Edit(Edit::ShrinkToFitLong),
     Workload::Keep(Keeping::CloneAndInsert),
@@ -195,6 +196,7 @@ impl Workload {
             Workload::Make(what) => what.name(),
             Workload::Read(what) => what.name(),
             Workload::Edit(what) => what.name(),
+            Workload::Append(what) => what.name(),
             Workload::Keep(what) => what.name(),
             Workload::Change(what) => what.name(),
             Workload::LookUp(what) => what.name(),
@@ -232,6 +234,7 @@ impl Workload {
             Workload::Make(what) => make(clock, sample, what),
             Workload::Read(what) => read(clock, sample, what),
             Workload::Edit(what) => edit_rope(clock, sample, what),
+            Workload::Append(what) => append_ropes(clock, sample, what),
             Workload::Keep(what) => keep(clock, sample, what),
             Workload::Change(what) => change(clock, sample, what),
             Workload::LookUp(what) => look_up(clock, sample, what),

@@ -1,29 +1,14 @@
 //! Each public call of changes once, against numbers by hand.
-use rope_changes::{ChangeError, ChangeSet, Edit, Edits, Side};
+use crate::makers::{apply, replacing, rope_of};
+use rope_changes::{ChangeError, ChangeSet, Edit, EditRange, Side};
 use ropey::Rope;
 use std::alloc::Global;
 use std::process::Abort;
-use std::test::Fail;
 
-fn rope_of(rt: &impl Abort, alloc: Global, text: &str) -> Rope {
-    Rope::from_str(alloc, text).expect(rt, "there is memory")
-}
-
-// Creates a change of a text of `len` characters.
-fn unchanged(rt: &impl Abort, alloc: Global, len: usize) -> ChangeSet {
-    ChangeSet::new(alloc, len).expect(rt, "the text fits")
-}
-
-// Replaces a range after the last one.
-fn replace(rt: &impl Abort, change: &mut ChangeSet, start: usize, end: usize, text: &str) {
-    change
-        .replace(start, end, text)
-        .expect(rt, "the range is in order");
-}
-
-// Applies a change to a rope of its length.
-fn apply(rt: &impl Abort, change: &ChangeSet, rope: &mut Rope) {
-    change.apply(rope).expect(rt, "there is memory");
+// Fails unless a change, applied to a rope of its length, gives this text.
+fn expect_applied(rt: &impl Abort, change: &ChangeSet, rope: &mut Rope, text: &str) {
+    apply(rt, change, rope);
+    assert!(rt; rope.eq_str(text));
 }
 
 // Moves an index of the text before a change.
@@ -32,167 +17,207 @@ fn moved(rt: &impl Abort, change: &ChangeSet, index: usize, side: Side) -> usize
     change.map(index, side)
 }
 
-// Fails unless the next replacement has these ranges and this text.
-fn expect_next(
-    rt: &impl Abort,
-    edits: &mut Edits<'_>,
-    range: (usize, usize),
-    new_range: (usize, usize),
-    text: &str,
-) {
-    let edit = edits.next().expect(rt, "a replacement is left");
-    assert_eq!(rt;
-        [edit.start, edit.end, edit.new_start, edit.new_end],
-        [range.0, range.1, new_range.0, new_range.1]
-    );
-    assert_eq!(rt; edit.text, text);
+// Fails unless these indices are moved to those beside them.
+fn expect_moved(rt: &impl Abort, change: &ChangeSet, rows: &[(usize, Side, usize)]) {
+    for (index, side, place) in rows {
+        assert_eq!(rt; moved(rt, change, *index, *side), *place);
+    }
 }
 
-#[test]
-fn a_change_is_built_mapped_applied_and_undone(rt: HostRuntime) -> Result<(), Fail> {
-    let mut rope = rope_of(&rt, rt.alloc(), "one two");
-    let mut change = unchanged(&rt, rt.alloc(), 7);
-    assert!(rt; change.is_empty());
-    replace(&rt, &mut change, 0, 3, "1");
-    replace(&rt, &mut change, 4, 4, "and ");
-    replace(&rt, &mut change, 4, 7, "2");
-    assert!(rt; !change.is_empty());
-    let places = [
-        moved(&rt, &change, 0, Side::Before),
-        moved(&rt, &change, 1, Side::Before),
-        moved(&rt, &change, 3, Side::Before),
-        moved(&rt, &change, 4, Side::Before),
-        moved(&rt, &change, 4, Side::After),
-    ];
-    assert_eq!(rt; [change.len_before(), change.len_after()], [7, 7]);
-    assert_eq!(rt; places, [0, 1, 1, 2, 7]);
-    let back = change.invert(&rope).expect(&rt, "there is memory");
-    apply(&rt, &change, &mut rope);
-    assert!(rt; rope.eq_str("1 and 2"));
-    apply(&rt, &back, &mut rope);
-    assert!(rt; rope.eq_str("one two"));
-    Ok(())
+// The number of replacements that are left, and of the next one the start and the end in the text
+// before and in the text after, and its text.
+type Row<'a> = (usize, [usize; 4], &'a str);
+
+// Fails unless a replacement has these ends and this text.
+fn expect_edit(rt: &impl Abort, edit: Option<EditRange<'_>>, ends: [usize; 4], text: &str) {
+    let edit = edit.expect(rt, "a replacement is left");
+    let found = [edit.start, edit.end, edit.new_start, edit.new_end];
+    assert_eq!(rt; found, ends);
+    assert!(rt; edit.text == text);
 }
 
-#[test]
-fn edits_have_their_ranges_in_both_texts(rt: HostRuntime) -> Result<(), Fail> {
-    let mut change = unchanged(&rt, rt.alloc(), 7);
-    replace(&rt, &mut change, 0, 3, "1");
-    replace(&rt, &mut change, 4, 4, "and ");
+// Fails unless a change has these replacements.
+fn expect_edits(rt: &impl Abort, change: &ChangeSet, rows: &[Row<'_>]) {
     let mut edits = change.edits();
-    let count = edits.len();
-    expect_next(&rt, &mut edits, (0, 3), (0, 1), "1");
-    let left = edits.len();
-    expect_next(&rt, &mut edits, (4, 4), (2, 6), "and ");
-    assert_eq!(rt; [count, left, edits.len()], [2, 1, 0]);
-    assert!(rt; edits.next().is_none());
-    Ok(())
+    for (left, ends, text) in rows {
+        assert!(rt; edits.len() == *left);
+        expect_edit(rt, edits.next(), *ends, text);
+    }
+    assert!(rt; edits.len() == 0 && edits.next().is_none());
+}
+
+// Fails unless a change gives this text, and its inverse the one before it.
+fn expect_undone(rt: &impl Abort, change: &ChangeSet, rope: &mut Rope, before: &str, after: &str) {
+    let back = change.invert(rope).expect(rt, "there is memory");
+    expect_applied(rt, change, rope, after);
+    expect_applied(rt, &back, rope, before);
+}
+
+// Indices, the side to which each moves, and those to which they are moved.
+const MOVED: [(usize, Side, usize); 5] = [
+    (0, Side::Before, 0),
+    (1, Side::Before, 1),
+    (3, Side::Before, 1),
+    (4, Side::Before, 2),
+    (4, Side::After, 7),
+];
+
+// Fails unless a change of seven characters has these lengths, and moves indices.
+fn expect_mapped(rt: &impl Abort, change: &ChangeSet) {
+    assert!(rt; !change.is_empty());
+    assert_eq!(rt; [change.len_before(), change.len_after()], [7, 7]);
+    expect_moved(rt, change, &MOVED);
 }
 
 #[test]
-fn errors_name_both_numbers(rt: HostRuntime) -> Result<(), Fail> {
-    let mut change = unchanged(&rt, rt.alloc(), 7);
-    replace(&rt, &mut change, 2, 5, "x");
-    let mut rope = rope_of(&rt, rt.alloc(), "one");
-    let refused = [
-        change.replace(6, 5, ""),
-        change.replace(6, 8, ""),
-        change.replace(4, 6, ""),
-        change.apply(&mut rope),
-    ];
-    assert_eq!(rt;
-        refused,
-        [
-            Err(ChangeError::RangeInvalid(6, 5)),
-            Err(ChangeError::RangeOutOfBounds(8, 7)),
-            Err(ChangeError::OutOfOrder(4, 5)),
-            Err(ChangeError::LengthDiffers(7, 3)),
-        ]
-    );
+fn a_change_is_built_mapped_applied_and_undone(rt: HostRuntime) {
+    let ranges = [(0, 3, "1"), (4, 4, "and "), (4, 7, "2")];
+    let change = replacing(&rt, rt.alloc(), 7, &ranges);
+    expect_mapped(&rt, &change);
+    let mut rope = rope_of(&rt, rt.alloc(), "one two");
+    expect_undone(&rt, &change, &mut rope, "one two", "1 and 2");
+}
+
+#[test]
+fn edits_have_their_ranges_in_both_texts(rt: HostRuntime) {
+    let change = replacing(&rt, rt.alloc(), 7, &[(0, 3, "1"), (4, 4, "and ")]);
+    let rows = [(2, [0, 3, 0, 1], "1"), (1, [4, 4, 2, 6], "and ")];
+    expect_edits(&rt, &change, &rows);
+}
+
+// Ranges that a change of seven characters refuses after one that ends at 5, with their errors.
+const REFUSED: [(usize, usize, ChangeError); 3] = [
+    (6, 5, ChangeError::RangeInvalid(6, 5)),
+    (6, 8, ChangeError::RangeOutOfBounds(8, 7)),
+    (4, 6, ChangeError::OutOfOrder(4, 5)),
+];
+
+fn expect_ranges_refused(rt: &impl Abort, change: &mut ChangeSet) {
+    for (start, end, error) in &REFUSED {
+        assert!(rt; change.replace(*start, *end, "") == Err(*error));
+    }
+}
+
+// Fails unless a change refuses a rope of another length, and leaves its text.
+fn expect_rope_refused(rt: &impl Abort, change: &ChangeSet, rope: &mut Rope, error: ChangeError) {
+    assert!(rt; change.apply(rope) == Err(error));
     assert!(rt; rope.eq_str("one"));
-    Ok(())
 }
 
 #[test]
-fn a_change_is_built_from_edits_and_moves_sorted_indices(rt: HostRuntime) -> Result<(), Fail> {
-    let edits = [
-        Edit {
-            start: 0,
-            end: 3,
-            text: "1",
-        },
-        Edit {
-            start: 4,
-            end: 4,
-            text: "and ",
-        },
-    ];
-    let change = ChangeSet::of_edits(rt.alloc(), 7, &edits).expect(&rt, "there is memory");
-    assert_eq!(rt; change.len_after(), 9);
+fn errors_name_both_numbers(rt: HostRuntime) {
+    let mut change = replacing(&rt, rt.alloc(), 7, &[(2, 5, "x")]);
+    expect_ranges_refused(&rt, &mut change);
+    let mut rope = rope_of(&rt, rt.alloc(), "one");
+    let error = ChangeError::LengthDiffers(7, 3);
+    expect_rope_refused(&rt, &change, &mut rope, error);
+}
+
+const FIRST: Edit<'static> = Edit {
+    start: 0,
+    end: 3,
+    text: "1",
+};
+
+const SECOND: Edit<'static> = Edit {
+    start: 4,
+    end: 4,
+    text: "and ",
+};
+
+// Fails unless ascending and descending indices of a text of seven characters are moved.
+fn expect_sorted_moved(rt: &impl Abort, change: &ChangeSet) {
+    assert!(rt; change.len_before() == 7);
     let mut ascending = [0, 2, 4, 4, 7];
     change.map_sorted(&mut ascending, Side::After);
-    assert_eq!(rt; ascending, [1, 1, 6, 6, 9]);
+    assert!(rt; ascending == [1, 1, 6, 6, 9]);
     let mut descending = [7, 4, 0];
     change.map_sorted(&mut descending, Side::Before);
-    assert_eq!(rt; descending, [9, 2, 0]);
-    let wrong = ChangeSet::of_edits(rt.alloc(), 6, &[edits[1], edits[0]]);
-    assert_eq!(rt; wrong.err(), Some(ChangeError::OutOfOrder(0, 4)));
-    Ok(())
+    assert!(rt; descending == [9, 2, 0]);
 }
 
 #[test]
-fn composed_changes_do_what_both_do(rt: HostRuntime) -> Result<(), Fail> {
+fn a_change_is_built_from_edits_and_moves_sorted_indices(rt: HostRuntime) {
+    let change = ChangeSet::of_edits(rt.alloc(), 7, &[FIRST, SECOND]).expect(&rt, "they fit");
+    assert!(rt; change.len_after() == 9);
+    expect_sorted_moved(&rt, &change);
+}
+
+#[test]
+fn edits_out_of_order_are_refused(rt: HostRuntime) {
+    let wrong = ChangeSet::of_edits(rt.alloc(), 6, &[SECOND, FIRST]);
+    assert!(rt; wrong.err() == Some(ChangeError::OutOfOrder(0, 4)));
+}
+
+// The replacements of two changes in one.
+const COMPOSED: [Row<'static>; 2] = [(2, [0, 3, 0, 2], "1 "), (1, [4, 7, 3, 5], "2!")];
+
+// Fails unless two changes, the second of five characters, do together what each does in turn.
+fn expect_composed(rt: &impl Abort, first: &ChangeSet, later: &ChangeSet, rope: &mut Rope) {
+    let both = first.compose(later).expect(rt, "there is memory");
+    expect_edits(rt, &both, &COMPOSED);
+    expect_applied(rt, &both, rope, "1  2!");
+}
+
+// Fails unless two changes can't be composed.
+fn expect_not_composed(rt: &impl Abort, first: &ChangeSet, later: &ChangeSet, error: ChangeError) {
+    let wrong = first.compose(later);
+    assert!(rt; wrong.err() == Some(error));
+}
+
+#[test]
+fn composed_changes_do_what_both_do(rt: HostRuntime) {
+    let first = replacing(&rt, rt.alloc(), 7, &[(0, 3, "1, "), (4, 7, "2")]);
+    let later = replacing(&rt, rt.alloc(), 5, &[(1, 2, ""), (5, 5, "!")]);
     let mut rope = rope_of(&rt, rt.alloc(), "one two");
-    let mut first = unchanged(&rt, rt.alloc(), 7);
-    replace(&rt, &mut first, 0, 3, "1, ");
-    replace(&rt, &mut first, 4, 7, "2");
-    let mut later = unchanged(&rt, rt.alloc(), 5);
-    replace(&rt, &mut later, 1, 2, "");
-    replace(&rt, &mut later, 5, 5, "!");
-    let both = first.compose(&later).expect(&rt, "there is memory");
-    let mut edits = both.edits();
-    expect_next(&rt, &mut edits, (0, 3), (0, 2), "1 ");
-    expect_next(&rt, &mut edits, (4, 7), (3, 5), "2!");
-    assert!(rt; edits.next().is_none());
-    apply(&rt, &both, &mut rope);
-    assert!(rt; rope.eq_str("1  2!"));
-    let wrong = later.compose(&first);
-    assert_eq!(rt; wrong.err(), Some(ChangeError::LengthDiffers(7, 5)));
-    Ok(())
+    expect_composed(&rt, &first, &later, &mut rope);
+    let error = ChangeError::LengthDiffers(7, 5);
+    expect_not_composed(&rt, &later, &first, error);
 }
 
-// Applies a change, carried over another one, to the text after that one.
-fn apply_over(rt: &impl Abort, change: &ChangeSet, over: &ChangeSet, side: Side, rope: &mut Rope) {
+// Fails unless a change, carried over another one, gives this text after that one.
+fn expect_rebased(
+    rt: &impl Abort,
+    change: &ChangeSet,
+    (over, side): (&ChangeSet, Side),
+    rope: &mut Rope,
+    text: &str,
+) {
     let rebased = change.rebase(over, side).expect(rt, "there is memory");
-    apply(rt, &rebased, rope);
+    expect_applied(rt, &rebased, rope, text);
+}
+
+fn expect_converging(rt: &impl Abort, alloc: Global, one: &ChangeSet, other: &ChangeSet) {
+    let mut left = rope_of(rt, alloc, "abcd");
+    expect_applied(rt, one, &mut left, "axb");
+    expect_rebased(rt, other, (one, Side::After), &mut left, "axybz");
+    let mut right = rope_of(rt, alloc, "abcd");
+    expect_applied(rt, other, &mut right, "aybczd");
+    expect_rebased(rt, one, (other, Side::Before), &mut right, "axybz");
 }
 
 #[test]
-fn rebased_changes_lead_to_one_text(rt: HostRuntime) -> Result<(), Fail> {
-    let mut one = unchanged(&rt, rt.alloc(), 4);
-    replace(&rt, &mut one, 1, 1, "x");
-    replace(&rt, &mut one, 2, 4, "");
-    let mut other = unchanged(&rt, rt.alloc(), 4);
-    replace(&rt, &mut other, 1, 1, "y");
-    replace(&rt, &mut other, 3, 3, "z");
-    let mut left = rope_of(&rt, rt.alloc(), "abcd");
-    apply(&rt, &one, &mut left);
-    assert!(rt; left.eq_str("axb"));
-    apply_over(&rt, &other, &one, Side::After, &mut left);
-    assert!(rt; left.eq_str("axybz"));
-    let mut right = rope_of(&rt, rt.alloc(), "abcd");
-    apply(&rt, &other, &mut right);
-    assert!(rt; right.eq_str("aybczd"));
-    apply_over(&rt, &one, &other, Side::Before, &mut right);
-    assert!(rt; right.eq_str("axybz"));
-    let short = unchanged(&rt, rt.alloc(), 3);
-    let wrong = one.rebase(&short, Side::Before);
-    assert_eq!(rt; wrong.err(), Some(ChangeError::LengthDiffers(4, 3)));
-    Ok(())
+fn rebased_changes_lead_to_one_text(rt: HostRuntime) {
+    let one = replacing(&rt, rt.alloc(), 4, &[(1, 1, "x"), (2, 4, "")]);
+    let other = replacing(&rt, rt.alloc(), 4, &[(1, 1, "y"), (3, 3, "z")]);
+    expect_converging(&rt, rt.alloc(), &one, &other);
+}
+
+// Fails unless a change can't be carried over one of another length.
+fn expect_not_rebased(rt: &impl Abort, change: &ChangeSet, over: &ChangeSet, error: ChangeError) {
+    let wrong = change.rebase(over, Side::Before);
+    assert!(rt; wrong.err() == Some(error));
 }
 
 #[test]
-fn errors_print_both_numbers(rt: HostRuntime) -> Result<(), Fail> {
+fn a_change_is_not_rebased_over_one_of_another_length(rt: HostRuntime) {
+    let change = replacing(&rt, rt.alloc(), 4, &[(1, 1, "x"), (2, 4, "")]);
+    let short = replacing(&rt, rt.alloc(), 3, &[]);
+    expect_not_rebased(&rt, &change, &short, ChangeError::LengthDiffers(4, 3));
+}
+
+#[test]
+fn errors_print_both_numbers(rt: HostRuntime) {
     let text = format!(in rt.alloc(); "{}", ChangeError::LengthDiffers(7, 3)).expect(
         &rt,
         "there is memory",
@@ -201,5 +226,4 @@ fn errors_print_both_numbers(rt: HostRuntime) -> Result<(), Fail> {
         text.as_str(),
         "Text length differs: char length 3, the change is for 7"
     );
-    Ok(())
 }

@@ -1,10 +1,11 @@
 //! Files of literal bytes, read by readers that give them in pieces, and written back.
+use crate::makers::rope_of;
 use rope_files::{Encoding, ReadAnyError, ReadAnyResult, WriteAsError, read_any, write_as};
+use rope_plain::texts::repeated;
 use ropey::{LineBreaks, Rope};
 use std::alloc::Global;
 use std::io::{self, ErrorKind, Read};
 use std::process::Abort;
-use std::test::Fail;
 
 const ENCODINGS: [Encoding; 7] = [
     Encoding::Utf8,
@@ -58,24 +59,32 @@ fn read(
     read_any(alloc, in_parts(bytes, most), LineBreaks::Unicode, declared)
 }
 
+/// The maximum numbers of bytes of a piece.
+const SIZES: [usize; 5] = [1, 2, 3, 5, 4096];
+
+/// Bytes, the declared encoding, the text, and the encoding found.
+type Kept<'a> = (&'a [u8], Option<Encoding>, &'a str, Encoding);
+
+/// Checks that a rope is written as these bytes.
+fn expect_written(rt: &impl Abort, alloc: Global, rope: &Rope, encoding: Encoding, bytes: &[u8]) {
+    let mut written = Vec::new(alloc);
+    write_as(rope, encoding, &mut written).expect(rt, "the text is written");
+    assert!(rt; written.as_slice() == bytes);
+}
+
+/// Checks that the bytes are read as this text, in pieces of a size, and written back.
+fn expect_kept_in_pieces(rt: &impl Abort, alloc: Global, row: Kept<'_>, most: usize) {
+    let (bytes, declared, text, encoding) = row;
+    let (rope, found) = read(alloc, bytes, most, declared).expect(rt, "the bytes are a text");
+    assert!(rt; found == encoding && rope.eq_str(text));
+    expect_written(rt, alloc, &rope, found, bytes);
+}
+
 /// Checks that the bytes are read as this text, in pieces of several sizes, and written back.
-fn expect_kept(
-    rt: &impl Abort,
-    alloc: Global,
-    bytes: &[u8],
-    declared: Option<Encoding>,
-    text: &str,
-    encoding: Encoding,
-) -> Result<(), Fail> {
-    for most in [1, 2, 3, 5, 4096] {
-        let (rope, found) = read(alloc, bytes, most, declared).expect(rt, "the bytes are a text");
-        assert!(rt; found == encoding);
-        assert!(rt; rope.eq_str(text));
-        let mut written = Vec::new(alloc);
-        write_as(&rope, found, &mut written).expect(rt, "the text is written");
-        assert!(rt; written.as_slice() == bytes);
+fn expect_kept(rt: &impl Abort, alloc: Global, row: Kept<'_>) {
+    for most in &SIZES {
+        expect_kept_in_pieces(rt, alloc, row, *most);
     }
-    Ok(())
 }
 
 /// A number for each error and its offset.
@@ -98,23 +107,17 @@ fn expect_refused(
     bytes: &[u8],
     declared: Option<Encoding>,
     error: (u8, u64),
-) -> Result<(), Fail> {
-    for most in [1, 2, 3, 5, 4096] {
-        let (kind, at) = code(read(alloc, bytes, most, declared));
-        assert!(rt; kind == error.0);
-        assert!(rt; at == error.1);
+) {
+    for most in &SIZES {
+        let found = code(read(alloc, bytes, *most, declared));
+        assert!(rt; found == error);
     }
-    Ok(())
 }
 
-/// Bytes, the declared encoding, the text, and the encoding found.
-type Kept<'a> = (&'a [u8], Option<Encoding>, &'a str, Encoding);
-
-fn expect_all_kept(rt: &impl Abort, alloc: Global, rows: &[Kept<'_>]) -> Result<(), Fail> {
-    for (bytes, declared, text, encoding) in rows {
-        expect_kept(rt, alloc, bytes, *declared, text, *encoding)?;
+fn expect_all_kept(rt: &impl Abort, alloc: Global, rows: &[Kept<'_>]) {
+    for row in rows {
+        expect_kept(rt, alloc, *row);
     }
-    Ok(())
 }
 
 /// Files whose mark, or its absence, says the encoding. A pair goes over the ends of reads.
@@ -177,9 +180,9 @@ const DECLARED: [Kept<'static>; 5] = [
 ];
 
 #[test]
-fn a_mark_or_a_declaration_says_the_encoding(rt: HostRuntime) -> Result<(), Fail> {
-    expect_all_kept(&rt, rt.alloc(), &MARKED)?;
-    expect_all_kept(&rt, rt.alloc(), &DECLARED)
+fn a_mark_or_a_declaration_says_the_encoding(rt: HostRuntime) {
+    expect_all_kept(&rt, rt.alloc(), &MARKED);
+    expect_all_kept(&rt, rt.alloc(), &DECLARED);
 }
 
 /// Bytes that are refused, the declared encoding, and the error.
@@ -200,60 +203,86 @@ const REFUSED: [(&[u8], Option<Encoding>, (u8, u64)); 13] = [
 ];
 
 #[test]
-fn invalid_text_is_refused_at_its_offset(rt: HostRuntime) -> Result<(), Fail> {
+fn invalid_text_is_refused_at_its_offset(rt: HostRuntime) {
     for (bytes, declared, error) in &REFUSED {
-        expect_refused(&rt, rt.alloc(), bytes, *declared, *error)?;
+        expect_refused(&rt, rt.alloc(), bytes, *declared, *error);
     }
-    Ok(())
 }
 
-#[test]
-fn latin1_has_all_bytes(rt: HostRuntime) -> Result<(), Fail> {
-    let alloc = rt.alloc();
+/// Returns all bytes in order.
+fn all_bytes(rt: &impl Abort, alloc: Global) -> Vec<u8> {
     let mut bytes = Vec::new(alloc);
+    for byte in 0..=255u8 {
+        bytes.push(byte).expect(rt, "there is memory");
+    }
+    bytes
+}
+
+/// Returns the first 256 characters in order.
+fn all_of_latin1(rt: &impl Abort, alloc: Global) -> String {
     let mut text = String::new(alloc);
     for byte in 0..=255u8 {
-        bytes.push(byte)?;
-        text.push(char::from(byte))?;
+        text.push(char::from(byte)).expect(rt, "there is memory");
     }
-    let latin1 = Some(Encoding::Latin1);
-    expect_kept(&rt, alloc, &bytes, latin1, &text, Encoding::Latin1)?;
-    let rope = Rope::from_str(alloc, "\u{FF}\u{100}").expect(&rt, "there is memory");
+    text
+}
+
+/// Checks that the first character that Latin-1 lacks is reported, and nothing is written.
+fn expect_unencodable(rt: &impl Abort, alloc: Global, rope: &Rope) {
     let mut written = Vec::new(alloc);
-    match write_as(&rope, Encoding::Latin1, &mut written) {
-        Err(WriteAsError::Unencodable(1)) => assert!(rt; written.is_empty()),
-        _ => assert!(rt; false),
-    }
-    Ok(())
+    let outcome = write_as(rope, Encoding::Latin1, &mut written);
+    assert!(rt; matches!(outcome, Err(WriteAsError::Unencodable(1))));
+    assert!(rt; written.is_empty());
 }
 
 #[test]
-fn long_texts_are_kept_in_each_encoding(rt: HostRuntime) -> Result<(), Fail> {
-    let alloc = rt.alloc();
-    let mut text = String::new(alloc);
-    for _ in 0..3000 {
-        text.push_str("a\u{E9}\r\n")?;
-    }
-    let rope = Rope::from_str(alloc, &text).expect(&rt, "there is memory");
-    for encoding in ENCODINGS {
-        let mut written = Vec::new(alloc);
-        write_as(&rope, encoding, &mut written).expect(&rt, "the text is written");
-        expect_kept(&rt, alloc, &written, Some(encoding), &text, encoding)?;
-    }
-    Ok(())
+fn latin1_has_all_bytes(rt: HostRuntime) {
+    let bytes = all_bytes(&rt, rt.alloc());
+    let text = all_of_latin1(&rt, rt.alloc());
+    let latin1 = Encoding::Latin1;
+    expect_kept(&rt, rt.alloc(), (&bytes, Some(latin1), &text, latin1));
 }
 
 #[test]
-fn a_failed_read_is_returned(rt: HostRuntime) -> Result<(), Fail> {
-    let alloc = rt.alloc();
+fn latin1_lacks_other_characters(rt: HostRuntime) {
+    let rope = rope_of(&rt, rt.alloc(), "\u{FF}\u{100}");
+    expect_unencodable(&rt, rt.alloc(), &rope);
+}
+
+/// Checks that a text is kept in an encoding.
+fn expect_kept_in(rt: &impl Abort, alloc: Global, rope: &Rope, text: &str, encoding: Encoding) {
+    let mut written = Vec::new(alloc);
+    write_as(rope, encoding, &mut written).expect(rt, "the text is written");
+    expect_kept(rt, alloc, (&written, Some(encoding), text, encoding));
+}
+
+fn expect_kept_in_each(rt: &impl Abort, alloc: Global, text: &str) {
+    let rope = rope_of(rt, alloc, text);
+    for encoding in &ENCODINGS {
+        expect_kept_in(rt, alloc, &rope, text, *encoding);
+    }
+}
+
+#[test]
+fn long_texts_are_kept_in_each_encoding(rt: HostRuntime) {
+    let text = repeated(rt.alloc(), "a\u{E9}\r\n", 3000).expect(&rt, "there is memory");
+    expect_kept_in_each(&rt, rt.alloc(), text.as_str());
+}
+
+/// Checks that a read that fails after some bytes returns the reader's error.
+fn expect_failed(rt: &impl Abort, alloc: Global, left: usize) {
+    let reader = Parts {
+        rest: b"\xFF\xFEa\0\x3D\xD8\x00\xDE",
+        most: 2,
+        fails_at: Some(left),
+    };
+    let result = read_any(alloc, reader, LineBreaks::Unicode, None);
+    assert!(rt; code(result).0 == 1);
+}
+
+#[test]
+fn a_failed_read_is_returned(rt: HostRuntime) {
     for left in 0..6 {
-        let reader = Parts {
-            rest: b"\xFF\xFEa\0\x3D\xD8\x00\xDE",
-            most: 2,
-            fails_at: Some(left),
-        };
-        let result = read_any(alloc, reader, LineBreaks::Unicode, None);
-        assert!(rt; code(result).0 == 1);
+        expect_failed(&rt, rt.alloc(), left);
     }
-    Ok(())
 }

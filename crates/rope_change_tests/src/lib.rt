@@ -23,6 +23,8 @@ mod files;
 #[cfg(test)]
 mod history;
 #[cfg(test)]
+mod makers;
+#[cfg(test)]
 mod marks;
 #[cfg(test)]
 mod versions;

@@ -7,6 +7,7 @@ use rope_plain::sums::{minus, plus};
 use rope_plain::texts::repeated;
 use rope_plain::{holds, same};
 use std::alloc::{AllocError, Global};
+use std::process::Abort;
 
 /// The number of steps from one seed.
 const STEPS: usize = 150;
@@ -129,15 +130,20 @@ fn random_cuts(numbers: &mut Numbers, len: usize) -> [Cut; 3] {
     cuts
 }
 
-fn change_of(alloc: Global, len: usize, cuts: &[Cut]) -> Result<ChangeSet, Failure> {
-    let mut change = ChangeSet::new(alloc, len).map_err(refused)?;
+/// Replaces a range by a text of its length.
+fn replace(rt: &impl Abort, alloc: Global, change: &mut ChangeSet, cut: Cut) {
+    let text = repeated(alloc, "é", cut.new).expect(rt, "there is memory");
+    change
+        .replace(cut.start, cut.end, text.as_str())
+        .expect(rt, "the range is in order");
+}
+
+fn change_of(rt: &impl Abort, alloc: Global, len: usize, cuts: &[Cut]) -> ChangeSet {
+    let mut change = ChangeSet::new(alloc, len).expect(rt, "the text fits");
     for cut in cuts {
-        let text = repeated(alloc, "é", cut.new)?;
-        change
-            .replace(cut.start, cut.end, text.as_str())
-            .map_err(refused)?;
+        replace(rt, alloc, &mut change, *cut);
     }
-    Ok(change)
+    change
 }
 
 /// Adds a random mark to both.
@@ -184,8 +190,24 @@ fn expect_within(marks: &Marks, plain: &Plain, start: usize, end: usize) -> Resu
     Ok(())
 }
 
+/// Moves the marks of both by random cuts.
+fn apply(
+    rt: &impl Abort,
+    alloc: Global,
+    numbers: &mut Numbers,
+    marks: &mut Marks,
+    plain: &mut Plain,
+) -> Step {
+    let cuts = random_cuts(numbers, plain.len);
+    let change = change_of(rt, alloc, plain.len, &cuts);
+    marks.apply(&change).expect(rt, "the lengths agree");
+    plain.apply(&cuts);
+    Step::Change(cuts)
+}
+
 /// Makes a random step with both.
 fn take_step(
+    rt: &impl Abort,
     alloc: Global,
     numbers: &mut Numbers,
     marks: &mut Marks,
@@ -198,13 +220,7 @@ fn take_step(
             same!(marks.remove(id), plain.remove(id));
             Ok(Step::Remove(id))
         }
-        4..=6 => {
-            let cuts = random_cuts(numbers, plain.len);
-            let change = change_of(alloc, plain.len, &cuts)?;
-            marks.apply(&change).map_err(refused)?;
-            plain.apply(&cuts);
-            Ok(Step::Change(cuts))
-        }
+        4..=6 => Ok(apply(rt, alloc, numbers, marks, plain)),
         _ => {
             let start = numbers.up_to(plain.len);
             let end = plus(start, numbers.up_to(20));
@@ -227,7 +243,35 @@ fn expect_marks(marks: &Marks, plain: &Plain) -> Result<(), Failure> {
     Ok(())
 }
 
-fn expect_steps(alloc: Global, seed: u64) -> Result<(), Failure> {
+/// Fails unless the marks are the plain ones after a random step.
+fn expect_step(
+    rt: &impl Abort,
+    alloc: Global,
+    numbers: &mut Numbers,
+    marks: &mut Marks,
+    plain: &mut Plain,
+) -> Result<(), Failure> {
+    let done = take_step(rt, alloc, numbers, marks, plain)?;
+    within(format_args!("{done:?}"), expect_marks(marks, plain))
+}
+
+fn expect_steps_of(
+    rt: &impl Abort,
+    alloc: Global,
+    numbers: &mut Numbers,
+    marks: &mut Marks,
+    plain: &mut Plain,
+) -> Result<(), Failure> {
+    for k in 0..STEPS {
+        within(
+            format_args!("step {k}"),
+            expect_step(rt, alloc, numbers, marks, plain),
+        )?;
+    }
+    Ok(())
+}
+
+fn expect_steps(rt: &impl Abort, alloc: Global, seed: u64) -> Result<(), Failure> {
     let mut numbers = Numbers::new(seed);
     let len = numbers.up_to(60);
     let mut marks = Marks::new(alloc, len);
@@ -236,23 +280,16 @@ fn expect_steps(alloc: Global, seed: u64) -> Result<(), Failure> {
         next_id: 0,
         len,
     };
-    for k in 0..STEPS {
-        let done = match take_step(alloc, &mut numbers, &mut marks, &mut plain) {
-            Ok(done) => done,
-            Err(failure) => return Err(failure.within(format_args!("step {k}"))),
-        };
-        within(
-            format_args!("step {k}, {done:?}"),
-            expect_marks(&marks, &plain),
-        )?;
-    }
-    Ok(())
+    expect_steps_of(rt, alloc, &mut numbers, &mut marks, &mut plain)
 }
 
 #[test]
 fn random_marks_are_those_of_a_plain_list(rt: HostRuntime) -> Result<(), Failure> {
     for seed in 1..=6 {
-        within(format_args!("seed {seed}"), expect_steps(rt.alloc(), seed))?;
+        within(
+            format_args!("seed {seed}"),
+            expect_steps(&rt, rt.alloc(), seed),
+        )?;
     }
     Ok(())
 }

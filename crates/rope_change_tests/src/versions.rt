@@ -1,4 +1,5 @@
 //! Random versions of a text, against a plain tree of texts.
+use crate::makers::rope_of;
 use rope_changes::{ChangeError, ChangeSet};
 use rope_history::History;
 use rope_plain::failure::{Failure, within};
@@ -7,7 +8,8 @@ use rope_plain::sums::{minus, plus};
 use rope_plain::texts::{chars_of, expect_chars, random_text};
 use rope_plain::{holds, same, some};
 use ropey::Rope;
-use std::alloc::{AllocError, Global};
+use std::alloc::Global;
+use std::process::Abort;
 
 /// The number of steps from one seed.
 const STEPS: usize = 150;
@@ -35,12 +37,20 @@ fn refused(error: ChangeError) -> Failure {
 }
 
 impl Tree {
-    fn add(&mut self, parent: Option<usize>, text: Vec<char>) -> Result<(), AllocError> {
+    fn new(alloc: Global) -> Tree {
+        Tree {
+            texts: Vec::new(alloc),
+            parents: Vec::new(alloc),
+            redo: Vec::new(alloc),
+            current: 0,
+        }
+    }
+
+    fn add(&mut self, rt: &impl Abort, parent: Option<usize>, text: Vec<char>) {
         self.current = self.texts.len();
-        self.texts.push(text)?;
-        self.parents.push(parent)?;
-        self.redo.push(None)?;
-        Ok(())
+        self.texts.push(text).expect(rt, "there is memory");
+        self.parents.push(parent).expect(rt, "there is memory");
+        self.redo.push(None).expect(rt, "there is memory");
     }
 
     fn text(&self) -> &[char] {
@@ -106,38 +116,106 @@ impl Tree {
 }
 
 /// Copies the characters from `start` up to `end`.
-fn copy(to: &mut Vec<char>, text: &[char], start: usize, end: usize) -> Result<(), AllocError> {
+fn copy(rt: &impl Abort, to: &mut Vec<char>, text: &[char], start: usize, end: usize) {
     if let Some(kept) = text.get(start..end) {
-        to.extend_from_slice(kept)?;
+        to.extend_from_slice(kept).expect(rt, "there is memory");
     }
-    Ok(())
+}
+
+/// Replaces a range by a text, in a change and at the end of a list.
+fn replace(
+    rt: &impl Abort,
+    change: &mut ChangeSet,
+    after: &mut Vec<char>,
+    (start, end): (usize, usize),
+    text: &str,
+) {
+    change
+        .replace(start, end, text)
+        .expect(rt, "the range is in order");
+    for c in text.chars() {
+        after.push(c).expect(rt, "there is memory");
+    }
+}
+
+/// Replaces a range that starts at most nine characters after `at`, and returns its end. Copies the
+/// characters before it.
+fn replace_after(
+    rt: &impl Abort,
+    alloc: Global,
+    numbers: &mut Numbers,
+    text: &[char],
+    at: usize,
+    change: &mut ChangeSet,
+    after: &mut Vec<char>,
+) -> usize {
+    let most = if text.len() > 60 { 20 } else { 3 };
+    let start = plus(at, numbers.up_to(9)).min(text.len());
+    let end = plus(start, numbers.up_to(most)).min(text.len());
+    let new = random_text(alloc, numbers, 9).expect(rt, "there is memory");
+    copy(rt, after, text, at, start);
+    replace(rt, change, after, (start, end), new.as_str());
+    end
 }
 
 /// Returns a change of up to three ranges of a text, and the text after it.
 fn random_change(
+    rt: &impl Abort,
     alloc: Global,
     numbers: &mut Numbers,
     text: &[char],
-) -> Result<(ChangeSet, Vec<char>), Failure> {
-    let mut change = ChangeSet::new(alloc, text.len()).map_err(refused)?;
+) -> (ChangeSet, Vec<char>) {
+    let mut change = ChangeSet::new(alloc, text.len()).expect(rt, "the text fits");
     let mut after = Vec::new(alloc);
-    let mut at: usize = 0;
-    let most = if text.len() > 60 { 20 } else { 3 };
+    let mut at = 0;
     for _ in 0..3 {
-        let start = plus(at, numbers.up_to(9)).min(text.len());
-        let end = plus(start, numbers.up_to(most)).min(text.len());
-        let new = random_text(alloc, numbers, 9)?;
-        change.replace(start, end, new.as_str()).map_err(refused)?;
-        copy(&mut after, text, at, start)?;
-        after.extend_from_slice(chars_of(alloc, new.as_str())?.as_slice())?;
-        at = end;
+        at = replace_after(rt, alloc, numbers, text, at, &mut change, &mut after);
     }
-    copy(&mut after, text, at, text.len())?;
-    Ok((change, after))
+    copy(rt, &mut after, text, at, text.len());
+    (change, after)
+}
+
+/// Commits a random change to the history and to the tree.
+fn commit(
+    rt: &impl Abort,
+    alloc: Global,
+    numbers: &mut Numbers,
+    rope: &mut Rope,
+    history: &mut History,
+    tree: &mut Tree,
+) {
+    let (change, after) = random_change(rt, alloc, numbers, tree.text());
+    history.commit(rope, change).expect(rt, "there is memory");
+    tree.add(rt, Some(tree.current), after);
+}
+
+fn undo(rope: &mut Rope, history: &mut History, tree: &mut Tree) -> Result<Step, Failure> {
+    let left = history.undo(rope).map_err(refused)?;
+    same!(left, tree.undo());
+    Ok(Step::Undo(left))
+}
+
+fn redo(rope: &mut Rope, history: &mut History, tree: &mut Tree) -> Result<Step, Failure> {
+    let child = history.redo(rope).map_err(refused)?;
+    same!(child, tree.redo());
+    Ok(Step::Redo(child))
+}
+
+fn go_to(
+    version: usize,
+    rope: &mut Rope,
+    history: &mut History,
+    tree: &mut Tree,
+) -> Result<Step, Failure> {
+    holds!(version < history.len_versions());
+    history.go_to(rope, version).map_err(refused)?;
+    tree.go_to(version);
+    Ok(Step::GoTo(version))
 }
 
 /// Makes a random step with the history and with the tree.
 fn take_step(
+    rt: &impl Abort,
     alloc: Global,
     numbers: &mut Numbers,
     rope: &mut Rope,
@@ -146,40 +224,26 @@ fn take_step(
 ) -> Result<Step, Failure> {
     match numbers.take() % 8 {
         0..=2 => {
-            let (change, after) = random_change(alloc, numbers, tree.text())?;
-            history.commit(rope, change).map_err(refused)?;
-            tree.add(Some(tree.current), after)?;
+            commit(rt, alloc, numbers, rope, history, tree);
             Ok(Step::Commit)
         }
-        3..=4 => {
-            let left = history.undo(rope).map_err(refused)?;
-            same!(left, tree.undo());
-            Ok(Step::Undo(left))
-        }
-        5 => {
-            let child = history.redo(rope).map_err(refused)?;
-            same!(child, tree.redo());
-            Ok(Step::Redo(child))
-        }
+        3..=4 => undo(rope, history, tree),
+        5 => redo(rope, history, tree),
         _ => {
             let version = numbers.up_to(minus(tree.texts.len(), 1));
-            holds!(version < history.len_versions());
-            history.go_to(rope, version).map_err(refused)?;
-            tree.go_to(version);
-            Ok(Step::GoTo(version))
+            go_to(version, rope, history, tree)
         }
     }
 }
 
-/// Fails unless the rope has the current version's text, and the history equals the tree.
-fn expect_current(
-    alloc: Global,
-    rope: &Rope,
-    history: &History,
-    tree: &Tree,
-) -> Result<(), Failure> {
-    let text = rope.try_to_string(alloc)?;
-    expect_chars(text.as_str(), tree.text())?;
+/// Fails unless the rope has the current version's text.
+fn expect_text(rt: &impl Abort, alloc: Global, rope: &Rope, tree: &Tree) -> Result<(), Failure> {
+    let text = rope.try_to_string(alloc).expect(rt, "there is memory");
+    expect_chars(text.as_str(), tree.text())
+}
+
+/// Fails unless the history equals the tree.
+fn expect_current(history: &History, tree: &Tree) -> Result<(), Failure> {
     same!(history.current(), tree.current);
     same!(history.len_chars(), tree.text().len());
     same!(history.len_versions(), tree.texts.len());
@@ -190,36 +254,65 @@ fn expect_current(
     Ok(())
 }
 
-fn expect_steps(alloc: Global, seed: u64) -> Result<(), Failure> {
-    let mut numbers = Numbers::new(seed);
-    let text = random_text(alloc, &mut numbers, 40)?;
-    let mut rope = Rope::from_str(alloc, text.as_str())?;
-    let mut tree = Tree {
-        texts: Vec::new(alloc),
-        parents: Vec::new(alloc),
-        redo: Vec::new(alloc),
-        current: 0,
-    };
-    tree.add(None, chars_of(alloc, text.as_str())?)?;
-    let mut history = History::new(alloc, rope.len_chars()).map_err(refused)?;
+/// Fails unless a random step leads to the text and the version of the tree.
+fn expect_step(
+    rt: &impl Abort,
+    alloc: Global,
+    numbers: &mut Numbers,
+    rope: &mut Rope,
+    history: &mut History,
+    tree: &mut Tree,
+) -> Result<(), Failure> {
+    let done = take_step(rt, alloc, numbers, rope, history, tree)?;
+    within(format_args!("{done:?}"), expect_text(rt, alloc, rope, tree))?;
+    within(format_args!("{done:?}"), expect_current(history, tree))
+}
+
+fn expect_steps_of(
+    rt: &impl Abort,
+    alloc: Global,
+    numbers: &mut Numbers,
+    rope: &mut Rope,
+    history: &mut History,
+    tree: &mut Tree,
+) -> Result<(), Failure> {
     for k in 0..STEPS {
-        let done = take_step(alloc, &mut numbers, &mut rope, &mut history, &mut tree);
-        let done = match done {
-            Ok(done) => done,
-            Err(failure) => return Err(failure.within(format_args!("step {k}"))),
-        };
         within(
-            format_args!("step {k}, {done:?}"),
-            expect_current(alloc, &rope, &history, &tree),
+            format_args!("step {k}"),
+            expect_step(rt, alloc, numbers, rope, history, tree),
         )?;
     }
     Ok(())
 }
 
+/// Fails unless the steps from a text lead to the texts and the versions of a tree.
+fn expect_steps_from(
+    rt: &impl Abort,
+    alloc: Global,
+    numbers: &mut Numbers,
+    text: &str,
+) -> Result<(), Failure> {
+    let mut rope = rope_of(rt, alloc, text);
+    let mut history = History::new(alloc, rope.len_chars()).expect(rt, "there is memory");
+    let mut tree = Tree::new(alloc);
+    let chars = chars_of(alloc, text).expect(rt, "there is memory");
+    tree.add(rt, None, chars);
+    expect_steps_of(rt, alloc, numbers, &mut rope, &mut history, &mut tree)
+}
+
+fn expect_steps(rt: &impl Abort, alloc: Global, seed: u64) -> Result<(), Failure> {
+    let mut numbers = Numbers::new(seed);
+    let text = random_text(alloc, &mut numbers, 40).expect(rt, "there is memory");
+    expect_steps_from(rt, alloc, &mut numbers, text.as_str())
+}
+
 #[test]
 fn random_versions_are_those_of_a_plain_tree(rt: HostRuntime) -> Result<(), Failure> {
     for seed in 1..=4 {
-        within(format_args!("seed {seed}"), expect_steps(rt.alloc(), seed))?;
+        within(
+            format_args!("seed {seed}"),
+            expect_steps(&rt, rt.alloc(), seed),
+        )?;
     }
     Ok(())
 }

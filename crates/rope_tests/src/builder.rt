@@ -1,5 +1,4 @@
 //! Ropes that a builder makes of pieces, against rows worked by hand and plain lists of characters.
-use crate::ropes::with_made;
 use rope_plain::compare::{SETS, expect_few_chunks, expect_plain, lens};
 use rope_plain::failure::{Failure, within};
 use rope_plain::numbers::Numbers;
@@ -7,6 +6,7 @@ use rope_plain::same;
 use rope_plain::texts::random_text;
 use ropey::{LineBreaks, Rope, RopeBuilder};
 use std::alloc::Global;
+use std::process::Abort;
 
 /// A builder, and the list of characters passed to it.
 #[derive(Drop)]
@@ -17,22 +17,27 @@ struct Pair {
 }
 
 impl Pair {
-    /// Passes a piece to both.
-    fn append(&mut self, text: &str) -> Result<(), Failure> {
-        for c in text.chars() {
-            self.plain.push(c)?;
+    fn new(rt: &impl Abort, alloc: Global, breaks: LineBreaks) -> Pair {
+        let builder = RopeBuilder::new_with(alloc, breaks).expect(rt, "there is memory");
+        Pair {
+            builder,
+            plain: Vec::new(alloc),
+            breaks,
         }
-        self.builder.append(text)?;
-        Ok(())
     }
 
-    /// Fails unless the rope has the text in few chunks, and is right.
-    fn with_built<F: FnOnce(&Rope) -> Result<(), Failure>>(self, ask: F) -> Result<(), Failure>
-        requires { F.IsAlwaysCallable ask }
-    {
-        let rope = self.builder.finish()?;
-        expect_plain_in_few_chunks(&rope, &self.plain, self.breaks)?;
-        ask(&rope)
+    /// Passes a piece to both.
+    fn append(&mut self, rt: &impl Abort, text: &str) {
+        for c in text.chars() {
+            self.plain.push(c).expect(rt, "there is memory");
+        }
+        self.builder.append(text).expect(rt, "there is memory");
+    }
+
+    /// Fails unless the rope has the text in few chunks.
+    fn expect_built(self, rt: &impl Abort) -> Result<(), Failure> {
+        let rope = self.builder.finish().expect(rt, "there is memory");
+        expect_plain_in_few_chunks(&rope, &self.plain, self.breaks)
     }
 }
 
@@ -43,24 +48,6 @@ fn expect_plain_in_few_chunks(
 ) -> Result<(), Failure> {
     expect_plain(rope, plain, breaks)?;
     expect_few_chunks(rope)
-}
-
-/// Fails unless the rope of what is appended is right.
-fn expect_built<
-    A: FnOnce(&mut Pair) -> Result<(), Failure>,
-    F: FnOnce(&Rope) -> Result<(), Failure>,
->(alloc: Global, breaks: LineBreaks, hand: A, ask: F) -> Result<(), Failure>
-    requires appends { A.IsAlwaysCallable hand }
-    requires asks { F.IsAlwaysCallable ask }
-{
-    let builder = RopeBuilder::new_with(alloc, breaks)?;
-    let mut pair = Pair {
-        builder,
-        plain: Vec::new(alloc),
-        breaks,
-    };
-    hand(&mut pair)?;
-    pair.with_built(ask)
 }
 
 /// Pieces that split each CR LF, or are between two.
@@ -84,84 +71,83 @@ const PIECES: [&str; 14] = [
 const WHOLE: &str =
     "Hello there!  How're you doing?\r\nIt's a fine day, isn't it?\r\nAren't you glad we're alive?\r\nこんにちは、みんなさん！";
 
-fn append_all(builder: &mut RopeBuilder) -> Result<(), Failure> {
+fn append_all(builder: &mut RopeBuilder) -> ropey::Result<()> {
     for piece in &PIECES {
         builder.append(piece)?;
     }
     Ok(())
 }
 
-/// Fails unless the builder ends in a rope of these lengths, which begins with this chunk.
-fn expect_finished(
-    builder: RopeBuilder,
-    expected: [usize; 4],
-    chunk: Option<&str>,
-) -> Result<(), Failure> {
-    with_made(builder.finish(), |rope| {
-        same!(lens(rope), expected);
-        same!(rope.chunks().next(), chunk);
-        Ok(())
-    })
+/// Fails unless a rope has these lengths, and begins with this chunk.
+fn expect_lens(rope: &Rope, expected: [usize; 4], chunk: Option<&str>) -> Result<(), Failure> {
+    same!(lens(rope), expected);
+    same!(rope.chunks().next(), chunk);
+    Ok(())
 }
 
 #[test]
-fn a_builder_joins_pieces_and_ends_empty_without_any(rt: HostRuntime) -> Result<(), Failure> {
-    let mut builder = RopeBuilder::new(rt.alloc())?;
-    append_all(&mut builder)?;
-    expect_finished(builder, [127, 103, 4, 103], Some(WHOLE))?;
-    expect_finished(RopeBuilder::new(rt.alloc())?, [0, 0, 1, 0], None)
+fn a_builder_joins_pieces(rt: HostRuntime) -> Result<(), Failure> {
+    let mut builder = RopeBuilder::new(rt.alloc()).expect(&rt, "there is memory");
+    append_all(&mut builder).expect(&rt, "there is memory");
+    let rope = builder.finish().expect(&rt, "there is memory");
+    expect_lens(&rope, [127, 103, 4, 103], Some(WHOLE))
+}
+
+#[test]
+fn a_builder_ends_empty_without_pieces(rt: HostRuntime) -> Result<(), Failure> {
+    let builder = RopeBuilder::new(rt.alloc()).expect(&rt, "there is memory");
+    let rope = builder.finish().expect(&rt, "there is memory");
+    expect_lens(&rope, [0, 0, 1, 0], None)
 }
 
 /// The maximum lengths of a piece, in bytes.
 const MOST: [usize; 6] = [3, 12, 100, 990, 2_000, 9_000];
 
 fn append_random_piece(
-    pair: &mut Pair,
+    rt: &impl Abort,
     alloc: Global,
+    pair: &mut Pair,
     numbers: &mut Numbers,
     most: usize,
-) -> Result<(), Failure> {
-    let piece = random_text(alloc, numbers, most)?;
-    pair.append(piece.as_str())
+) {
+    let piece = random_text(alloc, numbers, most).expect(rt, "there is memory");
+    pair.append(rt, piece.as_str());
 }
 
 /// Appends many pieces, most of them short.
-fn append_random_pieces(
-    pair: &mut Pair,
-    alloc: Global,
-    numbers: &mut Numbers,
-) -> Result<(), Failure> {
+fn append_random_pieces(rt: &impl Abort, alloc: Global, pair: &mut Pair, numbers: &mut Numbers) {
     let kinds = numbers.up_to(5);
     for _ in 0..numbers.up_to(60) {
         let most = MOST[numbers.up_to(kinds) % 6];
-        append_random_piece(pair, alloc, numbers, most)?;
+        append_random_piece(rt, alloc, pair, numbers, most);
     }
-    Ok(())
 }
 
 /// Fails unless a rope of many pieces is right.
 fn expect_built_at_random(
+    rt: &impl Abort,
     alloc: Global,
     numbers: &mut Numbers,
     breaks: LineBreaks,
 ) -> Result<(), Failure> {
-    expect_built(
-        alloc,
-        breaks,
-        |pair| append_random_pieces(pair, alloc, numbers),
-        |_| Ok(()),
-    )
+    let mut pair = Pair::new(rt, alloc, breaks);
+    append_random_pieces(rt, alloc, &mut pair, numbers);
+    pair.expect_built(rt)
 }
 
 /// The start of the random sequence.
 const SEED: u64 = 0x9E37_79B9_7F4A_7C15;
 
 /// Fails unless ropes of many pieces are right, by each set of line breaks.
-fn expect_built_at_random_by_each_set(alloc: Global, numbers: &mut Numbers) -> Result<(), Failure> {
+fn expect_built_at_random_by_each_set(
+    rt: &impl Abort,
+    alloc: Global,
+    numbers: &mut Numbers,
+) -> Result<(), Failure> {
     for breaks in SETS {
         within(
             format_args!("line breaks {breaks:?}"),
-            expect_built_at_random(alloc, numbers, breaks),
+            expect_built_at_random(rt, alloc, numbers, breaks),
         )?;
     }
     Ok(())
@@ -173,7 +159,7 @@ fn a_builder_makes_the_text_of_random_pieces(rt: HostRuntime) -> Result<(), Fail
     for round in 0..100usize {
         within(
             format_args!("seed {SEED:#x}, round {round}"),
-            expect_built_at_random_by_each_set(rt.alloc(), &mut numbers),
+            expect_built_at_random_by_each_set(&rt, rt.alloc(), &mut numbers),
         )?;
     }
     Ok(())

@@ -1,5 +1,5 @@
 //! Equality and order, which depend on the text, not on its chunks.
-use crate::ropes::{with_changed, with_rope};
+use crate::ropes::rope_of;
 use rope_plain::failure::{Failure, within};
 use rope_plain::numbers::Numbers;
 use rope_plain::same;
@@ -7,6 +7,7 @@ use rope_plain::texts::random_text;
 use ropey::{Rope, RopeSlice};
 use std::alloc::Global;
 use std::hash::{FoldHasher, Hash, Hasher};
+use std::process::Abort;
 
 /// Appends each character of the text.
 fn type_text(rope: &mut Rope, text: &str) -> Result<(), Failure> {
@@ -85,25 +86,24 @@ fn expect_compared_with_typed(
 
 /// Fails unless a rope of the text compares so with one that starts empty.
 fn expect_compared(
+    rt: &impl Abort,
     alloc: Global,
     rope: &Rope,
     text: &str,
     numbers: &mut Numbers,
 ) -> Result<(), Failure> {
-    with_changed(
-        alloc,
-        "",
-        |other| expect_compared_with_typed(alloc, other, (rope, text), numbers),
-    )
+    let mut other = rope_of(rt, alloc, "");
+    expect_compared_with_typed(alloc, &mut other, (rope, text), numbers)
 }
 
-fn expect_random_compared(alloc: Global, numbers: &mut Numbers) -> Result<(), Failure> {
-    let text = random_text(alloc, numbers, 3_000)?;
-    with_rope(
-        alloc,
-        text.as_str(),
-        |rope| expect_compared(alloc, rope, text.as_str(), numbers),
-    )
+fn expect_random_compared(
+    rt: &impl Abort,
+    alloc: Global,
+    numbers: &mut Numbers,
+) -> Result<(), Failure> {
+    let text = random_text(alloc, numbers, 3_000).expect(rt, "there is memory");
+    let rope = rope_of(rt, alloc, text.as_str());
+    expect_compared(rt, alloc, &rope, text.as_str(), numbers)
 }
 
 /// The start of the random sequence.
@@ -115,7 +115,7 @@ fn random_ropes_compare_as_their_texts(rt: HostRuntime) -> Result<(), Failure> {
     for round in 0..6 {
         within(
             format_args!("seed {SEED:#x}, round {round}"),
-            expect_random_compared(rt.alloc(), &mut numbers),
+            expect_random_compared(&rt, rt.alloc(), &mut numbers),
         )?;
     }
     Ok(())

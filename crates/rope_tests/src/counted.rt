@@ -1,5 +1,5 @@
 //! The counts of lookups in ropes of known depth.
-use crate::ropes::with_repeated;
+use crate::ropes::rope_of_repeated;
 use rope_plain::compare::lens;
 use rope_plain::failure::{Failure, within};
 use rope_plain::{holds, same};
@@ -116,7 +116,8 @@ fn expect_bytes_found_in_two_levels(rope: &Rope) -> Result<(), Failure> {
 
 #[test]
 fn a_byte_is_found_through_two_nodes(rt: HostRuntime) -> Result<(), Failure> {
-    with_repeated(rt.alloc(), "a", 20_000, expect_bytes_found_in_two_levels)
+    let rope = rope_of_repeated(&rt, rt.alloc(), "a", 20_000);
+    expect_bytes_found_in_two_levels(&rope)
 }
 
 /// Each lookup, and the end of its valid indices.
@@ -149,7 +150,8 @@ fn expect_all_found_in_two_levels(rope: &Rope) -> Result<(), Failure> {
 
 #[test]
 fn each_lookup_in_two_levels_compares_at_most_five_times(rt: HostRuntime) -> Result<(), Failure> {
-    with_repeated(rt.alloc(), "a\n", 10_000, expect_all_found_in_two_levels)
+    let rope = rope_of_repeated(&rt, rt.alloc(), "a\n", 10_000);
+    expect_all_found_in_two_levels(&rope)
 }
 
 /// Fails unless a lookup in four levels has this result, through four nodes and by few comparisons.
@@ -175,7 +177,8 @@ fn expect_char_found_in_four_levels(rope: &Rope) -> Result<(), Failure> {
 
 #[test]
 fn a_character_is_found_through_four_nodes(rt: HostRuntime) -> Result<(), Failure> {
-    with_repeated(rt.alloc(), "a", 1_000_000, expect_char_found_in_four_levels)
+    let rope = rope_of_repeated(&rt, rt.alloc(), "a", 1_000_000);
+    expect_char_found_in_four_levels(&rope)
 }
 
 /// Each conversion, an index in the middle, and its result there.
@@ -203,5 +206,6 @@ fn expect_converted_in_four_levels(rope: &Rope) -> Result<(), Failure> {
 
 #[test]
 fn each_conversion_visits_four_nodes(rt: HostRuntime) -> Result<(), Failure> {
-    with_repeated(rt.alloc(), "a\n", 500_000, expect_converted_in_four_levels)
+    let rope = rope_of_repeated(&rt, rt.alloc(), "a\n", 500_000);
+    expect_converted_in_four_levels(&rope)
 }

@@ -2,13 +2,14 @@
 ghost use Rattle.std.specs.Prelude.{◌+◌, ◌*◌, ◌%◌, ◌^◌, length};
 ghost use Rattle.rope_tests.specs.Writes.{first_or};
 
-use crate::ropes::{with_changed, with_made, with_repeated};
+use crate::ropes::{rope_of, rope_of_repeated};
 use rope_plain::failure::Failure;
 use rope_plain::same;
 use ropey::{Rope, RopeSlice};
 use std::alloc::Global;
 use std::cmp::Ordering;
 use std::hash::{Hash, Hasher};
+use std::process::Abort;
 
 /// A hasher that keeps the lengths of its writes, as the digits of a number by the base 1,000, and
 /// the first byte of the last.
@@ -58,7 +59,8 @@ fn expect_hashed_as_empty(rope: &Rope) -> Result<(), Failure> {
 
 #[test]
 fn the_empty_rope_writes_only_its_end(rt: HostRuntime) -> Result<(), Failure> {
-    with_made(Rope::new(rt.alloc()), expect_hashed_as_empty)
+    let rope = Rope::new(rt.alloc()).expect(&rt, "there is memory");
+    expect_hashed_as_empty(&rope)
 }
 
 fn type_letters(rope: &mut Rope) -> Result<(), Failure> {
@@ -88,12 +90,13 @@ fn expect_hashed_alike(made: &Rope, typed: &mut Rope) -> Result<(), Failure> {
     Ok(())
 }
 
-fn expect_hashed_as_typed(alloc: Global, made: &Rope) -> Result<(), Failure> {
-    with_changed(alloc, "", |typed| expect_hashed_alike(made, typed))
+fn expect_hashed_as_typed(rt: &impl Abort, alloc: Global, made: &Rope) -> Result<(), Failure> {
+    let mut typed = rope_of(rt, alloc, "");
+    expect_hashed_alike(made, &mut typed)
 }
 
 #[test]
 fn a_hash_is_written_in_blocks_whatever_the_chunks(rt: HostRuntime) -> Result<(), Failure> {
-    let alloc = rt.alloc();
-    with_repeated(alloc, "a", 257, |made| expect_hashed_as_typed(alloc, made))
+    let made = rope_of_repeated(&rt, rt.alloc(), "a", 257);
+    expect_hashed_as_typed(&rt, rt.alloc(), &made)
 }

@@ -12,8 +12,8 @@
 //!
 //! Rows that a line of commands can show are in crates/rope/stdin, which needs no proof.
 //!
-//! Ropes are made in `ropes`, and passed by reference. Each return of a function that owns a rope
-//! is proved to drop it, which takes long.
+//! A test that makes a rope passes it by reference, and returns once: each return of a function
+//! that owns a rope is proved to drop it, which takes long.
 #![tactic(auto)]
 
 #[cfg(test)]

@@ -5,6 +5,7 @@ use rope_text::LineBreaks;
 use rope_tree::build::build;
 use rope_tree::{Editor, Made, Maker, Node, remove_at};
 use std::alloc::Global;
+use std::process::Abort;
 
 /// Removes characters that exist.
 fn remove(editor: &mut Editor, root: &mut Node, start: usize, end: usize) -> Made<bool> {
@@ -14,30 +15,17 @@ fn remove(editor: &mut Editor, root: &mut Node, start: usize, end: usize) -> Mad
     Ok(false)
 }
 
-/// Fails unless a tree of the text can be made, and the test of it passes.
-fn with_tree<F: FnOnce(&mut Node) -> Result<(), Failure>>(
-    alloc: Global,
-    text: &str,
-    breaks: LineBreaks,
-    ask: F,
-) -> Result<(), Failure>
-    requires { F.IsAlwaysCallable ask }
-{
-    let mut root = build(&mut Maker::new(alloc), text, breaks)?;
-    ask(&mut root)
+/// Returns a tree of a text.
+fn tree_of(rt: &impl Abort, alloc: Global, text: &str, breaks: LineBreaks) -> Node {
+    build(&mut Maker::new(alloc), text, breaks).expect(rt, "there is memory")
 }
 
-/// Fails unless a tree of a thousand lines, in 8,000 characters, can be made, and the test of it
-/// passes.
-fn with_tree_of_lines<F: FnOnce(&mut Node) -> Result<(), Failure>>(
-    alloc: Global,
-    breaks: LineBreaks,
-    ask: F,
-) -> Result<(), Failure>
-    requires { F.IsAlwaysCallable ask }
-{
-    let text = "Hello!\r\n".repeat(alloc, 1000)?;
-    with_tree(alloc, text.as_str(), breaks, ask)
+/// Returns a tree of a thousand lines, in 8,000 characters.
+fn tree_of_lines(rt: &impl Abort, alloc: Global, breaks: LineBreaks) -> Node {
+    let text = "Hello!\r\n"
+        .repeat(alloc, 1000)
+        .expect(rt, "there is memory");
+    tree_of(rt, alloc, text.as_str(), breaks)
 }
 
 fn expect_removed_in_place(alloc: Global, root: &mut Node) -> Result<(), Failure> {
@@ -48,22 +36,32 @@ fn expect_removed_in_place(alloc: Global, root: &mut Node) -> Result<(), Failure
     Ok(())
 }
 
-fn expect_removed_by_copies(alloc: Global, root: &mut Node) -> Result<(), Failure> {
+fn expect_copied(alloc: Global, root: &mut Node, other: &Node) -> Result<(), Failure> {
     let mut editor = Editor::new(alloc);
-    let other = root.share()?;
     same!(remove(&mut editor, root, 4003, 4005), Ok(true));
     same!(editor.maker.made, 2);
     same!([root.info().chars, other.info().chars], [7990, 7992]);
     Ok(())
 }
 
+fn expect_removed_by_copies(
+    rt: &impl Abort,
+    alloc: Global,
+    root: &mut Node,
+) -> Result<(), Failure> {
+    let other = root.share().expect(rt, "there is memory");
+    expect_copied(alloc, root, &other)
+}
+
+fn expect_removed(rt: &impl Abort, alloc: Global, root: &mut Node) -> Result<(), Failure> {
+    expect_removed_in_place(alloc, root)?;
+    expect_removed_by_copies(rt, alloc, root)
+}
+
 #[test]
 fn characters_are_removed_in_place_or_from_copies(rt: HostRuntime) -> Result<(), Failure> {
-    let alloc = rt.alloc();
-    with_tree_of_lines(alloc, LineBreaks::CrLf, |root| {
-        expect_removed_in_place(alloc, root)?;
-        expect_removed_by_copies(alloc, root)
-    })
+    let mut root = tree_of_lines(&rt, rt.alloc(), LineBreaks::CrLf);
+    expect_removed(&rt, rt.alloc(), &mut root)
 }
 
 fn expect_two_leaves_kept(alloc: Global, root: &mut Node) -> Result<(), Failure> {
@@ -94,22 +92,19 @@ fn expect_pairs_kept_at_ends(alloc: Global, root: &mut Node) -> Result<(), Failu
 }
 
 #[test]
-fn characters_are_removed_within_one_leaf_that_stays_valid(rt: HostRuntime) -> Result<(), Failure> {
-    let alloc = rt.alloc();
-    with_tree_of_lines(
-        alloc,
-        LineBreaks::CrLf,
-        |root| expect_two_leaves_kept(alloc, root),
-    )?;
-    with_tree(
-        alloc,
-        "Hello!",
-        LineBreaks::Lf,
-        |leaf| expect_whole_leaf_kept(alloc, leaf),
-    )?;
-    with_tree_of_lines(
-        alloc,
-        LineBreaks::Unicode,
-        |root| expect_pairs_kept_at_ends(alloc, root),
-    )
+fn characters_of_two_leaves_are_kept(rt: HostRuntime) -> Result<(), Failure> {
+    let mut root = tree_of_lines(&rt, rt.alloc(), LineBreaks::CrLf);
+    expect_two_leaves_kept(rt.alloc(), &mut root)
+}
+
+#[test]
+fn a_leaf_keeps_a_character(rt: HostRuntime) -> Result<(), Failure> {
+    let mut leaf = tree_of(&rt, rt.alloc(), "Hello!", LineBreaks::Lf);
+    expect_whole_leaf_kept(rt.alloc(), &mut leaf)
+}
+
+#[test]
+fn pairs_are_kept_at_the_ends_of_a_leaf(rt: HostRuntime) -> Result<(), Failure> {
+    let mut root = tree_of_lines(&rt, rt.alloc(), LineBreaks::Unicode);
+    expect_pairs_kept_at_ends(rt.alloc(), &mut root)
 }

@@ -1,10 +1,11 @@
 //! Texts copied, shown and borrowed from ropes and slices.
-use crate::ropes::with_rope;
+use crate::ropes::rope_of;
 use rope_plain::failure::Failure;
 use rope_plain::texts::{expect_shown, repeated};
 use rope_plain::{same, some};
 use ropey::{CowStr, Rope, RopeBuilder, RopeSlice};
 use std::alloc::{AllocError, Global};
+use std::process::Abort;
 
 /// Fails unless this text of a rope or slice was borrowed.
 fn expect_borrowed(lent: ropey::Result<CowStr<'_>>, text: &str) -> Result<(), Failure> {
@@ -54,11 +55,15 @@ fn expect_one_chunk_borrowed(alloc: Global, rope: &Rope) -> Result<(), Failure> 
 }
 
 #[test]
+fn the_empty_text_is_borrowed(rt: HostRuntime) -> Result<(), Failure> {
+    let empty = Rope::new(rt.alloc()).expect(&rt, "there is memory");
+    expect_borrowed(empty.try_to_cow(rt.alloc()), "")
+}
+
+#[test]
 fn a_text_of_one_chunk_is_borrowed(rt: HostRuntime) -> Result<(), Failure> {
-    let empty = Rope::new(rt.alloc())?;
-    expect_borrowed(empty.try_to_cow(rt.alloc()), "")?;
-    let rope = Rope::from_str(rt.alloc(), "Hello!")?;
-    expect_one_chunk_borrowed(rt.alloc(), &rope)?;
+    let rope = rope_of(&rt, rt.alloc(), "Hello!");
+    expect_one_chunk_borrowed(rt.alloc(), &rope).expect(&rt, "it is borrowed");
     expect_copy(rope.try_into_string(), "Hello!")
 }
 
@@ -70,16 +75,16 @@ fn expect_chunks_copied(alloc: Global, rope: &Rope, text: &str) -> Result<(), Fa
     expect_shown(format!(in alloc; "{rope}"), text)
 }
 
-fn expect_two_chunks_copied(alloc: Global, text: &str) -> Result<(), Failure> {
-    let rope = Rope::from_str(alloc, text)?;
-    expect_chunks_copied(alloc, &rope, text)?;
+fn expect_two_chunks_copied(rt: &impl Abort, alloc: Global, text: &str) -> Result<(), Failure> {
+    let rope = rope_of(rt, alloc, text);
+    expect_chunks_copied(alloc, &rope, text).expect(rt, "it is copied");
     expect_copy(rope.try_into_string(), text)
 }
 
 #[test]
 fn a_text_of_two_chunks_is_copied(rt: HostRuntime) -> Result<(), Failure> {
-    let text = repeated(rt.alloc(), "a", 985)?;
-    expect_two_chunks_copied(rt.alloc(), text.as_str())
+    let text = repeated(rt.alloc(), "a", 985).expect(&rt, "there is memory");
+    expect_two_chunks_copied(&rt, rt.alloc(), text.as_str())
 }
 
 fn expect_no_chunks_shown(alloc: Global, slice: Option<RopeSlice<'_>>) -> Result<(), Failure> {
@@ -97,8 +102,8 @@ fn expect_rope_shown(alloc: Global, rope: &Rope) -> Result<(), Failure> {
 
 #[test]
 fn a_rope_is_shown_as_its_text(rt: HostRuntime) -> Result<(), Failure> {
-    let alloc = rt.alloc();
-    with_rope(alloc, "ab", |rope| expect_rope_shown(alloc, rope))
+    let rope = rope_of(&rt, rt.alloc(), "ab");
+    expect_rope_shown(rt.alloc(), &rope)
 }
 
 fn expect_builder_shown(alloc: Global, builder: &mut RopeBuilder) -> Result<(), Failure> {
@@ -111,7 +116,7 @@ fn expect_builder_shown(alloc: Global, builder: &mut RopeBuilder) -> Result<(), 
 
 #[test]
 fn a_builder_is_shown(rt: HostRuntime) -> Result<(), Failure> {
-    let mut builder = RopeBuilder::new(rt.alloc())?;
+    let mut builder = RopeBuilder::new(rt.alloc()).expect(&rt, "there is memory");
     expect_builder_shown(rt.alloc(), &mut builder)
 }
 
@@ -144,6 +149,6 @@ fn expect_cursors_shown(alloc: Global, rope: &Rope) -> Result<(), Failure> {
 
 #[test]
 fn cursors_are_shown(rt: HostRuntime) -> Result<(), Failure> {
-    let alloc = rt.alloc();
-    with_rope(alloc, "é\nb", |rope| expect_cursors_shown(alloc, rope))
+    let rope = rope_of(&rt, rt.alloc(), "é\nb");
+    expect_cursors_shown(rt.alloc(), &rope)
 }

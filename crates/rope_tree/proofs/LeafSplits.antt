@@ -23,7 +23,7 @@ use Rattle.rope_tree.proofs.InsertLeaves.{wide_leaf}
 use Rattle.rope_tree.proofs.MoveLaws.{AreMovable, level_of, siblings-append}
 use Rattle.rope_tree.specs.Split.{IsFrontOf, IsBackOf, MayFollow, EndsAs}
 
-lone_siblings : (b : LineBreaks) (t : Tree) → IsChild b 0 t → AreSiblings b 0 (t ∷ [])
+pub lone_siblings : (b : LineBreaks) (t : Tree) → IsChild b 0 t → AreSiblings b 0 (t ∷ [])
 lone_siblings b t i = record {
   each = All-cons (IsChild b 0) t [] i (All-nil (IsChild b 0));
   leaves = rw append-nil i.tree.leaves;
@@ -136,10 +136,10 @@ module _ (ts ps : List Tree) (leaf : Tree) (ys : List Tree) (o : HasLeaf ts ps l
   all : AreLeaves (lp ++ (text leaf ∷ ly))
   all = subst AreLeaves leaves_are o.family.leaves
 
-  texts_are : joined ts ≡ joined ps ++ (text leaf ++ joined ys)
+  pub texts_are : joined ts ≡ joined ps ++ (text leaf ++ joined ys)
   texts_are = ap concat leaves_are ∙ concat-append lp (text leaf ∷ ly)
 
-  bytes_are : byte_len (joined ts)
+  pub bytes_are : byte_len (joined ts)
       ≡ byte_len (joined ps) + (byte_len (text leaf) + byte_len (joined ys))
   bytes_are = ap byte_len texts_are ∙ IsMeasure-byte_len.joined (joined ps) _
       ∙ ap (λ n. byte_len (joined ps) + n) (IsMeasure-byte_len.joined (text leaf) (joined ys))

@@ -54,3 +54,4 @@ pub mod MoveLaws
 pub mod PaddingLaws
 pub mod UnevenLaws
 mod FirstLaws
+mod LeafMerges

@@ -11,7 +11,7 @@
 //!
 //! A leaf is changed in place, by its only owner. No call allocates anything but a new leaf, and if
 //! that fails, the old one is unchanged.
-ghost use Rattle.std.specs.Prelude.{◌≡◌, ◌+◌, ◌<◌, ◌≤◌, [], ◌∷◌, true, false, max, length, take, drop, IfOk, OnErr, IfSome, IfNone};
+ghost use Rattle.std.specs.Prelude.{◌≡◌, ◌+◌, ◌<◌, ◌≤◌, [], ◌∷◌, ◌++◌, true, false, max, length, take, drop, IfOk, OnErr, IfSome, IfNone};
 ghost use Rattle.std.specs.Str.{chars};
 ghost use Rattle.rope_text.specs.Text.{byte_len};
 ghost use Rattle.rope_text.specs.TextInfo.{info_of};
@@ -442,6 +442,9 @@ impl Leaf {
         requires within { end ≤ length (text self.old) }
         ensures done { result ≡ true
             → IsRemoved least.first least.last self.old self.new start end }
+        ensures leaf { result ≡ true
+            → self.new ≡ leaf_tree self.old.breaks (removed (text self.old) start end) }
+        ensures tree { result ≡ true → IsTree self.new }
         ensures change { result ≡ true → FallsBy less.new self.old self.new }
         ensures kept { result ≡ false → self.new ≡ self.old }
         ensures when { Spares (max least.first least.last) start end (text self.old)
@@ -457,5 +460,38 @@ impl Leaf {
         self.summary = Summary::new(breaks, after);
         *less = before.minus(after);
         true
+    }
+
+    /// Moves the first `at` characters to the end of the leaf before this one, if that has room for
+    /// them, and the rest is long enough beside a leaf of `after` bytes and doesn't begin with the
+    /// LF of a CR LF. Returns whether it did.
+    pub fn give_start(&mut self, left: &mut Leaf, at: usize, after: usize) -> bool
+        requires some { 1 ≤ at }
+        requires within { at < length (text self.old) }
+        ensures left { result ≡ true
+            → left.new ≡ leaf_tree left.old.breaks (text left.old ++ take at (text self.old)) }
+        ensures rest { result ≡ true
+            → self.new ≡ leaf_tree self.old.breaks (drop at (text self.old)) }
+        ensures left_tree { result ≡ true → IsTree left.new }
+        ensures tree { result ≡ true → IsTree self.new }
+        ensures long { result ≡ true
+            → MIN_TWO_LEAVES_BYTES ≤ byte_len (drop at (text self.old)) + after }
+        ensures kept_left { result ≡ false → left.new ≡ left.old }
+        ensures kept { result ≡ false → self.new ≡ self.old }
+    {
+        let Some(bytes) = self.bytes_without(0, at) else {
+            return false;
+        };
+        if bytes.saturating_add(after) < MIN_TWO_LEAVES_BYTES {
+            return false;
+        }
+        let text = self.known_text(self.info());
+        let front = ShortText::new(&text.as_str()[..text.char_to_byte_idx(at)]);
+        let end = left.info().chars;
+        if !left.insert_in_place(end, &front, &mut TextInfo::new()) {
+            return false;
+        }
+        let least = Least { first: 0, last: 0 };
+        self.remove_in_place(0, at, least, &mut TextInfo::new())
     }
 }

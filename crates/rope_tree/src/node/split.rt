@@ -4,9 +4,11 @@
 //! A path along the start or the end of the tree needs one list beside it. Any other path is padded
 //! first, so that it has a child on each side. On the descent each level allocates the list that it
 //! needs, and takes the list on the path and those beside it out of their list, if these have no
-//! other owner. The leaf is split last. From there on nothing fails: on the ascent each level moves
-//! children between the two parts of a split list and the lists beside them, so that each keeps at
-//! least 12. Where a node is shared, the tree is as it was, and the caller makes two new trees.
+//! other owner. The leaf is split last: its first part moves into the leaf before it, if that has
+//! room, so that trees which are joined again have no short leaves where they meet, else its second
+//! part gets a new leaf. From there on nothing fails: on the ascent each level moves children
+//! between the two parts of a split list and the lists beside them, so that each keeps at least 12.
+//! Where a node is shared, the tree is as it was, and the caller makes two new trees.
 ghost use Rattle.std.specs.Prelude.{◌≡◌, ◌+◌, ◌-◌, ◌*◌, ◌^◌, ◌<◌, ◌≤◌, [], ◌∷◌, ◌++◌, true, false, length, take, drop, slice_index_or, IfOk, IfSome, IfNone, OnErr};
 ghost use Rattle.rope_text.specs.declared.TheConstants.{MIN_TWO_LEAVES_BYTES};
 ghost use Rattle.rope_text.specs.Text.{byte_len};
@@ -106,10 +108,88 @@ impl Children {
         did
     }
 
+    /// Splits the last child, a leaf, `inside` characters from its start, without a new leaf: the
+    /// first part moves into the leaf before it, if that has room and no other owner, and the
+    /// second part, if long enough beside the leaf after it, becomes the first child of `rest`,
+    /// whose children follow. Returns whether it did. So the two parts are long enough beside each
+    /// other, if they are joined again.
+    fn give_start(&mut self, inside: usize, rest: &mut Children) -> bool
+        requires children { AreFamily (self.old ++ rest.old) }
+        requires leaves { height_of (self.old ++ rest.old) ≡ 0 }
+        requires few { byte_len (joined (self.old ++ rest.old)) < 2 ^ 32 }
+        requires some_children { 1 ≤ length self.old }
+        requires some { 1 ≤ inside }
+        requires within { (leaf : Tree)
+            → inside < length (text (slice_index_or self.old (length self.old - 1) leaf)) }
+        ensures front { result ≡ true → IsFrontOf
+            (length (joined (take (length self.old - 1) self.old)) + inside)
+            (self.old ++ rest.old) self.new }
+        ensures back { result ≡ true → IsBackOf
+            (length (joined (take (length self.old - 1) self.old)) + inside)
+            (self.old ++ rest.old) rest.new }
+        ensures following { result ≡ true → MayFollow (self.old ++ rest.old) self.new }
+        ensures ahead { result ≡ true → 1 ≤ length rest.old
+            → EndsAs (self.old ++ rest.old) rest.new }
+        ensures kept { result ≡ false → self.new ≡ self.old }
+        ensures kept_rest { result ≡ false → rest.new ≡ rest.old }
+    {
+        if self.count() < 2 {
+            return false;
+        }
+        let mut leaf = self.pop();
+        let mut left = self.pop();
+        if leaf.give_start(&mut left, inside, rest.first_leaf_len()) {
+            self.push(left);
+            rest.push_front(leaf);
+            return true;
+        }
+        self.push(left);
+        self.push(leaf);
+        false
+    }
+
     /// Splits the last child, a leaf, `inside` characters from its start, if both parts are long
     /// enough beside the leaves around it. Returns whether it did. The second part becomes the
-    /// first child of `rest`, whose children follow.
+    /// first child of `rest`, whose children follow; the first part moves into the leaf before it,
+    /// if that has room.
     fn split_leaf(&mut self, maker: &mut Maker, inside: usize, rest: &mut Children) -> Made<bool>
+        requires children { AreFamily (self.old ++ rest.old) }
+        requires leaves { height_of (self.old ++ rest.old) ≡ 0 }
+        requires few { byte_len (joined (self.old ++ rest.old)) < 2 ^ 32 }
+        requires some_children { 1 ≤ length self.old }
+        requires some { 1 ≤ inside }
+        requires within { (leaf : Tree)
+            → inside < length (text (slice_index_or self.old (length self.old - 1) leaf)) }
+        ensures front { IfOk result (λ did. did ≡ true → IsFrontOf
+            (length (joined (take (length self.old - 1) self.old)) + inside)
+            (self.old ++ rest.old) self.new) }
+        ensures back { IfOk result (λ did. did ≡ true → IsBackOf
+            (length (joined (take (length self.old - 1) self.old)) + inside)
+            (self.old ++ rest.old) rest.new) }
+        ensures following { IfOk result (λ did. did ≡ true → 2 ≤ length self.old
+            → MayFollow (self.old ++ rest.old) self.new) }
+        ensures ahead { IfOk result (λ did. did ≡ true → 1 ≤ length rest.old
+            → EndsAs (self.old ++ rest.old) rest.new) }
+        ensures kept { IfOk result (λ did. did ≡ false
+            → (self.new ≡ self.old) × (rest.new ≡ rest.old)) }
+        ensures err { OnErr result ((self.new ≡ self.old) × (rest.new ≡ rest.old)) }
+        ensures idle { IfOk result (λ did. did ≡ false → maker.new.made ≡ maker.old.made) }
+        ensures made { maker.new.made ≤ maker.old.made + 1 }
+    {
+        if self.give_start(inside, rest) {
+            return Ok(true);
+        }
+        self.split_leaf_anew(maker, inside, rest)
+    }
+
+    /// Splits the last child, a leaf, as [`split_leaf`](Children::split_leaf) does, and makes a new
+    /// leaf of the second part.
+    fn split_leaf_anew(
+        &mut self,
+        maker: &mut Maker,
+        inside: usize,
+        rest: &mut Children,
+    ) -> Made<bool>
         requires children { AreFamily (self.old ++ rest.old) }
         requires leaves { height_of (self.old ++ rest.old) ≡ 0 }
         requires few { byte_len (joined (self.old ++ rest.old)) < 2 ^ 32 }
@@ -410,6 +490,40 @@ impl Children {
 }
 
 impl Node {
+    /// Moves the first `at` characters of a leaf to the end of the leaf before it, if that has room
+    /// for them, neither has another owner, and the rest is long enough beside a leaf of `after`
+    /// bytes. Returns whether it did.
+    fn give_start(&mut self, left: &mut Node, at: usize, after: usize) -> bool
+        requires leaf { self.old.height ≡ 0 }
+        requires left { left.old.height ≡ 0 }
+        requires some { 1 ≤ at }
+        requires within { at < length (text self.old) }
+        ensures left { result ≡ true
+            → left.new ≡ leaf_tree left.old.breaks (text left.old ++ take at (text self.old)) }
+        ensures rest { result ≡ true
+            → self.new ≡ leaf_tree self.old.breaks (drop at (text self.old)) }
+        ensures left_tree { IsTree left.new }
+        ensures tree { IsTree self.new }
+        ensures long { result ≡ true
+            → MIN_TWO_LEAVES_BYTES ≤ byte_len (drop at (text self.old)) + after }
+        ensures kept_left { result ≡ false → left.new ≡ left.old }
+        ensures kept { result ≡ false → self.new ≡ self.old }
+    {
+        let Form::Leaf(leaf) = &mut self.form else {
+            return false;
+        };
+        let Form::Leaf(left) = &mut left.form else {
+            return false;
+        };
+        let Some(leaf) = Rc::get_mut(leaf) else {
+            return false;
+        };
+        let Some(left) = Rc::get_mut(left) else {
+            return false;
+        };
+        leaf.give_start(left, at, after)
+    }
+
     /// Splits a leaf before the character `at`, if it has no other owner and both parts are long
     /// enough beside leaves of `before` and `after` bytes. Keeps the first part, and returns a leaf
     /// of the second.

@@ -1,9 +1,10 @@
-use Rattle.std.proofs.Common.{◌≡◌, sym, ap, subst, ◌∙◌}
+use Rattle.std.proofs.Common.{◌≡◌, [], refl, sym, ap, subst, ◌∙◌}
 use Rattle.rope_text.specs.TextInfo.{info_of, HasPart}
 use Rattle.rope_text.specs.Edit.{removed}
 use Rattle.rope_tree.proofs.CountLaws.{counts_fall}
 use Rattle.rope_tree.specs.Counted.{AreWithin}
 use Rattle.rope_tree.proofs.Infos.{info_within}
+use Rattle.rope_tree.proofs.GrownLaws.{leaf_is_tree}
 use Rattle.rope_tree.proofs.NodeLaws.{leaf_text}
 use Rattle.rope_tree.proofs.ChangeLaws.{fallen_change}
 use Rattle.rope_tree.proofs.RemovalLaws.{leaf_left}
@@ -60,3 +61,17 @@ returns-clause-change c = λ yes.
       ← old_is e,
       ← new,
     ) (fallen_change c.info-before.result c.in-Some.after c.minus.result c.minus.ensures.sum)
+
+pub returns-clause-leaf : goal.returns-clause-leaf
+returns-clause-leaf c = λ yes.
+    rw (
+      ← c.self.view_is,
+      c.new-self-inside.ensures.breaks,
+      ← ap (λ s. s.breaks) c.old.view_is,
+      leaf_text c.self.inside.text,
+      c.in-Some.ensures.text,
+    ) refl
+
+pub returns-clause-tree : goal.returns-clause-tree
+returns-clause-tree c = λ yes.
+    leaf_is_tree _ [] c.take_out.new.leaf c.in-Some.ensures.fits c.in-Some.ensures.scalars
