@@ -1,21 +1,21 @@
--- A leaf that takes the first characters of the next one.
+-- A leaf that takes the first characters of the next one, or the last ones of the one before it.
 use Rattle.std.proofs.Common.{◌≡◌, ℕ, ◌+◌, ◌^◌, ◌<◌, ◌≤◌, List, [], ◌∷◌, ◌++◌, length, take, drop, sym, ap, subst, ◌∙◌, arith}
 use Rattle.std.specs.List.{concat}
-use Rattle.std.proofs.lemmas.List.{append-nil, append_assoc, length-append, length-take-le, take-append-drop, take-append-le}
+use Rattle.std.proofs.lemmas.List.{append-nil, append_assoc, length-append, length-take-le, length-drop, take-append-drop, take-append-le, drop-append-le}
 use Rattle.std.proofs.lemmas.List.Elements.{All-head}
-use Rattle.std.proofs.Math.Seq.{take-append-add}
+use Rattle.std.proofs.Math.Seq.{take-append-add, drop-append-add}
 use Rattle.rope_text.specs.Text.{byte_len}
 use Rattle.rope_text.specs.Dense.{IsDenseAfter, last_bytes}
-use Rattle.rope_text.proofs.DenseLaws.{dense-append, dense_left, dense_right}
+use Rattle.rope_text.proofs.DenseLaws.{last_bytes-append, last_bytes_more, dense-append, dense_left, dense_right, dense_more}
 use Rattle.rope_text.proofs.Measures.{IsMeasure-byte_len}
 use Rattle.rope_tree.specs.Leaves.{AreLeaves, IsSeam}
 use Rattle.rope_tree.specs.Tree.{Tree, text, joined, leaves_of, breaks_of, leaf_tree, IsTree, IsChild}
 use Rattle.rope_tree.specs.Siblings.{AreSiblings}
-use Rattle.rope_tree.specs.Split.{IsFrontOf, MayFollow}
+use Rattle.rope_tree.specs.Split.{IsFrontOf, IsBackOf, MayFollow, EndsAs}
 use Rattle.rope_tree.proofs.BesideLaws.{one_text}
 use Rattle.rope_tree.proofs.InsertLeaves.{wide_leaf}
-use Rattle.rope_tree.proofs.LeafLaws.{leaves_seam, seam-take}
-use Rattle.rope_tree.proofs.LeafSplits.{HasLeaf, lone_siblings, level_before, texts_are, bytes_are}
+use Rattle.rope_tree.proofs.LeafLaws.{leaves_right, leaves_seam, seam-take, seam-drop}
+use Rattle.rope_tree.proofs.LeafSplits.{HasLeaf, lone_siblings, level_before, level_after, leaves_are, texts_are, bytes_are}
 use Rattle.rope_tree.proofs.MoveLaws.{AreMovable, level_of, siblings-append}
 use Rattle.rope_tree.proofs.NodeLaws.{leaves_of-append, joined-append, joined_one}
 use Rattle.rope_tree.proofs.SiblingLaws.{byte_len-append, siblings_left, siblings_right}
@@ -169,3 +169,122 @@ module _ (ts ps : List Tree) (w leaf : Tree) (ys : List Tree)
         dense_grown n (dense_left n (leaves_of (ps ++ w ∷ [])) (leaves_of (leaf ∷ ys))
         (subst (IsDenseAfter n) (ap leaves_of o.is
         ∙ leaves_of-append (ps ++ w ∷ []) (leaf ∷ ys)) d))
+
+-- the leaf that takes the last characters of the one before it
+pub record HasTakenEnd (leaf z : Tree) (at : ℕ) (k : Tree) : Type 0 where
+  pub is : k ≡ leaf_tree z.breaks (drop at (text leaf) ++ text z)
+  pub tree : IsTree k
+
+module _ (ts ps : List Tree) (leaf z : Tree) (zs : List Tree)
+    (o : HasLeaf ts ps leaf (z ∷ zs)) where
+  after : AreSiblings (breaks_of ts) 0 (z ∷ zs)
+  after = level_after ts ps leaf (z ∷ zs) o
+
+  pub own_right : IsChild (breaks_of ts) 0 z
+  own_right = All-head (IsChild (breaks_of ts) 0) z zs after.each
+
+  right_leaves : leaves_of (z ∷ zs) ≡ text z ∷ leaves_of zs
+  right_leaves = ap (λ l. l ++ leaves_of zs) (one_text (breaks_of ts) z own_right)
+
+  module _ (at : ℕ) (within : at < length (text leaf)) (k : Tree) (h : HasTakenEnd leaf z at k)
+    where
+      abbrev led : List ℕ
+      led = drop at (text leaf) ++ text z
+
+      some_led : 1 ≤ length led
+      some_led =
+          omega (
+            arith,
+            within,
+            length-append (drop at (text leaf)) (text z),
+            length-drop at (text leaf),
+          )
+
+      own_led : IsChild (breaks_of ts) 0 k
+      own_led =
+          wide_leaf (breaks_of ts) 12 k led
+          (h.is ∙ ap (λ b. leaf_tree b led) own_right.same_breaks) h.tree some_led
+
+      led_leaves : k.leaves ≡ led ∷ []
+      led_leaves = ap (λ u. u.leaves) h.is ∙ one_leaf_is led some_led
+
+      led_text : joined (k ∷ []) ≡ led
+      led_text = ap concat (append-nil k.leaves ∙ led_leaves) ∙ append-nil led
+
+      right_text : joined (z ∷ zs) ≡ text z ++ joined zs
+      right_text = joined-append (z ∷ []) zs ∙ ap (λ t. t ++ joined zs) (joined_one z)
+
+      all_led_text : joined (k ∷ zs) ≡ drop at (text leaf) ++ joined (z ∷ zs)
+      all_led_text = joined-append (k ∷ []) zs ∙ ap (λ t. t ++ joined zs) led_text
+          ∙ append_assoc (drop at (text leaf)) (text z) (joined zs)
+          ∙ ap (λ t. drop at (text leaf) ++ t) (sym right_text)
+
+      more : byte_len (text z) ≤ byte_len led
+      more = omega (arith, IsMeasure-byte_len.joined (drop at (text leaf)) (text z))
+
+      seam_led : IsSeam (joined (k ∷ [])) (joined zs)
+      seam_led =
+          let all : AreLeaves ((text leaf ∷ text z ∷ []) ++ leaves_of zs) =
+          subst (λ l. AreLeaves (text leaf ∷ l)) right_leaves
+          (leaves_right (leaves_of ps) (text leaf ∷ leaves_of (z ∷ zs))
+          (subst AreLeaves (leaves_are ts ps leaf (z ∷ zs) o) o.family.leaves)) in
+          let whole : IsSeam (text leaf ++ text z) (joined zs) =
+          subst (λ t. IsSeam (text leaf ++ t) (joined zs)) (append-nil (text z))
+          (leaves_seam (text leaf ∷ text z ∷ []) (leaves_of zs) all) in
+          subst (λ t. IsSeam t (joined zs))
+          (drop-append-le at (text leaf) (text z) (omega (arith, within)) ∙ sym led_text)
+          (seam-drop at (text leaf ++ text z) (joined zs) whole)
+
+      near_led : IsDenseAfter (last_bytes 492 (leaves_of (k ∷ []))) (leaves_of zs)
+      near_led =
+          rw (append-nil k.leaves, led_leaves) (dense_more (byte_len (text z)) (byte_len led)
+          (leaves_of zs) more (subst (IsDenseAfter 492) right_leaves after.leaves.dense).1)
+
+      fewer_led : byte_len (joined (k ∷ zs)) ≤ byte_len (joined ts)
+      fewer_led =
+          omega (
+            arith,
+            ap byte_len all_led_text,
+            IsMeasure-byte_len.joined (drop at (text leaf)) (joined (z ∷ zs)),
+            bytes_are ts ps leaf (z ∷ zs) o,
+            ap byte_len (take-append-drop at (text leaf)),
+            IsMeasure-byte_len.joined (take at (text leaf)) (drop at (text leaf)),
+          )
+
+      pub all_led : AreSiblings (breaks_of ts) 0 (k ∷ zs)
+      all_led =
+          siblings-append (breaks_of ts) 0 (k ∷ []) zs (lone_siblings (breaks_of ts) k own_led)
+          (siblings_right (breaks_of ts) 0 (z ∷ []) zs after) seam_led near_led
+          (omega (arith, fewer_led, o.family.fits))
+
+      pub move_led : byte_len (joined ts) < 2 ^ 32 → AreMovable (k ∷ zs)
+      move_led few = record {
+        level = level_of (breaks_of ts) 0 (k ∷ zs) all_led;
+        few = omega (arith, few, fewer_led);
+      }
+
+      pub led_back : IsBackOf (length (joined ps) + at) ts (k ∷ zs)
+      led_back = record {
+        text_is = all_led_text
+            ∙ sym (ap (drop (length (joined ps) + at)) (texts_are ts ps leaf (z ∷ zs) o)
+            ∙ drop-append-add (joined ps) _ at
+            ∙ drop-append-le at (text leaf) (joined (z ∷ zs)) (omega (arith, within)));
+        level = rw o.flat all_led;
+        some = omega arith;
+        few = omega (arith, ap length o.is, length-append ps (leaf ∷ z ∷ zs));
+      }
+
+      pub led_ahead : EndsAs ts (k ∷ zs)
+      led_ahead m n =
+          let was : last_bytes m (leaves_of ts) ≡ last_bytes (byte_len (text z)) (leaves_of zs) =
+          ap (last_bytes m) (leaves_are ts ps leaf (z ∷ zs) o)
+          ∙ last_bytes-append m (leaves_of ps) (text leaf ∷ leaves_of (z ∷ zs))
+          ∙ ap (last_bytes (byte_len (text leaf))) right_leaves in
+          let now : last_bytes n (leaves_of (k ∷ zs)) ≡ last_bytes (byte_len led) (leaves_of zs) =
+          ap (λ l. last_bytes n (l ++ leaves_of zs)) led_leaves in
+          omega (
+            arith,
+            was,
+            now,
+            last_bytes_more (byte_len (text z)) (byte_len led) (leaves_of zs) more,
+          )

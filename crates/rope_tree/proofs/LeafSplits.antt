@@ -129,7 +129,7 @@ module _ (ts ps : List Tree) (leaf : Tree) (ys : List Tree) (o : HasLeaf ts ps l
   pub own_leaf : IsChild br 0 leaf
   own_leaf = All-head (IsChild br 0) leaf ys level_from.each
 
-  leaves_are : leaves_of ts ≡ lp ++ (text leaf ∷ ly)
+  pub leaves_are : leaves_of ts ≡ lp ++ (text leaf ∷ ly)
   leaves_are = ap leaves_of o.is ∙ leaves_of-append ps (leaf ∷ ys)
       ∙ ap (λ l. lp ++ (l ++ ly)) (one_text br leaf own_leaf)
 

@@ -494,4 +494,36 @@ impl Leaf {
         let least = Least { first: 0, last: 0 };
         self.remove_in_place(0, at, least, &mut TextInfo::new())
     }
+
+    /// Moves the characters from `at` on to the start of the leaf after this one, if that has room
+    /// for them, and the rest is long enough beside a leaf of `before` bytes and doesn't end in the
+    /// CR of a CR LF. Returns whether it did.
+    pub fn give_end(&mut self, right: &mut Leaf, at: usize, before: usize) -> bool
+        requires within { at < length (text self.old) }
+        ensures right { result ≡ true
+            → right.new ≡ leaf_tree right.old.breaks (drop at (text self.old) ++ text right.old) }
+        ensures rest { result ≡ true
+            → self.new ≡ leaf_tree self.old.breaks (take at (text self.old)) }
+        ensures right_tree { result ≡ true → IsTree right.new }
+        ensures tree { result ≡ true → IsTree self.new }
+        ensures long { result ≡ true
+            → MIN_TWO_LEAVES_BYTES ≤ before + byte_len (take at (text self.old)) }
+        ensures kept_right { result ≡ false → right.new ≡ right.old }
+        ensures kept { result ≡ false → self.new ≡ self.old }
+    {
+        let end = self.info().chars;
+        let Some(bytes) = self.bytes_without(at, end) else {
+            return false;
+        };
+        if before.saturating_add(bytes) < MIN_TWO_LEAVES_BYTES {
+            return false;
+        }
+        let text = self.known_text(self.info());
+        let back = ShortText::new(&text.as_str()[text.char_to_byte_idx(at)..]);
+        if !right.insert_in_place(0, &back, &mut TextInfo::new()) {
+            return false;
+        }
+        let least = Least { first: 0, last: 0 };
+        self.remove_in_place(at, end, least, &mut TextInfo::new())
+    }
 }

@@ -11,7 +11,7 @@ ghost use Rattle.rope_tree.specs.Split.{nodes_over, AreSettled, IsPushed, IsPrep
 use super::{Children, Form, Node};
 use crate::{Made, Totals, total_before};
 use rope_shared::local::Sole;
-use rope_text::{LineBreaks, MAX_CHILDREN, MIN_CHILDREN, MIN_TWO_LEAVES_BYTES};
+use rope_text::{LineBreaks, MAX_BYTES, MAX_CHILDREN, MIN_CHILDREN, MIN_TWO_LEAVES_BYTES};
 use std::alloc::{AllocError, Global};
 use std::mem;
 
@@ -372,6 +372,26 @@ impl Children {
         first.as_mut().settle(second.as_mut(), pocket);
         self.push_front_over(second);
         self.push_front_over(first);
+    }
+
+    /// Returns the number of characters of the last child.
+    pub(super) fn last_chars(&self) -> usize {
+        let len = self.totals.len();
+        if len == 0 {
+            return 0;
+        }
+        let before = total_before(&self.totals, len - 1);
+        total_before(&self.totals, len)
+            .chars
+            .saturating_sub(before.chars)
+    }
+
+    /// Returns the number of bytes that the first child, a leaf, has room for.
+    pub(super) fn first_room(&self) -> usize {
+        if self.totals.len() == 0 {
+            return 0;
+        }
+        MAX_BYTES.saturating_sub(self.totals.get(0).bytes)
     }
 
     /// Returns the number of bytes of the last child, a leaf. Without children, it returns what

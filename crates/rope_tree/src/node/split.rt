@@ -4,11 +4,12 @@
 //! A path along the start or the end of the tree needs one list beside it. Any other path is padded
 //! first, so that it has a child on each side. On the descent each level allocates the list that it
 //! needs, and takes the list on the path and those beside it out of their list, if these have no
-//! other owner. The leaf is split last: its first part moves into the leaf before it, if that has
-//! room, so that trees which are joined again have no short leaves where they meet, else its second
-//! part gets a new leaf. From there on nothing fails: on the ascent each level moves children
-//! between the two parts of a split list and the lists beside them, so that each keeps at least 12.
-//! Where a node is shared, the tree is as it was, and the caller makes two new trees.
+//! other owner. The leaf is split last: its first part moves into the leaf before it, or its second
+//! part into the leaf after it, if there is room, so that trees which are joined again have no
+//! short leaves where they meet; else its second part gets a new leaf. From there on nothing fails:
+//! on the ascent each level moves children between the two parts of a split list and the lists
+//! beside them, so that each keeps at least 12. Where a node is shared, the tree is as it was, and
+//! the caller makes two new trees.
 ghost use Rattle.std.specs.Prelude.{◌≡◌, ◌+◌, ◌-◌, ◌*◌, ◌^◌, ◌<◌, ◌≤◌, [], ◌∷◌, ◌++◌, true, false, length, take, drop, slice_index_or, IfOk, IfSome, IfNone, OnErr};
 ghost use Rattle.rope_text.specs.declared.TheConstants.{MIN_TWO_LEAVES_BYTES};
 ghost use Rattle.rope_text.specs.Text.{byte_len};
@@ -148,10 +149,47 @@ impl Children {
         false
     }
 
+    /// Splits the last child, a leaf, `inside` characters from its start, without a new leaf: the
+    /// second part moves into the leaf after it, the first child of `rest`, if that has room and no
+    /// other owner and the first part is long enough beside the leaf before it. Returns whether it
+    /// did, as [`give_start`](Children::give_start) does.
+    fn give_end(&mut self, inside: usize, rest: &mut Children) -> bool
+        requires children { AreFamily (self.old ++ rest.old) }
+        requires leaves { height_of (self.old ++ rest.old) ≡ 0 }
+        requires few { byte_len (joined (self.old ++ rest.old)) < 2 ^ 32 }
+        requires some_children { 1 ≤ length self.old }
+        requires some { 1 ≤ inside }
+        requires within { (leaf : Tree)
+            → inside < length (text (slice_index_or self.old (length self.old - 1) leaf)) }
+        ensures front { result ≡ true → IsFrontOf
+            (length (joined (take (length self.old - 1) self.old)) + inside)
+            (self.old ++ rest.old) self.new }
+        ensures back { result ≡ true → IsBackOf
+            (length (joined (take (length self.old - 1) self.old)) + inside)
+            (self.old ++ rest.old) rest.new }
+        ensures following { result ≡ true → 2 ≤ length self.old
+            → MayFollow (self.old ++ rest.old) self.new }
+        ensures ahead { result ≡ true → EndsAs (self.old ++ rest.old) rest.new }
+        ensures kept { result ≡ false → self.new ≡ self.old }
+        ensures kept_rest { result ≡ false → rest.new ≡ rest.old }
+    {
+        if rest.count() == 0 || self.last_chars().saturating_sub(inside) > rest.first_room() {
+            return false;
+        }
+        let mut tail = Children::none();
+        tail.take_from(rest, 1);
+        let (mut leaf, mut right) = (self.pop(), rest.pop());
+        let did = leaf.give_end(&mut right, inside, self.last_leaf_len());
+        self.push(leaf);
+        rest.push(right);
+        rest.take_from(&mut tail, 0);
+        did
+    }
+
     /// Splits the last child, a leaf, `inside` characters from its start, if both parts are long
     /// enough beside the leaves around it. Returns whether it did. The second part becomes the
     /// first child of `rest`, whose children follow; the first part moves into the leaf before it,
-    /// if that has room.
+    /// or the second one into the leaf after it, if there is room.
     fn split_leaf(&mut self, maker: &mut Maker, inside: usize, rest: &mut Children) -> Made<bool>
         requires children { AreFamily (self.old ++ rest.old) }
         requires leaves { height_of (self.old ++ rest.old) ≡ 0 }
@@ -177,6 +215,9 @@ impl Children {
         ensures made { maker.new.made ≤ maker.old.made + 1 }
     {
         if self.give_start(inside, rest) {
+            return Ok(true);
+        }
+        if self.give_end(inside, rest) {
             return Ok(true);
         }
         self.split_leaf_anew(maker, inside, rest)
@@ -522,6 +563,39 @@ impl Node {
             return false;
         };
         leaf.give_start(left, at, after)
+    }
+
+    /// Moves the characters of a leaf from `at` on to the start of the leaf after it, if that has
+    /// room for them, neither has another owner, and the rest is long enough beside a leaf of
+    /// `before` bytes. Returns whether it did.
+    fn give_end(&mut self, right: &mut Node, at: usize, before: usize) -> bool
+        requires leaf { self.old.height ≡ 0 }
+        requires right { right.old.height ≡ 0 }
+        requires within { at < length (text self.old) }
+        ensures right { result ≡ true
+            → right.new ≡ leaf_tree right.old.breaks (drop at (text self.old) ++ text right.old) }
+        ensures rest { result ≡ true
+            → self.new ≡ leaf_tree self.old.breaks (take at (text self.old)) }
+        ensures right_tree { IsTree right.new }
+        ensures tree { IsTree self.new }
+        ensures long { result ≡ true
+            → MIN_TWO_LEAVES_BYTES ≤ before + byte_len (take at (text self.old)) }
+        ensures kept_right { result ≡ false → right.new ≡ right.old }
+        ensures kept { result ≡ false → self.new ≡ self.old }
+    {
+        let Form::Leaf(leaf) = &mut self.form else {
+            return false;
+        };
+        let Form::Leaf(right) = &mut right.form else {
+            return false;
+        };
+        let Some(leaf) = Rc::get_mut(leaf) else {
+            return false;
+        };
+        let Some(right) = Rc::get_mut(right) else {
+            return false;
+        };
+        leaf.give_end(right, at, before)
     }
 
     /// Splits a leaf before the character `at`, if it has no other owner and both parts are long
