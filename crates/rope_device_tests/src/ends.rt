@@ -1,6 +1,7 @@
 //! The outcomes of runs, as their program reports them.
 use rope_plain::failure::{Failure, within};
 use rope_plain::same;
+use rope_plain::texts::expect_shown;
 use rope_protocol::Ended;
 use std::alloc::Global;
 
@@ -16,8 +17,7 @@ const TOLD: [(Ended, u8, &str); 6] = [
 
 /// Fails unless an outcome has this status, and this text.
 fn expect_told(alloc: Global, ended: Ended, status: u8, wanted: &str) -> Result<(), Failure> {
-    let told = format!(in alloc; "{ended}")?;
-    same!(told.as_str(), wanted);
+    expect_shown(format!(in alloc; "{ended}"), wanted)?;
     same!(ended.status(), status);
     Ok(())
 }

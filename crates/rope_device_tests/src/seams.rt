@@ -12,11 +12,21 @@ use std::alloc::{AllocError, Global};
 /// Line breaks of two and three bytes, and characters of two to four.
 const LETTERS: [&str; 7] = ["\r\n", "\u{85}", "\u{2028}", "\u{2029}", "é", "こ", "🐸"];
 
+/// Returns a letter twice between two texts.
+fn text_between(
+    alloc: Global,
+    front: &str,
+    letter: &str,
+    back: &str,
+) -> Result<String, AllocError> {
+    format!(in alloc; "{front}{letter}{letter}{back}")
+}
+
 /// Returns a number of letters before a letter twice, and letters that fill a leaf.
 fn text_around(alloc: Global, before: usize, letter: &str) -> Result<String, AllocError> {
     let front = repeated(alloc, "a", before)?;
     let back = repeated(alloc, "b", 984)?;
-    format!(in alloc; "{front}{letter}{letter}{back}")
+    text_between(alloc, front.as_str(), letter, back.as_str())
 }
 
 /// Fails unless a rope is this text, in few chunks.

@@ -148,11 +148,16 @@ fn long_line(alloc: Global) -> Result<String, AllocError> {
     format!(in alloc; "len {}\n", digits.as_str())
 }
 
-/// Returns three of them, and 2,000 short ones.
+/// Returns a text three times, and then another.
+fn thrice_before(alloc: Global, line: &str, short: &str) -> Result<String, AllocError> {
+    format!(in alloc; "{line}{line}{line}{short}")
+}
+
+/// Returns three long lines, and 2,000 short ones.
 fn long_lines(alloc: Global) -> Result<String, AllocError> {
     let line = long_line(alloc)?;
     let short = repeated(alloc, "len 1\n", 2000)?;
-    format!(in alloc; "{line}{line}{line}{short}")
+    thrice_before(alloc, line.as_str(), short.as_str())
 }
 
 /// Returns the outcome of the run over an input with `room` bytes for replies, and the number of

@@ -21,21 +21,28 @@ impl Read for Dripping<'_> {
     }
 }
 
+/// Fails unless the reply with a number, from 1, is the expected one.
+fn expect_reply(number: usize, found: Option<&str>, wanted: &str) -> Result<(), Failure> {
+    within(
+        format_args!("reply {number}"),
+        expect_same("it", &found, &Some(wanted)),
+    )
+}
+
+/// Fails unless there is no reply.
+fn expect_no_reply(found: Option<&str>) -> Result<(), Failure> {
+    within("past the last reply", expect_same("it", &found, &None))
+}
+
 /// Fails at the first line that is not the expected one, with its number, from 1.
 fn expect_same_lines(found: &str, wanted: &str) -> Result<(), Failure> {
     let mut lines = found.split('\n');
     let mut number: usize = 0;
     for line in wanted.split('\n') {
         number = number.saturating_add(1);
-        within(
-            format_args!("reply {number}"),
-            expect_same("it", &lines.next(), &Some(line)),
-        )?;
+        expect_reply(number, lines.next(), line)?;
     }
-    within(
-        "past the last reply",
-        expect_same("it", &lines.next(), &None),
-    )
+    expect_no_reply(lines.next())
 }
 
 /// Fails unless the bytes written are a text.

@@ -4,6 +4,7 @@
 //! A rope of 20,000 letters has a list of 21 leaves, 20 of them of 984 bytes. A search of 21
 //! children for the eleventh takes five comparisons. An edit first tries the child of the previous
 //! edit, the first one of a fresh list, by two comparisons.
+use crate::texts::chunk_count;
 use rope_plain::failure::Failure;
 use rope_plain::texts::{repeated, rope_of};
 use rope_plain::{holds, same};
@@ -117,7 +118,7 @@ fn expect_counts_of_a_split_and_its_append(rope: &mut Rope) -> Result<(), Failur
     let back = rope.split_off_counted(10_000, &mut split)?;
     rope.append_counted(back, &mut joined)?;
     same!([counts(split), counts(joined)], [[2, 5, 2], [3, 2, 0]]);
-    same!([rope.chunks().count(), rope.depth()], [22, 1]);
+    same!([chunk_count(rope), rope.depth()], [22, 1]);
     Ok(())
 }
 

@@ -1,4 +1,5 @@
 //! Inserts into ropes, against rows worked by hand.
+use crate::texts::chunk_count;
 use rope_plain::compare::{expect_together, lens};
 use rope_plain::failure::{Failure, within};
 use rope_plain::texts::rope_of;
@@ -81,7 +82,7 @@ fn insert_all(rope: &mut Rope, inserts: &[(usize, &str)]) -> Result<(), Failure>
 
 fn expect_edited(rope: &mut Rope, row: &Row<'_>) -> Result<(), Failure> {
     insert_all(rope, row.inserts)?;
-    let chunks = rope.chunks().count();
+    let chunks = chunk_count(rope);
     same!(lens(rope), row.lens);
     holds!(row.least <= chunks);
     holds!(chunks <= row.most);

@@ -1,4 +1,5 @@
 //! Removals that leave little of each chunk: the rest is in few chunks.
+use crate::texts::chunk_count;
 use rope_plain::compare::{expect_no_short_chunks, expect_text};
 use rope_plain::failure::{Failure, within};
 use rope_plain::numbers::Numbers;
@@ -59,7 +60,7 @@ fn expect_all_emptied(rope: &mut Rope) -> Result<(), Failure> {
 }
 
 fn expect_ends_left(alloc: Global, rope: &mut Rope) -> Result<(), Failure> {
-    same!(rope.chunks().count(), CHUNKS);
+    same!(chunk_count(rope), CHUNKS);
     expect_all_emptied(rope)?;
     expect_only_ends(alloc, rope)
 }
@@ -90,7 +91,7 @@ fn expect_million_removed(rope: &mut Rope) -> Result<(), Failure> {
             expect_thousand_removed(rope, &mut numbers),
         )?;
     }
-    same!([rope.len_bytes(), rope.chunks().count()], [0, 0]);
+    same!([rope.len_bytes(), chunk_count(rope)], [0, 0]);
     Ok(())
 }
 

@@ -1,4 +1,5 @@
 //! Ropes that are re-chunked after many edits have left their chunks short.
+use crate::texts::chunk_count;
 use rope_plain::compare::{expect_few_chunks, expect_plain_unicode, lens};
 use rope_plain::failure::Failure;
 use rope_plain::same;
@@ -14,7 +15,7 @@ fn type_at_the_front(rope: &mut Rope, count: usize) -> Result<(), Error> {
 fn expect_typed(rope: &mut Rope) -> Result<(), Failure> {
     type_at_the_front(rope, 5_000)?;
     same!(lens(rope), [5_000, 5_000, 1, 5_000]);
-    same!(rope.chunks().count(), 6);
+    same!(chunk_count(rope), 6);
     expect_plain_unicode(rope, &['a'; 5_000])
 }
 

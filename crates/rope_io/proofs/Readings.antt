@@ -11,11 +11,13 @@ use Rattle.rope_text.specs.Text.{byte_len}
 use Rattle.rope_text.specs.Edit.{size_error, IsRefusal}
 use Rattle.rope_text.specs.Read.{text_front, text_rest, IsRefused}
 use Rattle.rope_text.specs.declared.error.Error.{Error}
+use Rattle.rope_text.specs.declared.error.Error.TheVariants.{OutOfMemory}
 use Rattle.rope_text.proofs.ReadLaws.{IsUtf8-text_front, utf8_valid_len-append, text_rest-append}
 use Rattle.std.specs.Prelude.{Result, Ok, Err}
 use Rattle.std.specs.Result.{IsErrAnd}
 use Rattle.rope_io.specs.declared.error.ReadError.{ReadError}
-use Rattle.rope_io.specs.declared.error.ReadError.TheVariants.{Rope}
+use Rattle.rope_io.specs.declared.error.ReadError.TheVariants.{Read, InvalidData, Rope}
+use Rattle.rope_io.specs.Failing.{reader_failure}
 use Rattle.rope_io.specs.Reading.{Fits, has_ended, Answers}
 use Rattle.rope_io.proofs.Buffers.{length-front_read}
 use Rattle.rope_io.proofs.Buffers as buffers
@@ -179,3 +181,29 @@ pub refusal_answers : {R : Type 0} (text_of : R → List ℕ) (bytes : List ℕ)
 refusal_answers text_of bytes left failed (Ok x) e is answers = absurd is
 refusal_answers text_of bytes left failed (Err y) e is answers =
     subst (λ z. Answers text_of bytes left failed (Err z)) (sym is) answers
+
+-- and one that is passed on as it is
+pub same_answers : {R Q : Type 0} (f : R → List ℕ) (h : Q → List ℕ) (bytes : List ℕ)
+    (left : Option (List ℕ)) (failed : Bool) (e : ReadError) (r : Result Q ReadError)
+    → IsErrAnd r (λ y. y ≡ e) → Answers f bytes left failed (Err e) → Answers h bytes left failed r
+same_answers f h bytes left failed e (Ok x) is answers = absurd is
+same_answers f h bytes left failed (Read e) (Err y) is answers =
+    subst (λ z. Answers h bytes left failed (Err z)) (sym is) answers
+same_answers f h bytes left failed InvalidData (Err y) is answers =
+    subst (λ z. Answers h bytes left failed (Err z)) (sym is) answers
+same_answers f h bytes left failed (Rope e) (Err y) is answers =
+    subst (λ z. Answers h bytes left failed (Err z)) (sym is) answers
+
+pub same_failure : (R : Type 0) {Q : Type 0} (e : ReadError) (r : Result Q ReadError)
+    → IsErrAnd r (λ y. y ≡ e) → reader_failure {R = R} (Err e) ≡ reader_failure r
+same_failure R e (Ok x) is = absurd is
+same_failure R {Q} (Read e) (Err y) is = ap (λ z. reader_failure {R = Q} (Err z)) (sym is)
+same_failure R {Q} InvalidData (Err y) is = ap (λ z. reader_failure {R = Q} (Err z)) (sym is)
+same_failure R {Q} (Rope e) (Err y) is = ap (λ z. reader_failure {R = Q} (Err z)) (sym is)
+
+-- a text whose nodes have no memory
+pub no_memory : (bytes : List ℕ) → length bytes < 2 ^ 63
+    → IsRefusal (size_error (length (text_front bytes))) OutOfMemory
+no_memory bytes short =
+    rw (size_fits (length (text_front bytes))
+    (omega (arith, length-text_front bytes, utf8_valid_len_le bytes))) refl

@@ -1,12 +1,12 @@
 -- A write in progress.
-use Rattle.std.proofs.Common.{◌≡◌, ◌<◌, ℕ, Bool, false, List, [], ◌++◌, arith, Ok, sym, ap, subst, ◌∙◌, append_assoc, Option, None}
+use Rattle.std.proofs.Common.{◌≡◌, ◌<◌, ℕ, Bool, false, List, [], ◌++◌, arith, Ok, sym, ap, subst, ◌∙◌, append_assoc, Option, None, length}
 use Rattle.std.proofs.KnownBytes.{Appends-trans}
 use Rattle.std.specs.Io.KnownBytes.{Appends}
 use Rattle.std.specs.List.{concat}
 use Rattle.std.specs.Str.{chars, encode_utf8_all, IsUtf8}
 use Rattle.std.proofs.lemmas.Bool.{cond-false, ne_eqb}
 use Rattle.std.proofs.lemmas.Str.{encodes-append, encodes-chars}
-use Rattle.std.proofs.lemmas.List.{append-nil}
+use Rattle.std.proofs.lemmas.List.{append-nil, nil_from_length}
 use Rattle.rope_io.specs.declared.device.Failure.{Failure}
 use Rattle.rope_io.specs.Failing.{write_failure}
 use Rattle.rope_io.specs.Writing.{AppendsFront}
@@ -30,6 +30,14 @@ took_some n bs some = cond-false _ _ _ (ne_eqb n 0 (λ e. omega (arith, e, some)
 pub front_all : (old new : Option (List ℕ)) (bs : List ℕ) → Appends old new bs
     → AppendsFront old new bs
 front_all old new bs p = record { front = bs; back = []; whole = sym (append-nil bs); appended = p }
+
+-- no byte is left
+pub all_done : (start now : Option (List ℕ)) (bytes rest : List ℕ) → IsWriting start now bytes rest
+    → length rest ≡ 0 → Appends start now bytes
+all_done start now bytes rest w none =
+    subst (Appends start now)
+    (sym (w.whole ∙ ap (λ zs. w.done ++ zs) (nil_from_length rest none) ∙ append-nil w.done))
+    w.appended
 
 -- a write of the next bytes that stopped before their end
 pub front_more : (start mid end : Option (List ℕ)) (bytes done next rest : List ℕ)

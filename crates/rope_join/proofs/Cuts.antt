@@ -1,15 +1,17 @@
 -- A node split at one of its children.
-use Rattle.std.proofs.Common.{◌≡◌, ℕ, ◌+◌, ◌^◌, ◌<◌, ◌≤◌, List, [], ◌∷◌, ◌++◌, length, take, drop, get_or, refl, sym, ap, subst, ◌∙◌, arith, inl, inr}
+use Rattle.std.proofs.Common.{◌≡◌, ℕ, ◌+◌, ◌-◌, ◌^◌, ◌<◌, ◌≤◌, List, [], ◌∷◌, ◌++◌, length, take, drop, get_or, refl, sym, ap, subst, ◌∙◌, arith, inl, inr}
 use Rattle.std.specs.List.{concat, All}
 use Rattle.std.proofs.lemmas.Bool.{cases_lt}
-use Rattle.std.proofs.lemmas.List.{append-nil, length-append, length-drop, length-take-le, take-append-drop, drop_more, nil_from_length}
+use Rattle.std.proofs.lemmas.List.{append-nil, length-append, length-drop, length-take-le, take-append-drop, drop_more, nil_from_length, take_all}
 use Rattle.rope_text.specs.declared.line_breaks.LineBreaks.{LineBreaks}
+use Rattle.rope_text.specs.declared.text_info.TextInfo.{TextInfo}
 use Rattle.rope_text.specs.Text.{byte_len}
 use Rattle.rope_text.proofs.Measures.{IsMeasure-byte_len, size_parts}
 use Rattle.rope_text.proofs.CuttingLaws.{concat-append}
 use Rattle.rope_tree.specs.Leaves.{AreLeaves, IsSeam}
-use Rattle.rope_tree.specs.Tree.{Tree, text, joined, leaves_of, height_of, breaks_of, tree_over, IsTree, IsChild, AreChildren}
+use Rattle.rope_tree.specs.Tree.{Tree, text, joined, leaves_of, height_of, breaks_of, leaf_tree, tree_over, IsTree, IsChild, AreChildren}
 use Rattle.rope_tree.specs.Siblings.{AreSiblings}
+use Rattle.rope_tree.specs.Totals.{HasTotals}
 use Rattle.rope_text.specs.Dense.{IsDenseAfter, last_bytes}
 use Rattle.rope_text.proofs.DenseLaws.{last_bytes-append, last_bytes-some, dense_left, dense_more}
 use Rattle.rope_tree.proofs.LeafLaws.{all_left, all_right, leaves_left, leaves_right, leaves_seam, leaves_near, seam_of_left, seam-take, seam-drop}
@@ -17,6 +19,8 @@ use Rattle.rope_tree.proofs.BuildLaws.{nodes_le}
 use Rattle.rope_tree.proofs.TreeLaws.{height_of_is, breaks_of_is}
 use Rattle.rope_tree.proofs.NodeLaws.{child_at}
 use Rattle.rope_tree.proofs.Descents.{leaves_at}
+use Rattle.rope_tree.proofs.InsertLeaves.{text_of_leaf}
+use Rattle.rope_tree.proofs.InsertDescents.{last_total}
 use Rattle.rope_tree.proofs.InsertTrees.{text_around}
 use Rattle.rope_tree.proofs.InsertLaws.{front_of, rest_of}
 use Rattle.rope_join.specs.Join.{CanJoin, IsNear, IsJoin}
@@ -348,6 +352,73 @@ whole_back n r at i z some e =
   where
     all : (a b : ℕ) → last_bytes a n.leaves ≤ last_bytes b n.leaves
     all a b = omega (arith, last_bytes-some a b n.leaves (some_list n.leaves some))
+
+pub whole_front : (n r : Tree) (at : ℕ) → IsTree n → at ≡ length (text n) → r ≡ n → IsFront at n r
+whole_front n r at i e same =
+    rw same (record {
+      text_is = sym (take_all at (text n) (omega arith));
+      same_breaks = refl;
+      leaves = i.leaves;
+      not_higher = omega arith;
+      near = λ _ _ dense. dense;
+      following = λ _ _ dense. dense;
+    })
+
+-- a side of a split leaf
+pub leaf_front : (n r : Tree) (l : List ℕ) (at : ℕ) → n ≡ leaf_tree n.breaks l
+    → r ≡ leaf_tree n.breaks (take at l) → IsTree r → 1 ≤ at → at < length l → IsFront at n r
+leaf_front n r [] at is e i some lt = absurd (omega (arith, lt))
+leaf_front n r (c ∷ cs) at is e i some lt =
+    let low = ap (λ t. t.height) e in
+    let one = ap (λ t. t.leaves) is in
+    record {
+      text_is = text_of_leaf n.breaks r (take at (c ∷ cs)) e
+          ∙ ap (take at) (sym (text_of_leaf n.breaks n (c ∷ cs) is));
+      same_breaks = ap (λ t. t.breaks) e;
+      leaves = i.leaves;
+      not_higher = omega (arith, low);
+      near = λ high. absurd (omega (arith, low, high));
+      following = λ s. absurd (omega (arith, lt, s.past, ap first_chars one));
+    }
+
+pub leaf_back : (n r : Tree) (l : List ℕ) (at : ℕ) → n ≡ leaf_tree n.breaks l
+    → r ≡ leaf_tree n.breaks (drop at l) → IsTree r → 1 ≤ at → at < length l → IsBack at n r
+leaf_back n r [] at is e i some lt = absurd (omega (arith, lt))
+leaf_back n r (c ∷ cs) at is e i some lt =
+    let low = ap (λ t. t.height) e in
+    let whole = text_of_leaf n.breaks n (c ∷ cs) is in
+    let last = ap (λ t. last_chars 0 t.leaves) is in
+    record {
+      text_is = text_of_leaf n.breaks r (drop at (c ∷ cs)) e ∙ ap (drop at) (sym whole);
+      same_breaks = ap (λ t. t.breaks) e;
+      leaves = i.leaves;
+      not_higher = omega (arith, low);
+      near = λ high. absurd (omega (arith, low, high));
+      ahead = λ s. absurd (omega (arith, some, s.before, last, ap length whole));
+    }
+
+-- a side with characters has a leaf
+pub front_some : (k : ℕ) (t p : Tree) → 1 ≤ k → k ≤ length (text t) → IsFront k t p
+    → 1 ≤ length p.leaves
+front_some k t p some le i =
+    some_list p.leaves (omega (arith, ap length i.text_is, length-take-le k (text t) le, some))
+
+pub back_some : (k : ℕ) (t p : Tree) → k < length (text t) → IsBack k t p → 1 ≤ length p.leaves
+back_some k t p lt i =
+    some_list p.leaves (omega (arith, ap length i.text_is, length-drop k (text t), lt))
+
+-- a character of a node is before the end that the last total counts
+pub under_last : (n : Tree) (br : LineBreaks) (h : ℕ) (totals : List TextInfo) (ts : List Tree)
+    (at : ℕ) → n ≡ tree_over ts → AreChildren br h ts → HasTotals (breaks_of ts) totals ts
+    → at < length (text n) → (d : TextInfo) → at < (get_or totals (length totals - 1) d).chars
+under_last n br h totals ts at is a right lt d =
+    let some : 1 ≤ length ts = omega (arith, a.at_least_two) in
+    omega (
+      arith,
+      lt,
+      ap (λ t. length (text t)) is,
+      ap (λ i. i.chars) (last_total (breaks_of ts) totals ts right some d),
+    )
 
 -- a front is near any tree that the whole is near
 pub front_is_near : (k : ℕ) (a t p : Tree) → IsDenseAfter (last_bytes 492 a.leaves) t.leaves

@@ -19,6 +19,42 @@ no_front text = chars-nil
 pub no_rest : (text : List ℕ) (at : ℕ) → length text ≤ at → chars (drop at text) ≡ []
 no_rest text at past = ap chars (drop_all at text past) ∙ chars-nil
 
+-- over a character of the chunk
+module _ (p : Place) (chunk : List ℕ) (start end x : ℕ) (b : IsCharBetween chunk start end x) where
+  pub before_passed : concat p.before ++ chars (take end chunk)
+      ≡ (concat p.before ++ chars (take start chunk)) ++ x ∷ []
+  before_passed = ap (λ cs. concat p.before ++ cs) b.front
+      ∙ sym (append_assoc (concat p.before) (chars (take start chunk)) (x ∷ []))
+
+  pub after_passed : chars (drop start chunk) ++ concat p.after
+      ≡ x ∷ (chars (drop end chunk) ++ concat p.after)
+  after_passed = ap (λ cs. cs ++ concat p.after) b.rest
+
+  one_more : length (concat p.before ++ chars (take end chunk))
+      ≡ length (concat p.before ++ chars (take start chunk)) + 1
+  one_more = ap length before_passed
+      ∙ length-append (concat p.before ++ chars (take start chunk)) (x ∷ [])
+
+  pub cursor_after : (passed total : ℕ) → IsCharCursor p chunk start passed total
+      → IsCharCursor p chunk end (passed + 1) total
+  cursor_after passed total c = record {
+    chunk_is = c.chunk_is;
+    cut = b.end_cut;
+    passed_is = omega (arith, c.passed_is, one_more);
+    total_is = omega (arith, c.total_is, ap length after_passed);
+    solid = c.solid;
+  }
+
+  pub cursor_before : (passed total : ℕ) → IsCharCursor p chunk end passed total
+      → IsCharCursor p chunk start (passed - 1) total
+  cursor_before passed total c = record {
+    chunk_is = c.chunk_is;
+    cut = b.start_cut;
+    passed_is = omega (arith, c.passed_is, one_more);
+    total_is = omega (arith, c.passed_is, c.total_is, one_more, ap length after_passed);
+    solid = c.solid;
+  }
+
 -- the characters before the next chunk, and those from it on
 module _ (p q : Place) (chunk next : List ℕ) (n : IsNext p q) (h : IsChunkAt p chunk)
     (k : IsChunkAt q next) where

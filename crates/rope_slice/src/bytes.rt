@@ -11,7 +11,7 @@ ghost use Rattle.rope_slice.specs.Slice.{text_of};
 ghost use Rattle.rope_slice.specs.Hints.{CountsAhead};
 
 use crate::point::{end_of, step_chunk};
-use crate::slice::{RopeSlice, within};
+use crate::slice::RopeSlice;
 use crate::span::Span;
 use rope_tree::Unit;
 use std::alloc::AllocError;
@@ -88,7 +88,10 @@ impl<'a> RopeSlice<'a> {
         ensures { GivesWithin byte_idx (byte_len (text_of self.now)) result
             (λ bytes. bytes ≡ at_place (encode_utf8_all (text_of self.now)) byte_idx) }
     {
-        Some(self.bytes_at(within(byte_idx, self.len_bytes())?))
+        if byte_idx > self.len_bytes() {
+            return None;
+        }
+        Some(self.bytes_at(byte_idx))
     }
 }
 

@@ -13,7 +13,7 @@ ghost use Rattle.rope_slice.specs.Slice.{content_of, text_of, chunks_of, breaks_
 ghost use Rattle.rope_slice.specs.Starts.{IsItem, size_in, chunk_place};
 
 use crate::path::Heads;
-use crate::slice::{RopeSlice, within};
+use crate::slice::RopeSlice;
 use crate::span::Span;
 use rope_tree::{Unit, count};
 use std::alloc::AllocError;
@@ -153,7 +153,10 @@ impl<'a> RopeSlice<'a> {
             (StandsBefore (content_of self.now)
             (chunk_place_at_byte (chunks_of self.now) byte_idx)) }
     {
-        Some(self.chunks_at_byte(within(byte_idx, self.len_bytes())?))
+        if byte_idx > self.len_bytes() {
+            return None;
+        }
+        Some(self.chunks_at_byte(byte_idx))
     }
 
     /// Returns a cursor as `chunks_at_char` does, or `None` exactly if the index is past
@@ -163,7 +166,10 @@ impl<'a> RopeSlice<'a> {
             (StandsBefore (content_of self.now)
             (chunk_place_at_char (chunks_of self.now) char_idx)) }
     {
-        Some(self.chunks_at_char(within(char_idx, self.len_chars())?))
+        if char_idx > self.len_chars() {
+            return None;
+        }
+        Some(self.chunks_at_char(char_idx))
     }
 
     /// Returns a cursor as `chunks_at_line_break` does, or `None` exactly if the index is past
@@ -173,7 +179,10 @@ impl<'a> RopeSlice<'a> {
             result (StandsBefore (content_of self.now)
             (chunk_place_at_line_break (breaks_of self.now) (chunks_of self.now) line_break_idx)) }
     {
-        Some(self.chunks_at_line_break(within(line_break_idx, self.len_lines())?))
+        if line_break_idx > self.len_lines() {
+            return None;
+        }
+        Some(self.chunks_at_line_break(line_break_idx))
     }
 }
 

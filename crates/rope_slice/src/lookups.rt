@@ -194,8 +194,10 @@ impl<'a> RopeSlice<'a> {
     pub fn get_byte(&self, byte_idx: usize) -> Option<u8>
         ensures { result ≡ slice_get (encode_utf8_all (text_of self.now)) byte_idx }
     {
-        let last = self.len_bytes().checked_sub(1)?;
-        Some(self.byte(within(byte_idx, last)?))
+        if byte_idx >= self.len_bytes() {
+            return None;
+        }
+        Some(self.byte(byte_idx))
     }
 
     /// Returns the character `char_idx`, or `None` exactly if the index is `len_chars()` or more.
@@ -232,7 +234,10 @@ impl<'a> RopeSlice<'a> {
         ensures { GivesWithin char_idx (length (text_of self.now)) result
             (ShowsChunk (content_of self.now) (chunk_index_at_char (chunks_of self.now) char_idx)) }
     {
-        Some(self.chunk_at_char(within(char_idx, self.len_chars())?))
+        if char_idx > self.len_chars() {
+            return None;
+        }
+        Some(self.chunk_at_char(char_idx))
     }
 
     /// Returns a chunk as `chunk_at_line_break` does, or `None` exactly if the index is past
@@ -242,7 +247,10 @@ impl<'a> RopeSlice<'a> {
             result (ShowsChunk (content_of self.now)
             (chunk_index_at_line_break (breaks_of self.now) (chunks_of self.now) line_break_idx)) }
     {
-        Some(self.chunk_at_line_break(within(line_break_idx, self.len_lines())?))
+        if line_break_idx > self.len_lines() {
+            return None;
+        }
+        Some(self.chunk_at_line_break(line_break_idx))
     }
 
     // Converts an index in the unit `from` to one in the unit `to`: the character that contains the

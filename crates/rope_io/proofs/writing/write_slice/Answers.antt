@@ -69,3 +69,21 @@ returns-clause-front g c =
     let i = c.loop-chunk.invariant.written in
     front_all _ _ _ (all_written _ _ _ i.before (ahead c.loop-chunk.chunk-iterator)
     c.in-None.ensures.steps.0 i.whole i.appended)
+
+pub returns-clause-ok : goal.returns-clause-ok
+returns-clause-ok g c =
+    let i = c.loop-chunk.invariant.written in
+    all_written _ _ _ i.before (ahead c.loop-chunk.chunk-iterator) c.in-None.ensures.steps.0 i.whole
+    i.appended
+
+pub returns-clause-failed : goal.returns-clause-failed
+returns-clause-failed g c =
+    let clear = c.loop-chunk.invariant.none_failed.clear in
+    ((λ e. absurd (cc)), (λ m. absurd (cc)))
+
+pub returns-clause-failure : goal.returns-clause-failure
+returns-clause-failure g c =
+    let f = c.loop-chunk.invariant.none_failed in (
+      f.none,
+      f.same ∙ ap (λ k. count_failure k (g.S.Mark.failures c.args.sink.now)) (sym f.none),
+    )

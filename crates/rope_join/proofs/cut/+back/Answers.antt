@@ -8,11 +8,13 @@ use Rattle.rope_tree.specs.declared.node.Nodes.{Nodes}
 use Rattle.rope_tree.specs.Tree.{text, joined, height_of, breaks_of, leaf_tree}
 use Rattle.rope_tree.specs.View.{trees_in}
 use Rattle.rope_tree.specs.Siblings.{gathered}
+use Rattle.rope_tree.proofs.InsertLeaves.{text_of_leaf}
+use Rattle.rope_tree.proofs.LastCalls.{both_ok}
 use Rattle.rope_tree.proofs.NodeLaws.{small_totals}
 use Rattle.rope_tree.proofs.Descents.{Descends, descends}
 use Rattle.rope_join.specs.Cut.{IsBack, ArePart, IsWithBack}
 use Rattle.rope_join.proofs.Empty.{empty_back}
-use Rattle.rope_join.proofs.Cuts.{CutsAt, cuts_at, back_alone, back_joins, back_is_near, beside_at, whole_back}
+use Rattle.rope_join.proofs.Cuts.{CutsAt, cuts_at, back_alone, back_joins, back_is_near, back_some, beside_at, leaf_back, under_last, whole_back}
 use Rattle.rope_join.proofs.Parts.{back_made}
 use Rattle.rope_join.proofs.cut.+back.Goals.{back_part-After-index-children-place, back_part-After-index-children-place-2}
 use Rattle.rope_join.proofs.cut.+back.Goals as goal
@@ -189,3 +191,37 @@ back-returns-then-at-eq0-clause-back t c =
     IfOk-weaker c.share.result (λ part. part ≡ n) (IsBack c.args.at n)
     (λ part same. whole_back n part c.args.at c.info.ensures.tree c.if-at-eq0.true some same)
     c.share.ensures.same
+
+pub back-returns-in-Leaf-clause-back : goal.back-returns-in-Leaf-clause-back
+back-returns-in-Leaf-clause-back t c =
+    let n = c.args.node.now in
+    let is = c.in-Leaf.ensures.is in
+    let whole = text_of_leaf n.breaks n c.in-Leaf.leaf is in
+    let some : 1 ≤ c.args.at = omega (arith, c.if-at-eq0.false) in
+    let inside : c.args.at < length c.in-Leaf.leaf =
+    omega (
+      arith,
+      c.if-at-info.false,
+      ap (λ i. i.chars) c.info.ensures.value,
+      ap length whole,
+    ) in
+    both_ok c.leaf_part.result _ _ (IsBack c.args.at n)
+    (λ part ok tree. leaf_back n part c.in-Leaf.leaf c.args.at is ok tree some inside)
+    c.leaf_part.ensures.ok c.leaf_part.ensures.tree
+
+pub back_part-child_at-place-requires-clause-last :
+    goal.back_part-child_at-place-requires-clause-last
+back_part-child_at-place-requires-clause-last t c =
+    under_last c.args.node.now _ _ c.in-Inner.totals.now c.in-Inner.children.now c.args.at
+    c.in-Inner.ensures.is c.in-Inner.ensures.children c.in-Inner.ensures.totals_right
+    c.requires.within
+
+pub with_back-unite-requires-clause-left_some : goal.with_back-unite-requires-clause-left_some
+with_back-unite-requires-clause-left_some t c =
+    back_some c.args.at c.args.left.now c.in_ok-part.part c.requires.within
+    c.in_ok-part.ensures.back
+
+pub with_back-unite_before-requires-clause-left_some :
+    goal.with_back-unite_before-requires-clause-left_some
+with_back-unite_before-requires-clause-left_some t c =
+    back_some c.args.at c.args.left.now _ c.requires.within c.in_ok-row.ensures.back

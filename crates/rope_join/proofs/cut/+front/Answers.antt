@@ -1,4 +1,4 @@
-use Rattle.std.proofs.Common.{◌≡◌, ℕ, ◌+◌, ◌-◌, ◌≤◌, [], ◌∷◌, ◌++◌, length, take, drop, get_or, sym, ap, subst, ◌∙◌, arith}
+use Rattle.std.proofs.Common.{◌≡◌, ℕ, ◌+◌, ◌-◌, ◌<◌, ◌≤◌, [], ◌∷◌, ◌++◌, length, take, drop, get_or, sym, ap, subst, ◌∙◌, arith}
 use Rattle.std.specs.Str.{chars}
 use Rattle.std.proofs.lemmas.Str.{chars-nil}
 use Rattle.std.proofs.lemmas.Result.{IfOk-weaker}
@@ -8,11 +8,13 @@ use Rattle.rope_tree.specs.declared.node.Nodes.{Nodes}
 use Rattle.rope_tree.specs.Tree.{text, joined, height_of, breaks_of, leaf_tree}
 use Rattle.rope_tree.specs.View.{trees_in}
 use Rattle.rope_tree.specs.Siblings.{gathered}
+use Rattle.rope_tree.proofs.InsertLeaves.{text_of_leaf}
+use Rattle.rope_tree.proofs.LastCalls.{both_ok}
 use Rattle.rope_tree.proofs.NodeLaws.{small_totals}
 use Rattle.rope_tree.proofs.Descents.{Descends, descends}
 use Rattle.rope_join.specs.Cut.{IsFront, ArePart, IsWithFront}
 use Rattle.rope_join.proofs.Empty.{empty_front}
-use Rattle.rope_join.proofs.Cuts.{CutsAt, cuts_at, front_alone, front_joins, beside_at}
+use Rattle.rope_join.proofs.Cuts.{CutsAt, cuts_at, front_alone, front_joins, front_some, leaf_front, whole_front, under_last, beside_at}
 use Rattle.rope_join.proofs.Parts.{front_made}
 use Rattle.rope_join.proofs.cut.+front.Goals.{front_part-After-index-children-place, front_part-After-index-children-place-2}
 use Rattle.rope_join.proofs.cut.+front.Goals as goal
@@ -162,3 +164,46 @@ front-returns-then-at-eq0-clause-front t c =
     (λ part is. empty_front n part (chars []) c.args.at (is
     ∙ ap (λ b. leaf_tree b (chars [])) c.line_breaks.ensures) chars-nil c.if-at-eq0.true)
     c.leaf_of.ensures.ok
+
+pub front-returns-then-at-info-clause-front : goal.front-returns-then-at-info-clause-front
+front-returns-then-at-info-clause-front t c =
+    let n = c.args.node.now in
+    IfOk-weaker c.share.result (λ part. part ≡ n) (IsFront c.args.at n)
+    (λ part same. whole_front n part c.args.at c.info.ensures.tree (c.if-at-info.true
+    ∙ ap (λ i. i.chars) c.info.ensures.value) same)
+    c.share.ensures.same
+
+pub front-returns-in-Leaf-clause-front : goal.front-returns-in-Leaf-clause-front
+front-returns-in-Leaf-clause-front t c =
+    let n = c.args.node.now in
+    let is = c.in-Leaf.ensures.is in
+    let whole = text_of_leaf n.breaks n c.in-Leaf.leaf is in
+    let some : 1 ≤ c.args.at = omega (arith, c.if-at-eq0.false) in
+    let inside : c.args.at < length c.in-Leaf.leaf =
+    omega (
+      arith,
+      c.if-at-info.false,
+      ap (λ i. i.chars) c.info.ensures.value,
+      ap length whole,
+    ) in
+    both_ok c.leaf_part.result _ _ (IsFront c.args.at n)
+    (λ part ok tree. leaf_front n part c.in-Leaf.leaf c.args.at is ok tree some inside)
+    c.leaf_part.ensures.ok c.leaf_part.ensures.tree
+
+pub front_part-child_at-place-requires-clause-last :
+    goal.front_part-child_at-place-requires-clause-last
+front_part-child_at-place-requires-clause-last t c =
+    under_last c.args.node.now _ _ c.in-Inner.totals.now c.in-Inner.children.now (c.args.at - 1)
+    c.in-Inner.ensures.is c.in-Inner.ensures.children c.in-Inner.ensures.totals_right
+    (omega (arith, c.requires.within, c.requires.some))
+
+pub with_front-unite-requires-clause-right_some : goal.with_front-unite-requires-clause-right_some
+with_front-unite-requires-clause-right_some t c =
+    front_some c.args.at c.args.right.now c.in_ok-part.part c.requires.some c.requires.within
+    c.in_ok-part.ensures.front
+
+pub with_front-unite_after-requires-clause-right_some :
+    goal.with_front-unite_after-requires-clause-right_some
+with_front-unite_after-requires-clause-right_some t c =
+    front_some c.args.at c.args.right.now _ c.requires.some c.requires.within
+    c.in_ok-row.ensures.front

@@ -6,7 +6,7 @@ use Rattle.rope_tree.specs.Tree.{text, joined, height_of, breaks_of, IsTree}
 use Rattle.rope_tree.proofs.NodeLaws.{small_totals}
 use Rattle.rope_tree.proofs.Descents.{Descends, descends}
 use Rattle.rope_join.specs.Cut.{IsSides}
-use Rattle.rope_join.proofs.Cuts.{CutsAt, cuts_at}
+use Rattle.rope_join.proofs.Cuts.{CutsAt, cuts_at, under_last}
 use Rattle.rope_join.proofs.Gaps.{leaf_by_bytes}
 use Rattle.rope_join.proofs.OneChild.{same_child, in_order, part_fits, part_seam, some_by, near_by, next_by, can_put, put_sides, can_put_at_end, first_sides, last_sides}
 use Rattle.rope_join.proofs.Ends.{low_before, low_after}
@@ -47,6 +47,18 @@ pub child_at-last-requires-clause-small : goal.child_at-last-requires-clause-sma
 child_at-last-requires-clause-small t c =
     small_totals _ c.in-Inner.totals.now c.in-Inner.children.now c.in-Inner.ensures.totals_right
     c.in-Inner.ensures.children.fits
+
+pub child_at-first-requires-clause-last : goal.child_at-first-requires-clause-last
+child_at-first-requires-clause-last t c =
+    under_last c.args.node.now _ _ c.in-Inner.totals.now c.in-Inner.children.now c.args.start
+    c.in-Inner.ensures.is c.in-Inner.ensures.children c.in-Inner.ensures.totals_right
+    (omega (arith, c.requires.ordered, c.requires.within))
+
+pub child_at-last-requires-clause-last : goal.child_at-last-requires-clause-last
+child_at-last-requires-clause-last t c =
+    under_last c.args.node.now _ _ c.in-Inner.totals.now c.in-Inner.children.now (c.args.end - 1)
+    c.in-Inner.ensures.is c.in-Inner.ensures.children c.in-Inner.ensures.totals_right
+    (omega (arith, c.requires.ordered, c.requires.within))
 
 first_cut : (t : ℕ) (c : After-total_before-2 t)
     → CutsAt c.args.node.now (take c.child_at-first.result c.in-Inner.children.now)
@@ -450,3 +462,18 @@ returns-then-last-children-2-clause-sides t c =
           (c.child_at-last.result + 1) c.if-first-last-2.part can (at_last t f all))
           (p.following all)
     ]) c.put_at_end.ensures.put
+
+pub stands-requires-clause-children : goal.stands-requires-clause-children
+stands-requires-clause-children t c = c.in-Inner.ensures.children
+
+pub stands-requires-clause-some : goal.stands-requires-clause-some
+stands-requires-clause-some t c =
+    leaf_by_bytes c.in_ok-part.part
+    (omega (arith, c.if-info-gt0.true, ap (λ x. x.bytes) c.info.ensures.value))
+
+pub put-requires-clause-children : goal.put-requires-clause-children
+put-requires-clause-children t c = c.in-Inner.ensures.children
+
+pub put-requires-then-spares_last-clause-children :
+    goal.put-requires-then-spares_last-clause-children
+put-requires-then-spares_last-clause-children t c = c.in-Inner.ensures.children

@@ -45,14 +45,13 @@ each c = subst (All (IsChild (breaks_of c.args.children.now) (height_of c.args.c
     (level_each c.args.children.now c.args.first c.args.past c.args.part.now c.requires.children
     c.requires.put c.in-Inner.nodes.now c.in-Inner.ensures.is c.in-Inner.ensures.children (high c))
 
+count : (c : After-new) → (2 ≤ length (all c)) × (length (all c) ≤ 48)
+count c = rw (rows c)
+    (level_count c.args.children.now c.args.first c.args.past c.args.part.now c.requires.children
+    c.requires.put c.in-Inner.nodes.now c.in-Inner.ensures.is c.in-Inner.ensures.children (high c))
+
 many : (c : After-new) → 2 ≤ length (all c)
-many c = omega (
-  arith,
-  ap length (rows c),
-  (level_count c.args.children.now c.args.first c.args.past c.args.part.now c.requires.children
-      c.requires.put c.in-Inner.nodes.now c.in-Inner.ensures.is c.in-Inner.ensures.children
-      (high c)).0,
-)
+many c = (count c).0
 
 recuts : (c : After-new)
     → Recuts (leaves_before c.args.children.now c.args.first)
@@ -69,6 +68,16 @@ pack_over-requires-clause-siblings c =
     let e = (goal.at.pack_over-requires-clause-siblings c).After-new in
     put_level c.args.children.now c.args.first c.args.past c.args.part.now c.requires.children
     c.requires.put (all e) (each e) (many e) (recuts e)
+
+pub pack_over-requires-clause-at_least_two : goal.pack_over-requires-clause-at_least_two
+unfolding all
+pack_over-requires-clause-at_least_two c =
+    many (goal.at.pack_over-requires-clause-at_least_two c).After-new
+
+pub pack_over-requires-clause-at_most_48 : goal.pack_over-requires-clause-at_most_48
+unfolding all
+pack_over-requires-clause-at_most_48 c =
+    (count (goal.at.pack_over-requires-clause-at_most_48 c).After-new).1
 
 pub root_of-requires : goal.root_of-requires
 unfolding all
@@ -137,16 +146,16 @@ two_each c =
     c.requires.put c.index-children-first.result (sym c.index-children-first.is)
     (trees_in c.in_ok-middle.middle) c.in_ok-middle.ensures.union (low e))
 
-two_many : (c : After-first-2) → 2 ≤ length (united c)
-two_many c =
+two_count : (c : After-first-2) → (2 ≤ length (united c)) × (length (united c) ≤ 48)
+two_count c =
     let e = (goal.at.After-first-2 c).After-index-children-first in
-    omega (
-      arith,
-      ap length (united_rows c),
-      (united_count c.args.children.now c.args.first c.args.past c.args.part.now c.requires.children
-          c.requires.put c.index-children-first.result (sym c.index-children-first.is)
-          (trees_in c.in_ok-middle.middle) c.in_ok-middle.ensures.union (low e)).0,
-    )
+    rw (united_rows c)
+    (united_count c.args.children.now c.args.first c.args.past c.args.part.now c.requires.children
+    c.requires.put c.index-children-first.result (sym c.index-children-first.is)
+    (trees_in c.in_ok-middle.middle) c.in_ok-middle.ensures.union (low e))
+
+two_many : (c : After-first-2) → 2 ≤ length (united c)
+two_many c = (two_count c).0
 
 two_recuts : (c : After-first-2)
     → Recuts (leaves_before c.args.children.now c.args.first)
@@ -166,6 +175,16 @@ pack-requires-clause-siblings c =
     let e = (goal.at.pack-requires-clause-siblings c).After-first-2 in
     put_level c.args.children.now c.args.first c.args.past c.args.part.now c.requires.children
     c.requires.put (united e) (two_each e) (two_many e) (two_recuts e)
+
+pub pack-requires-clause-at_least_two : goal.pack-requires-clause-at_least_two
+unfolding united
+pack-requires-clause-at_least_two c =
+    two_many (goal.at.pack-requires-clause-at_least_two c).After-first-2
+
+pub pack-requires-clause-at_most_48 : goal.pack-requires-clause-at_most_48
+unfolding united
+pack-requires-clause-at_most_48 c =
+    (two_count (goal.at.pack-requires-clause-at_most_48 c).After-first-2).1
 
 pub root_of-requires-2 : goal.root_of-requires-2
 unfolding united

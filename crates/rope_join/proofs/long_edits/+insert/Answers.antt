@@ -10,7 +10,7 @@ use Rattle.rope_tree.specs.Tree.{text, joined, height_of, breaks_of}
 use Rattle.rope_tree.proofs.NodeLaws.{small_totals, joined_more}
 use Rattle.rope_tree.proofs.Descents.{Descends, descends}
 use Rattle.rope_tree.proofs.TreeLaws.{low_tree}
-use Rattle.rope_join.proofs.Cuts.{CutsAt, cuts_at}
+use Rattle.rope_join.proofs.Cuts.{CutsAt, cuts_at, under_last}
 use Rattle.rope_join.proofs.OneChild.{inserted_some, inserted_chars, end_within, before_inserted, after_inserted, inserted_fits, around_inserted, can_put_inserted, put_inserted}
 use Rattle.rope_join.proofs.long_edits.+insert.Goals.{After-total_before, After-get}
 use Rattle.rope_join.proofs.long_edits.+insert.Goals as goal
@@ -52,6 +52,12 @@ pub child_at-place-requires-clause-small : goal.child_at-place-requires-clause-s
 child_at-place-requires-clause-small t c =
     small_totals _ c.in-Inner.totals.now c.in-Inner.children.now c.in-Inner.ensures.totals_right
     c.in-Inner.ensures.children.fits
+
+pub child_at-place-requires-clause-last : goal.child_at-place-requires-clause-last
+child_at-place-requires-clause-last t c =
+    under_last c.args.node.now _ _ c.in-Inner.totals.now c.in-Inner.children.now c.args.at
+    c.in-Inner.ensures.is c.in-Inner.ensures.children c.in-Inner.ensures.totals_right
+    (omega (arith, ap (λ i. i.chars) c.info.ensures.value))
 
 pub overflow_sub-inside : goal.overflow_sub-inside
 overflow_sub-inside t c =

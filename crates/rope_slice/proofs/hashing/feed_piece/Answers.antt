@@ -1,4 +1,4 @@
-use Rattle.std.proofs.Common.{◌≡◌, ◌+◌, ◌++◌, List, ℕ, length, take, sym, ap, ◌∙◌, arith, fold, append_assoc}
+use Rattle.std.proofs.Common.{◌≡◌, ◌+◌, ◌++◌, List, ℕ, length, take, sym, ap, ◌∙◌, arith, fold, append_assoc, ◌-◌, ◌<◌, min}
 use Rattle.std.proofs.lemmas.List.{take_all}
 use Rattle.rope_text.specs.Compare.{blocks}
 use Rattle.rope_slice.proofs.Feeding.{held_block, none_held, feed_block}
@@ -45,3 +45,35 @@ returns-clause-writes g c = λ more.
     ∙ c.loop-rest.invariant.writes more
     ∙ ap (λ xs. fold write c.args.state.now (blocks xs))
     (append_assoc (take c.args.held c.args.block.now) c.args.bytes.now more)
+
+-- bytes that don't fill the block are all put in
+all_fit : (bytes front : List ℕ) (count room : ℕ) → front ≡ take count bytes
+    → count ≡ min (length bytes) room → count < room → front ≡ bytes
+all_fit bytes front count room is least less =
+    is ∙ take_all count bytes (omega (arith, least, less))
+
+pub overflow_sub-held : goal.overflow_sub-held
+overflow_sub-held g c = omega (arith, c.requires.room)
+
+pub returns-then-held-count-lt-BLOCK_BYTES-clause-size :
+    goal.returns-then-held-count-lt-BLOCK_BYTES-clause-size
+returns-then-held-count-lt-BLOCK_BYTES-clause-size g c = c.put.ensures.size ∙ c.requires.size
+
+pub returns-then-held-count-lt-BLOCK_BYTES-clause-writes :
+    goal.returns-then-held-count-lt-BLOCK_BYTES-clause-writes
+returns-then-held-count-lt-BLOCK_BYTES-clause-writes g c =
+    λ more.
+    let write = g.H.Hasher.write in
+    let front = c.split_at.result.0.now in
+    let all : front ≡ c.args.bytes.now =
+    all_fit c.args.bytes.now front c.min-count.result (256 - c.args.held) c.split_at.ensures.front
+    c.min-count.ensures (omega (arith, c.if-held-count-lt-BLOCK_BYTES.true)) in
+    let size : c.args.held + c.min-count.result ≡ c.args.held + length front =
+    omega (arith, ap length all, c.min-count.ensures, c.if-held-count-lt-BLOCK_BYTES.true) in
+    let kept : take (c.args.held + c.min-count.result) c.put.new.block
+    ≡ take c.args.held c.args.block.now ++ c.args.bytes.now =
+    ap (λ n. take n c.put.new.block) size ∙ c.put.ensures.bytes
+    ∙ ap (λ xs. take c.args.held c.args.block.now ++ xs) all in
+    ap (λ xs. fold write c.args.state.now (blocks xs))
+    (ap (λ (xs : List ℕ). xs ++ more) kept
+    ∙ append_assoc (take c.args.held c.args.block.now) c.args.bytes.now more)

@@ -27,3 +27,9 @@ returns-then-is_empty-clause-ok c = λ _.
     let Done : List ℕ → Type 0 = λ bytes. text
     ≡ replaced text c.args.start c.args.end (chars bytes) in
     subst Done (sym none) idle
+
+pub returns-clause-ok : goal.returns-clause-ok
+returns-clause-ok c = search rules
+
+pub returns-in-None-clause-empty : goal.returns-in-None-clause-empty
+returns-in-None-clause-empty c = search rules

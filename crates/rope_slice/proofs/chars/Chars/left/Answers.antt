@@ -44,3 +44,27 @@ returns-in_err-chunk c =
           ∙ ap (λ x. concat x ++ []) c.in_err-chunk.ensures.ended,
       ap (λ p. at_char p s.chunk.now s.at s.is_backward) c.in_err-chunk.ensures.stays,
     )
+
+-- in the same chunk
+pub char_before-c-requires-clause-some : goal.char_before-c-requires-clause-some
+char_before-c-requires-clause-some c = c.if-at-gt0.true
+
+pub char_before-c-requires-clause-cut : goal.char_before-c-requires-clause-cut
+char_before-c-requires-clause-cut c = c.self.invariant.cut
+
+pub invariant_of-self : goal.invariant_of-self
+invariant_of-self c =
+    let s = c.self.inside in
+    step.cursor_before s.span s.chunk.now c.char_before-c.result.1 s.at c.char_before-c.result.0
+    c.char_before-c.ensures s.passed s.total c.self.invariant
+
+pub returns-then-at-gt0 : goal.returns-then-at-gt0
+returns-then-at-gt0 c =
+    let s = c.self.inside in
+    let before =
+    step.before_passed s.span s.chunk.now c.char_before-c.result.1 s.at c.char_before-c.result.0
+    c.char_before-c.ensures in
+    let after =
+    step.after_passed s.span s.chunk.now c.char_before-c.result.1 s.at c.char_before-c.result.0
+    c.char_before-c.ensures in
+    rw (← c.self.view_is) (before, after, refl)

@@ -47,3 +47,27 @@ returns-in_err-chunk c =
           ∙ ap concat c.in_err-chunk.ensures.ended,
       ap (λ p. at_char p s.chunk.now s.at s.is_backward) c.in_err-chunk.ensures.stays,
     )
+
+-- in the same chunk
+pub char_after-c-requires-clause-within : goal.char_after-c-requires-clause-within
+char_after-c-requires-clause-within c = c.if-at-self.true
+
+pub char_after-c-requires-clause-cut : goal.char_after-c-requires-clause-cut
+char_after-c-requires-clause-cut c = c.self.invariant.cut
+
+pub invariant_of-self : goal.invariant_of-self
+invariant_of-self c =
+    let s = c.self.inside in
+    step.cursor_after s.span s.chunk.now s.at c.char_after-c.result.1 c.char_after-c.result.0
+    c.char_after-c.ensures s.passed s.total c.self.invariant
+
+pub returns-then-at-self : goal.returns-then-at-self
+returns-then-at-self c =
+    let s = c.self.inside in
+    let before =
+    step.before_passed s.span s.chunk.now s.at c.char_after-c.result.1 c.char_after-c.result.0
+    c.char_after-c.ensures in
+    let after =
+    step.after_passed s.span s.chunk.now s.at c.char_after-c.result.1 c.char_after-c.result.0
+    c.char_after-c.ensures in
+    rw (← c.self.view_is) (after, before, refl)

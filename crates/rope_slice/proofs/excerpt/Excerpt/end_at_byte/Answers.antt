@@ -1,4 +1,4 @@
-use Rattle.std.proofs.Common.{◌≡◌, ◌+◌, ◌∙◌, refl, ap, arith}
+use Rattle.std.proofs.Common.{◌≡◌, ◌+◌, ◌∙◌, refl, sym, ap, arith}
 use Rattle.rope_text.specs.Edit.{is_char_boundary}
 use Rattle.rope_text.specs.Conversions.{byte_to_char}
 use Rattle.rope_text.specs.Text.{byte_len}
@@ -29,3 +29,23 @@ returns-then-byte_idx-info-clause-whole c =
           ∙ ap (λ x. x.bytes) c.info.ensures.value) ∙ end_is_boundary own),
       (λ h. refl),
     )
+
+pub end_at-requires-clause-place : goal.end_at-requires-clause-place
+end_at-requires-clause-place c =
+    rw c.in_ok-place_of_byte.ensures.some.place at c.in_ok-place_of_byte.ensures.some
+
+pub end_at-requires-clause-inside : goal.end_at-requires-clause-inside
+end_at-requires-clause-inside c = c.in_ok-place_of_byte.ensures.inside
+
+pub returns-clause-some : goal.returns-clause-some
+returns-clause-some c =
+    let e = c.args.self.now in
+    c.end_at.ensures ∙ ap (end_info e.node.now.breaks (text e.node.now))
+    (sym c.in_ok-place_of_byte.ensures.some.place)
+
+pub returns-clause-whole : goal.returns-clause-whole
+returns-clause-whole c = ((λ _. c.in_ok-place_of_byte.ensures.whole.0 refl), (λ _. refl))
+
+pub returns-in_err-place_of_byte-clause-whole : goal.returns-in_err-place_of_byte-clause-whole
+returns-in_err-place_of_byte-clause-whole c =
+    rw c.from_residual.ensures c.in_err-place_of_byte.ensures.whole

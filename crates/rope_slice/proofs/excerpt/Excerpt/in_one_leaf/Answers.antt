@@ -85,3 +85,11 @@ returns-clause-chunks c =
     omega (arith, c.requires.some) in
     rw on at ((lies here).chunks_are (c.args.end - c.args.start) (count_in here)
     (omega (arith, c.requires.some, c.requires.within))) ∙ ap single_chunk (sym (part_is here))
+
+pub leaf_at-found-requires-clause-within : goal.leaf_at-found-requires-clause-within
+leaf_at-found-requires-clause-within c =
+    let m = measured _ _ _ _ c.args.self.now.is_excerpt in
+    omega (arith, c.place-place.ensures.value, c.requires.some, c.requires.within)
+
+pub overflow_sub-skip : goal.overflow_sub-skip
+overflow_sub-skip c = c.leaf_at-found.ensures.found.not_past

@@ -23,3 +23,23 @@ returns-then-byte_idx-eq0-clause-whole c =
     subst (λ (b : ℕ). is_char_boundary (text_of c.args.self.now) b ≡ true)
     (sym c.if-byte_idx-eq0.true) (start_is_boundary (text_of c.args.self.now)) in
     (λ _. start, λ _. refl)
+
+pub start_at-requires-clause-place : goal.start_at-requires-clause-place
+start_at-requires-clause-place c =
+    rw c.in_ok-place_of_byte.ensures.some.place at c.in_ok-place_of_byte.ensures.some
+
+pub start_at-requires-clause-inside : goal.start_at-requires-clause-inside
+start_at-requires-clause-inside c = c.in_ok-place_of_byte.ensures.inside
+
+pub returns-clause-some : goal.returns-clause-some
+returns-clause-some c =
+    let e = c.args.self.now in
+    c.start_at.ensures ∙ ap (start_info e.node.now.breaks (text e.node.now))
+    (sym c.in_ok-place_of_byte.ensures.some.place)
+
+pub returns-clause-whole : goal.returns-clause-whole
+returns-clause-whole c = ((λ _. c.in_ok-place_of_byte.ensures.whole.0 refl), (λ _. refl))
+
+pub returns-in_err-place_of_byte-clause-whole : goal.returns-in_err-place_of_byte-clause-whole
+returns-in_err-place_of_byte-clause-whole c =
+    rw c.from_residual.ensures c.in_err-place_of_byte.ensures.whole

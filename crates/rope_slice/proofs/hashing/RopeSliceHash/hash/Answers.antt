@@ -1,3 +1,4 @@
+use Rattle.std.proofs.lemmas.List.{length-take}
 use Rattle.std.proofs.Common.{◌≡◌, ◌∙◌, ◌++◌, [], length, sym, take, ap, arith, tests, rules, fold}
 use Rattle.std.specs.Hash as fed
 use Rattle.std.specs.Str.{encode_utf8_all}
@@ -46,3 +47,21 @@ returns g c =
           c.loop-piece.held i.feeding none (omega (arith, w.if-held-gt0.false))
     ] in
     fed.fed_then write _ _ _ (blocks all) (fed.u8 255) d c.write_u8.ensures
+
+pub feed_piece-held-requires-clause-size : goal.feed_piece-held-requires-clause-size
+feed_piece-held-requires-clause-size g c = c.loop-piece.invariant.size
+
+pub feed_piece-held-requires-clause-room : goal.feed_piece-held-requires-clause-room
+feed_piece-held-requires-clause-room g c = c.loop-piece.invariant.room
+
+pub slice_bounds-write-end : goal.slice_bounds-write-end
+slice_bounds-write-end g c =
+    omega (
+      arith,
+      length-take c.loop-piece.held c.loop-piece.block,
+      c.loop-piece.invariant.size,
+      c.loop-piece.invariant.room,
+    )
+
+pub slice_bounds-block-end : goal.slice_bounds-block-end
+slice_bounds-block-end g c = omega (arith, c.loop-piece.invariant.size, c.loop-piece.invariant.room)

@@ -63,3 +63,18 @@ returns-in-InTree-clause-some c none =
     s.is_low.tree s.is_excerpt h.leaves h.holds) in
     none_left c.split_at.result.1.now _ (s.end.bytes - s.start.bytes) c.min-count.result
     c.min-count.ensures some (ap length (sym c.split_at-in-InTree.ensures.front) ∙ none)
+
+pub overflow_sub-start : goal.overflow_sub-start
+overflow_sub-start c = c.at-path.ensures.holds.not_past
+
+pub split_at-requires-in-InTree : goal.split_at-requires-in-InTree
+split_at-requires-in-InTree c = omega (arith, c.min-count.ensures)
+
+pub overflow_sub-left : goal.overflow_sub-left
+overflow_sub-left c = omega (arith, c.min-count.ensures)
+
+pub returns-in-Alone-clause-bytes : goal.returns-in-Alone-clause-bytes
+returns-in-Alone-clause-bytes c = rw c.in-Alone.is c.of_text.ensures.bytes
+
+pub returns-in-Alone-clause-some : goal.returns-in-Alone-clause-some
+returns-in-Alone-clause-some c = c.of_text.ensures.some

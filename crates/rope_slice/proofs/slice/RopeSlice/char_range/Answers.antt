@@ -1,4 +1,4 @@
-use Rattle.std.proofs.Common.{rules, ◌≡◌, ◌+◌, ◌-◌, ◌≤◌, ◌∙◌, ap, sym, arith, drop, length}
+use Rattle.std.proofs.Common.{rules, ◌≡◌, ◌+◌, ◌-◌, ◌≤◌, ◌∙◌, ap, sym, arith, drop, length, refl}
 use Rattle.std.specs.List.{slice_range}
 use Rattle.std.specs.Str.{chars}
 use Rattle.std.proofs.lemmas.List.{length-take-le}
@@ -8,6 +8,7 @@ use Rattle.rope_text.proofs.ClipLaws.{slice_range_empty, clip_empty}
 use Rattle.rope_text.proofs.TextParts.{chars_front, chars_back}
 use Rattle.rope_tree.specs.Tree.{text}
 use Rattle.rope_slice.specs.Slice.{text_of, chunks_of}
+use Rattle.rope_slice.specs.Edge.{start_info, end_info}
 use Rattle.rope_slice.specs.Plain as plain
 use Rattle.rope_slice.specs.Excerpt as excerpt
 use Rattle.rope_slice.proofs.Clips.{part_of_part, clip_of_clip}
@@ -78,3 +79,50 @@ pub returns-in-Alone-clause-chunks : goal.returns-in-Alone-clause-chunks
 returns-in-Alone-clause-chunks c =
     rw c.in-Alone.is (c.from_str_with-in-Alone.ensures.chunks
     ∙ ap single_chunk (part (goal.at.returns-in-Alone-clause-chunks c).After-range) ∙ search rules)
+
+pub in_one_leaf-requires-clause-within : goal.in_one_leaf-requires-clause-within
+in_one_leaf-requires-clause-within c = rw c.in-InTree.is at c.requires.within
+
+pub returns-in-Some-clause-text : goal.returns-in-Some-clause-text
+returns-in-Some-clause-text c =
+    rw c.in-InTree.is (c.from_str_with-in-Some.ensures.text ∙ sym c.in-Some.ensures.text)
+
+pub returns-in-Some-clause-chunks : goal.returns-in-Some-clause-chunks
+returns-in-Some-clause-chunks c =
+    rw c.in-InTree.is (c.from_str_with-in-Some.ensures.chunks ∙ sym c.in-Some.ensures.chunks)
+
+pub returns-in-Some-clause-breaks : goal.returns-in-Some-clause-breaks
+returns-in-Some-clause-breaks c =
+    rw c.in-InTree.is (c.from_str_with-in-Some.ensures.breaks ∙ c.line_breaks-in-Some.ensures)
+
+pub start_of-requires : goal.start_of-requires
+start_of-requires c =
+    let own : c.args.end ≤ length (excerpt.text_of c.in-InTree.excerpt) =
+    rw c.in-InTree.is at c.requires.within in
+    omega (arith, own, c.if-start-end.false, c.requires.ordered)
+
+pub end_of-requires : goal.end_of-requires
+end_of-requires c = rw c.in-InTree.is at c.requires.within
+
+pub invariant_of-result : goal.invariant_of-result
+invariant_of-result c =
+    let s = c.in-InTree.excerpt in
+    let m = measured _ _ _ _ s.is_excerpt in
+    record {
+      is_low = s.is_low;
+      is_excerpt = record {
+        some = omega (arith, from c, to c, c.if-start-end.false, c.requires.ordered);
+        within = omega (arith, to c, within c, m.chars, m.within);
+        start_is =
+            c.start_of.ensures ∙ ap (start_info s.node.now.breaks (text s.node.now)) (sym (from c));
+        end_is =
+            c.end_of.ensures ∙ ap (end_info s.node.now.breaks (text s.node.now)) (sym (to c));
+      };
+    }
+
+pub returns-after-end-start-le-MAX_BYTES-clause-breaks :
+    goal.returns-after-end-start-le-MAX_BYTES-clause-breaks
+returns-after-end-start-le-MAX_BYTES-clause-breaks c = rw c.in-InTree.is refl
+
+pub returns-in-Alone-clause-breaks : goal.returns-in-Alone-clause-breaks
+returns-in-Alone-clause-breaks c = rw c.in-Alone.is c.from_str_with-in-Alone.ensures.breaks

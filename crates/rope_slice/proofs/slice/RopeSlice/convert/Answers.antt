@@ -7,6 +7,7 @@ use Rattle.rope_slice.specs.Excerpt.{text_of, breaks_of}
 use Rattle.rope_slice.proofs.Places.{small_start, small_end}
 use Rattle.rope_slice.proofs.ExcerptLaws.{place_within, place_before_end, excerpt_converted_end, excerpt_converted}
 use Rattle.rope_slice.proofs.slice.RopeSlice.convert.Goals.{After-convert, After-min}
+use Rattle.rope_text.specs.TextInfo.{info_of}
 use Rattle.rope_slice.proofs.slice.RopeSlice.convert.Goals as goal
 
 pub returns-then-idx-first : goal.returns-then-idx-first
@@ -84,3 +85,17 @@ returns-else-place-first c =
       value (goal.at.returns-else-place-first c).After-convert,
       c.min.ensures,
     ))
+
+pub overflow_sub-place : goal.overflow_sub-place
+overflow_sub-place c = omega (arith, c.if-idx-first.false, c.place-place.ensures.value)
+
+pub convert_in-requires-clause-info : goal.convert_in-requires-clause-info
+convert_in-requires-clause-info c =
+    c.in-Alone.plain.counted
+    ∙ ap (info_of c.in-Alone.plain.breaks) (sym c.as_str.ensures)
+
+pub returns-in-Alone : goal.returns-in-Alone
+returns-in-Alone c =
+    let plain = c.in-Alone.plain in
+    rw c.in-Alone.is (c.convert_in.ensures
+    ∙ ap (λ t. converted c.args.from c.args.to plain.breaks t c.args.idx) c.as_str.ensures)

@@ -1,10 +1,11 @@
-use Rattle.std.proofs.Common.{◌≡◌, ℕ, ◌-◌, true, false, ◌&&◌, sym, ap, ap₂, ◌∙◌, arith}
+use Rattle.std.proofs.Common.{◌≡◌, ℕ, ◌-◌, true, false, ◌&&◌, sym, ap, ap₂, ◌∙◌, arith, inl, inr, length}
+use Rattle.std.proofs.lemmas.Bool.{cases_lt}
 use Rattle.std.proofs.Math.Bool.{and-false}
 use Rattle.std.proofs.lemmas.Option.{get_or_from_slice_get}
 use Rattle.rope_text.specs.Breaks.{is_break_char}
 use Rattle.rope_text.specs.LastBreak.{ends_in_crlf}
 use Rattle.rope_slice.specs.Slice.{text_of}
-use Rattle.rope_slice.proofs.LineEnds.{some_end}
+use Rattle.rope_slice.proofs.LineEnds.{some_end, too_short}
 use Rattle.rope_slice.proofs.slice.RopeSlice.last_break_len.Goals.{else-is_break-via-then-is_break+else-ends_in_crlf, else-is_break-via-else-is_break}
 use Rattle.rope_slice.proofs.slice.RopeSlice.last_break_len.Goals as goal
 
@@ -37,3 +38,12 @@ returns-clause-value c =
     ] in
     rw (← c.line_breaks-breaks.ensures) (sym (some_end breaks t k
     (omega (arith, c.len_chars-len.ensures, c.if-len-eq0.false)) last false pair))
+
+pub returns-then-ends_in_crlf-clause-within : goal.returns-then-ends_in_crlf-clause-within
+returns-then-ends_in_crlf-clause-within c =
+    let t = text_of c.args.self.now in
+    let pair : ends_in_crlf t ≡ true = sym c.ends_in_crlf.ensures ∙ c.if-ends_in_crlf.true in
+    elim (cases_lt 1 (length t)) [
+      | inl long ↦ omega (arith, long)
+      | inr short ↦ absurd (let alone = too_short t short in cc)
+    ]

@@ -1,4 +1,4 @@
-use Rattle.std.proofs.Common.{◌≡◌, Bool, true, false, not, ◌||◌, refl, rules}
+use Rattle.std.proofs.Common.{◌≡◌, Bool, true, false, not, ◌||◌, refl, rules, arith}
 use Rattle.rope_text.specs.Edit.{is_char_boundary}
 use Rattle.rope_text.proofs.ByteSlices.{split_char}
 use Rattle.rope_slice.specs.Slice.{text_of}
@@ -16,3 +16,7 @@ returns-clause-refused g c =
     one_is_not (is_char_boundary text c.unwrap_or-from.result)
     (is_char_boundary text c.unwrap_or-to.result) c.in-None.ensures.whole.1 in
     search (split_char, rules)
+
+pub byte_range-requires-clause-within : goal.byte_range-requires-clause-within
+byte_range-requires-clause-within g c =
+    omega (arith, c.max.ensures, c.if-max-len.false, c.len_bytes-len.ensures.value)

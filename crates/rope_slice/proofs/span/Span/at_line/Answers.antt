@@ -7,6 +7,7 @@ use Rattle.rope_slice.specs.Excerpt.{text_of, breaks_of}
 use Rattle.rope_slice.proofs.PartsBetween.{counts_at}
 use Rattle.rope_slice.proofs.KnownPlaces as known
 use Rattle.rope_slice.proofs.span.Span.at_line.Goals.{After-before_line_in-before}
+use Rattle.rope_slice.specs.Slice.{text_of as text_in, breaks_of as breaks_in}
 use Rattle.rope_slice.proofs.span.Span.at_line.Goals as goal
 
 chars_are : (c : After-before_line_in-before) → c.before_line_in-before.result.chars
@@ -67,3 +68,70 @@ returns-clause-byte c =
     c.before_line_in-before.result.chars c.before_line_in-before.result.bytes
     c.saturating_sub-front.result c.at_break-descent.ensures.text (within d) (bytes_are d)
     (front_is d) (starts d) (ends d)
+
+pub at_break-descent-requires-clause-within : goal.at_break-descent-requires-clause-within
+at_break-descent-requires-clause-within c = rw c.info.ensures.value at c.if-line_idx-info.true
+
+pub before_line_in-before-requires-clause-within : goal.before_line_in-before-requires-clause-within
+before_line_in-before-requires-clause-within c = rw c.info.ensures.value at c.if-line_idx-info.true
+
+pub before_line_in-before-requires-clause-found : goal.before_line_in-before-requires-clause-found
+before_line_in-before-requires-clause-found c = c.at_break-descent.ensures.found
+
+pub before_line_in-before-requires-clause-inside : goal.before_line_in-before-requires-clause-inside
+before_line_in-before-requires-clause-inside c = c.at_break-descent.ensures.inside_is
+
+pub invariant_of-result : goal.invariant_of-result
+invariant_of-result c = sym c.chunk-chunk.ensures
+
+pub returns-clause-line : goal.returns-clause-line
+returns-clause-line c = rw c.in-InTree.is c.before_line_in-before.ensures.value
+
+pub returns-clause-text : goal.returns-clause-text
+returns-clause-text c = rw c.in-InTree.is c.at_break-descent.ensures.text
+
+pub returns-clause-chunks : goal.returns-clause-chunks
+returns-clause-chunks c = λ _. rw c.in-InTree.is c.at_break-descent.ensures.chunks
+
+pub overflow_sub-result : goal.overflow_sub-result
+overflow_sub-result c =
+    omega (
+      arith,
+      c.saturating_sub-front.ensures,
+      c.at_break-descent.ensures.in_order,
+      c.before_line_in-before.ensures.from,
+    )
+
+pub at_counts-span-requires-clause-within : goal.at_counts-span-requires-clause-within
+at_counts-span-requires-clause-within c =
+    let breaks = breaks_in c.args.slice.now in
+    let t = text_in c.args.slice.now in
+    rw (counts_at breaks t (line_start breaks t c.args.line_idx) c.before_line-before.result
+    (line_start-le-length breaks t c.args.line_idx) c.before_line-before.ensures).0
+    (line_start-le-length breaks t c.args.line_idx)
+
+pub at_counts-span-requires-clause-bytes : goal.at_counts-span-requires-clause-bytes
+at_counts-span-requires-clause-bytes c =
+    let breaks = breaks_in c.args.slice.now in
+    let t = text_in c.args.slice.now in
+    ap (λ x. x.bytes) c.before_line-before.ensures ∙ ap (λ n. byte_len (take n t))
+    (sym (counts_at breaks t (line_start breaks t c.args.line_idx) c.before_line-before.result
+    (line_start-le-length breaks t c.args.line_idx) c.before_line-before.ensures).0)
+
+pub returns-2-clause-line : goal.returns-2-clause-line
+returns-2-clause-line c = c.before_line-before.ensures
+
+pub returns-2-clause-text : goal.returns-2-clause-text
+returns-2-clause-text c = c.at_counts-span.ensures.text
+
+pub returns-2-clause-chunks : goal.returns-2-clause-chunks
+returns-2-clause-chunks c = c.at_counts-span.ensures.chunks
+
+pub returns-2-clause-starts : goal.returns-2-clause-starts
+returns-2-clause-starts c = c.at_counts-span.ensures.starts
+
+pub returns-2-clause-within : goal.returns-2-clause-within
+returns-2-clause-within c = c.at_counts-span.ensures.within
+
+pub returns-2-clause-byte : goal.returns-2-clause-byte
+returns-2-clause-byte c = c.at_counts-span.ensures.byte

@@ -1,6 +1,7 @@
 -- The texts passed in and the next chunk are a prefix of the text; the new tree is a rope.
 use Rattle.std.proofs.Common.{◌∙◌, ◌++◌, length, ap, sym, arith, subst}
 use Rattle.std.specs.List.{concat}
+use Rattle.std.proofs.lemmas.List.{append_assoc}
 use Rattle.std.specs.Str.{chars}
 use Rattle.rope_text.specs.Text.{byte_len}
 use Rattle.rope_text.specs.Sides.{ahead}
@@ -30,6 +31,16 @@ append-requires c =
       c.self.invariant.fits,
       ap (λ (r : RopeView). byte_len r.text) c.self.view_is,
     )
+
+pub loop-chunk-preserved : goal.loop-chunk-preserved
+loop-chunk-preserved c =
+    let had = c.loop-chunk.builder.text in
+    let chunk = chars c.in-Some.chunk.now in
+    let more = concat (ahead c.next.new.self) in record {
+      text = ap (λ t. t ++ more) c.in_ok-append.ensures.ok ∙ append_assoc had chunk more
+          ∙ ap (λ x. had ++ concat x) (sym c.in-Some.ensures.steps) ∙ c.loop-chunk.invariant.text;
+      breaks = c.append.ensures.breaks ∙ c.loop-chunk.invariant.breaks;
+    }
 
 pub returns-in_err-append-clause-kept : goal.returns-in_err-append-clause-kept
 returns-in_err-append-clause-kept c =
