@@ -13,7 +13,7 @@ set -euo pipefail
 
 cd "$(dirname "$0")/.."
 lookups=(
-    crates/rope_tree/src/lookup.rt crates/rope_tree/src/conversions.rt crates/rope_tree/src/search.rt crates/rope_tree/src/search
+    crates/rope_tree/src/lookup.rt crates/rope_tree/src/conversions.rt crates/rope_leaf/src/search.rt crates/rope_leaf/src/search
     crates/rope_slice/src crates/rope_position/src
     crates/ropey/src/lookups.rt crates/ropey/src/slices.rt crates/ropey/src/iter.rt crates/ropey/src/compare.rt
     crates/ropey_c/src/chunks.rt crates/ropey_c/src/compare.rt crates/ropey_c/src/conversions.rt crates/ropey_c/src/copies.rt

@@ -3,11 +3,11 @@
 #
 #     scripts/make_proofs.sh [FOLDER]
 #
-# It writes ropey-VERSION-KIT.tar.zst to FOLDER, by default the repository's folder out. The file has rope_text, rope_tree,
-# rope_join, rope_slice, rope_io, ropey, rope_position and rope_changes with the results of `rt lib`, so that a program over
-# them only proves itself. They are valid only for the kit KIT and these very sources. `rt ci` trusts no such file and
-# re-proves them. It needs `rt`, which proves the crates first, and zstd. A program over the release is checked before the
-# release is written.
+# It writes ropey-VERSION-KIT.tar.zst to FOLDER, by default the repository's folder out. The file has rope_text, rope_leaf,
+# rope_tree, rope_join, rope_slice, rope_io, ropey, rope_position and rope_changes with the results of `rt lib`, so that a
+# program over them only proves itself. They are valid only for the kit KIT and these very sources. `rt ci` trusts no such
+# file and re-proves them. It needs `rt`, which proves the crates first, and zstd. A program over the release is checked
+# before the release is written.
 set -euo pipefail
 
 top=$(cd "$(dirname "$0")/.." && pwd)

@@ -5,7 +5,7 @@ ghost use Rattle.rope_text.specs.declared.TheConstants.{MIN_CUT_BYTES};
 ghost use Rattle.rope_text.specs.Text.{byte_len};
 ghost use Rattle.rope_text.specs.Edit.{size_error, IsRefusal};
 ghost use Rattle.rope_text.specs.Read.{text_front, text_rest};
-ghost use Rattle.rope_tree.specs.Tree.{text, IsTree};
+ghost use Rattle.rope_leaf.specs.Tree.{text, IsTree};
 ghost use Rattle.rope_io.specs.Failing.{reader_failure, IsCounted};
 ghost use Rattle.rope_io.specs.Reading.{Reads};
 

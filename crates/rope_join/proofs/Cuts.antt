@@ -8,21 +8,21 @@ use Rattle.rope_text.specs.declared.text_info.TextInfo.{TextInfo}
 use Rattle.rope_text.specs.Text.{byte_len}
 use Rattle.rope_text.proofs.Measures.{IsMeasure-byte_len, size_parts}
 use Rattle.rope_text.proofs.CuttingLaws.{concat-append}
-use Rattle.rope_tree.specs.Leaves.{AreLeaves, IsSeam}
-use Rattle.rope_tree.specs.Tree.{Tree, text, joined, leaves_of, height_of, breaks_of, leaf_tree, tree_over, IsTree, IsChild, AreChildren}
-use Rattle.rope_tree.specs.Siblings.{AreSiblings}
-use Rattle.rope_tree.specs.Totals.{HasTotals}
+use Rattle.rope_leaf.specs.Leaves.{AreLeaves, IsSeam}
+use Rattle.rope_leaf.specs.Tree.{Tree, text, joined, leaves_of, height_of, breaks_of, leaf_tree, tree_over, IsTree, IsChild, AreChildren}
+use Rattle.rope_leaf.specs.Siblings.{AreSiblings}
+use Rattle.rope_leaf.specs.Totals.{HasTotals}
 use Rattle.rope_text.specs.Dense.{IsDenseAfter, last_bytes}
 use Rattle.rope_text.proofs.DenseLaws.{last_bytes-append, last_bytes-some, dense_left, dense_more}
-use Rattle.rope_tree.proofs.LeafLaws.{all_left, all_right, leaves_left, leaves_right, leaves_seam, leaves_near, seam_of_left, seam-take, seam-drop}
+use Rattle.rope_leaf.proofs.LeafLaws.{all_left, all_right, leaves_left, leaves_right, leaves_seam, leaves_near, seam_of_left, seam-take, seam-drop}
 use Rattle.rope_tree.proofs.BuildLaws.{nodes_le}
-use Rattle.rope_tree.proofs.TreeLaws.{height_of_is, breaks_of_is}
-use Rattle.rope_tree.proofs.NodeLaws.{child_at}
-use Rattle.rope_tree.proofs.Descents.{leaves_at}
-use Rattle.rope_tree.proofs.InsertLeaves.{text_of_leaf}
-use Rattle.rope_tree.proofs.InsertDescents.{last_total}
-use Rattle.rope_tree.proofs.InsertTrees.{text_around}
-use Rattle.rope_tree.proofs.InsertLaws.{front_of, rest_of}
+use Rattle.rope_leaf.proofs.TreeLaws.{height_of_is, breaks_of_is}
+use Rattle.rope_leaf.proofs.NodeLaws.{child_at}
+use Rattle.rope_leaf.proofs.Descents.{leaves_at}
+use Rattle.rope_leaf.proofs.InsertLeaves.{text_of_leaf}
+use Rattle.rope_leaf.proofs.InsertDescents.{last_total}
+use Rattle.rope_leaf.proofs.InsertTrees.{text_around}
+use Rattle.rope_leaf.proofs.InsertLaws.{front_of, rest_of}
 use Rattle.rope_join.specs.Join.{CanJoin, IsNear, IsJoin}
 use Rattle.rope_tree.proofs.Gathered.{IsGathered}
 use Rattle.rope_join.specs.Cut.{SparesFirst, SparesLast, first_chars, last_chars, IsFront, IsBack, AreBeside}

@@ -1,8 +1,8 @@
 -- The empty side of a split tree.
 use Rattle.std.proofs.Common.{◌≡◌, ℕ, List, [], length, refl, sym, arith}
 use Rattle.std.proofs.lemmas.List.{drop_all}
-use Rattle.rope_tree.specs.Tree.{Tree, text, leaf_tree}
-use Rattle.rope_tree.proofs.LeafLaws.{no_leaves}
+use Rattle.rope_leaf.specs.Tree.{Tree, text, leaf_tree}
+use Rattle.rope_leaf.proofs.LeafLaws.{no_leaves}
 use Rattle.rope_join.specs.Cut.{IsFront, IsBack}
 
 pub empty_front : (n r : Tree) (l : List ℕ) (at : ℕ) → r ≡ leaf_tree n.breaks l → l ≡ [] → at ≡ 0

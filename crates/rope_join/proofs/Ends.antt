@@ -3,11 +3,11 @@ use Rattle.std.proofs.Common.{ℕ, ◌+◌, ◌<◌, ◌≤◌, List, ◌++◌, 
 use Rattle.std.specs.List.{concat, All}
 use Rattle.std.proofs.lemmas.List.{take-append-drop, length-take-le, length-drop}
 use Rattle.rope_text.specs.Text.{byte_len}
-use Rattle.rope_tree.specs.Tree.{Tree, height_of, breaks_of, IsChild, AreChildren}
-use Rattle.rope_tree.specs.Siblings.{AreSiblings, gathered}
-use Rattle.rope_tree.proofs.LeafLaws.{all_left, all_right}
-use Rattle.rope_tree.proofs.NodeLaws.{children_of_first}
-use Rattle.rope_tree.proofs.SiblingLaws.{siblings_left, siblings_right, children_of}
+use Rattle.rope_leaf.specs.Tree.{Tree, height_of, breaks_of, IsChild, AreChildren}
+use Rattle.rope_leaf.specs.Siblings.{AreSiblings, gathered}
+use Rattle.rope_leaf.proofs.LeafLaws.{all_left, all_right}
+use Rattle.rope_leaf.proofs.NodeLaws.{children_of_first}
+use Rattle.rope_leaf.proofs.SiblingLaws.{siblings_left, siblings_right, children_of}
 use Rattle.rope_tree.proofs.Gathered.{is_gathered}
 use Rattle.rope_join.specs.Join.{CanJoin}
 use Rattle.rope_join.specs.Put.{CanPutAtEnd}

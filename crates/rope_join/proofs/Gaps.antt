@@ -8,12 +8,12 @@ use Rattle.rope_text.proofs.CuttingLaws.{concat-append}
 use Rattle.rope_text.specs.Text.{byte_len}
 use Rattle.rope_text.specs.Dense.{IsDenseAfter, last_bytes}
 use Rattle.rope_text.proofs.DenseLaws.{last_bytes-append, last_bytes-some, dense-append, dense_right}
-use Rattle.rope_tree.specs.Leaves.{AreLeaves, IsLeafText}
-use Rattle.rope_tree.specs.Tree.{Tree, text, leaves_of, height_of, breaks_of, tree_over, IsChild, AreChildren}
-use Rattle.rope_tree.proofs.NodeLaws.{leaves_of-append, child_at}
-use Rattle.rope_tree.proofs.Descents.{leaves_at}
+use Rattle.rope_leaf.specs.Leaves.{AreLeaves, IsLeafText}
+use Rattle.rope_leaf.specs.Tree.{Tree, text, leaves_of, height_of, breaks_of, tree_over, IsChild, AreChildren}
+use Rattle.rope_leaf.proofs.NodeLaws.{leaves_of-append, child_at}
+use Rattle.rope_leaf.proofs.Descents.{leaves_at}
 use Rattle.std.proofs.lemmas.List.{append-nil, drop_all, take_more, drop_more}
-use Rattle.rope_tree.proofs.LeafLaws.{all_left, all_right, leaves_right}
+use Rattle.rope_leaf.proofs.LeafLaws.{all_left, all_right, leaves_right}
 use Rattle.rope_tree.proofs.BuildLaws.{nodes_le}
 use Rattle.rope_join.specs.Cut.{first_chars, last_chars, SparesFirst, SparesLast, IsFront, IsBack, IsSides}
 use Rattle.rope_join.specs.Join.{IsJoin}

@@ -6,9 +6,9 @@ use Rattle.std.proofs.lemmas.List.Elements.{All-head}
 use Rattle.rope_text.specs.Dense.{IsDenseAfter, last_bytes}
 use Rattle.rope_text.proofs.DenseLaws.{last_bytes-append, last_bytes-some, dense-append, dense_left, dense_right}
 use Rattle.rope_text.specs.Text.{byte_len}
-use Rattle.rope_tree.specs.Tree.{Tree, text, leaves_of, IsTree, IsChild}
-use Rattle.rope_tree.proofs.LeafLaws.{all_right}
-use Rattle.rope_tree.proofs.NodeLaws.{leaves_of-append}
+use Rattle.rope_leaf.specs.Tree.{Tree, text, leaves_of, IsTree, IsChild}
+use Rattle.rope_leaf.proofs.LeafLaws.{all_right}
+use Rattle.rope_leaf.proofs.NodeLaws.{leaves_of-append}
 use Rattle.rope_tree.proofs.EmptyTrees.{lone_of_none}
 use Rattle.rope_join.specs.Join.{EndsIn, BeginsIn}
 use Rattle.rope_join.proofs.Gaps.{leaf_by_bytes}

@@ -8,18 +8,18 @@ use Rattle.rope_text.specs.Dense.{IsDenseAfter, last_bytes}
 use Rattle.rope_text.proofs.Measures.{IsMeasure-byte_len}
 use Rattle.rope_text.proofs.CuttingLaws.{concat-append}
 use Rattle.rope_text.proofs.DenseLaws.{last_bytes-append, last_bytes-some, dense-append, dense_left, dense_right, dense_more}
-use Rattle.rope_tree.specs.Leaves.{AreLeaves, IsSeam}
-use Rattle.rope_tree.specs.Tree.{IsChild, Tree, text, joined, leaves_of, height_of, breaks_of, tree_over, IsTree, AreChildren}
-use Rattle.rope_tree.proofs.LeafLaws.{all_left, leaves-append, leaves_right, leaves_seam, leaves_near, seam_of_left, seam_of_right, seam_left_longer, seam_right_longer, seam-take, seam-drop}
-use Rattle.rope_tree.proofs.NodeLaws.{joined_parts, joined_more}
+use Rattle.rope_leaf.specs.Leaves.{AreLeaves, IsSeam}
+use Rattle.rope_leaf.specs.Tree.{IsChild, Tree, text, joined, leaves_of, height_of, breaks_of, tree_over, IsTree, AreChildren}
+use Rattle.rope_leaf.proofs.LeafLaws.{all_left, leaves-append, leaves_right, leaves_seam, leaves_near, seam_of_left, seam_of_right, seam_left_longer, seam_right_longer, seam-take, seam-drop}
+use Rattle.rope_leaf.proofs.NodeLaws.{joined_parts, joined_more}
 use Rattle.rope_tree.proofs.BuildLaws.{nodes_le}
-use Rattle.rope_tree.proofs.TreeLaws.{breaks_of_is}
+use Rattle.rope_leaf.proofs.TreeLaws.{breaks_of_is}
 use Rattle.rope_text.specs.Edit.{inserted}
-use Rattle.rope_tree.proofs.InsertLaws.{seam_ends, seam_begins, text_of}
-use Rattle.rope_tree.proofs.InsertTrees.{inserted_is, byte_len-inserted}
+use Rattle.rope_leaf.proofs.InsertLaws.{seam_ends, seam_begins, text_of}
+use Rattle.rope_leaf.proofs.InsertTrees.{inserted_is, byte_len-inserted}
 use Rattle.rope_join.specs.Cut.{SparesFirst, SparesLast, IsSides}
 use Rattle.rope_join.specs.Put.{CanPut, CanPutAtEnd, IsPut, leaves_before, leaves_after}
-use Rattle.rope_tree.specs.Siblings.{gathered}
+use Rattle.rope_leaf.specs.Siblings.{gathered}
 use Rattle.rope_tree.proofs.Gathered.{is_gathered}
 use Rattle.rope_join.specs.Join.{IsJoin}
 use Rattle.rope_join.proofs.Cuts.{some_list, CutsAt, spares_first_of, spares_last_of, front_text, back_text}

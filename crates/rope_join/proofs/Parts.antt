@@ -6,12 +6,12 @@ use Rattle.std.proofs.lemmas.List.Elements.{All-head}
 use Rattle.rope_text.specs.declared.line_breaks.LineBreaks.{LineBreaks}
 use Rattle.rope_tree.specs.declared.node.Nodes.{Nodes}
 use Rattle.rope_tree.specs.declared.node.Nodes.TheVariants.{One}
-use Rattle.rope_tree.specs.Tree.{Tree, text, joined, leaves_of, height_of, breaks_of, tree_over, IsTree, IsChild, AreChildren}
-use Rattle.rope_tree.specs.Siblings.{gathered, AreLevel}
+use Rattle.rope_leaf.specs.Tree.{Tree, text, joined, leaves_of, height_of, breaks_of, tree_over, IsTree, IsChild, AreChildren}
+use Rattle.rope_leaf.specs.Siblings.{gathered, AreLevel}
 use Rattle.rope_tree.specs.View.{trees_in}
-use Rattle.rope_tree.proofs.TreeLaws.{height_of_is}
-use Rattle.rope_tree.proofs.SiblingLaws.{children_of, one_part}
-use Rattle.rope_tree.proofs.LeafLaws.{all_right}
+use Rattle.rope_leaf.proofs.TreeLaws.{height_of_is}
+use Rattle.rope_leaf.proofs.SiblingLaws.{children_of, one_part}
+use Rattle.rope_leaf.proofs.LeafLaws.{all_right}
 use Rattle.rope_tree.proofs.Gathered.{is_gathered, gathered_over}
 use Rattle.rope_join.specs.Join.{CanJoin, EndsIn, BeginsIn, IsUnion, IsJoin}
 use Rattle.rope_join.specs.Cut.{AreGatherable, ArePart, IsFront, IsBack, IsWithFront, IsWithBack}

@@ -10,15 +10,15 @@ use Rattle.rope_text.specs.Dense.{IsDenseAfter, last_bytes}
 use Rattle.rope_text.proofs.Measures.{IsMeasure-byte_len}
 use Rattle.rope_text.proofs.CuttingLaws.{concat-append}
 use Rattle.rope_text.proofs.DenseLaws.{last_bytes-some, dense-append, dense_right}
-use Rattle.rope_tree.specs.Leaves.{AreLeaves, IsSeam, Recuts}
-use Rattle.rope_tree.specs.Tree.{Tree, text, joined, leaves_of, height_of, breaks_of, tree_over, IsTree, IsWide, IsChild, AreChildren}
-use Rattle.rope_tree.specs.Siblings.{AreSiblings, AreOver, gathered}
+use Rattle.rope_leaf.specs.Leaves.{AreLeaves, IsSeam, Recuts}
+use Rattle.rope_leaf.specs.Tree.{Tree, text, joined, leaves_of, height_of, breaks_of, tree_over, IsTree, IsWide, IsChild, AreChildren}
+use Rattle.rope_leaf.specs.Siblings.{AreSiblings, AreOver, gathered}
 use Rattle.rope_tree.specs.View.{trees_in}
 use Rattle.rope_tree.specs.declared.node.Nodes.{Nodes}
-use Rattle.rope_tree.proofs.LeafLaws.{all_left, all_right, leaves_left, seam_of_left, seam_of_right, recuts_kept, recuts_right, recuts_left}
-use Rattle.rope_tree.proofs.TreeLaws.{breaks_of_wide, height_of_is, breaks_of_is}
-use Rattle.rope_tree.proofs.NodeLaws.{leaves_of-append, children_of_first, child_at}
-use Rattle.rope_tree.proofs.InsertTrees.{siblings_of_first}
+use Rattle.rope_leaf.proofs.LeafLaws.{all_left, all_right, leaves_left, seam_of_left, seam_of_right, recuts_kept, recuts_right, recuts_left}
+use Rattle.rope_leaf.proofs.TreeLaws.{breaks_of_wide, height_of_is, breaks_of_is}
+use Rattle.rope_leaf.proofs.NodeLaws.{leaves_of-append, children_of_first, child_at}
+use Rattle.rope_leaf.proofs.InsertTrees.{siblings_of_first}
 use Rattle.rope_tree.proofs.Gathered.{is_gathered, gathered_tree}
 use Rattle.rope_join.specs.Join.{CanJoin, IsUnion}
 use Rattle.rope_join.specs.Put.{CanPut, IsPut, leaves_before, leaves_after}

@@ -10,10 +10,10 @@ use Rattle.rope_text.specs.Cutting.{parts_crlf}
 use Rattle.rope_text.proofs.Measures.{IsMeasure-byte_len, size_parts}
 use Rattle.rope_text.proofs.CuttingLaws.{concat-append, ends_in_cr-append}
 use Rattle.rope_text.proofs.TextParts.{lf_first, cr_last, some_cr}
-use Rattle.rope_tree.specs.Leaves.{IsSeam}
-use Rattle.rope_tree.specs.Tree.{Tree, text, leaf_tree}
-use Rattle.rope_tree.proofs.InsertLaws.{begins_some}
-use Rattle.rope_tree.proofs.InsertLeaves.{text_of_leaf}
+use Rattle.rope_leaf.specs.Leaves.{IsSeam}
+use Rattle.rope_leaf.specs.Tree.{Tree, text, leaf_tree}
+use Rattle.rope_leaf.proofs.InsertLaws.{begins_some}
+use Rattle.rope_leaf.proofs.InsertLeaves.{text_of_leaf}
 use Rattle.rope_join.specs.Join.{CanJoin, IsJoin}
 
 -- the last of the first characters

@@ -3,8 +3,8 @@
 use Rattle.std.proofs.Common.{◌≡◌, ◌+◌, ◌-◌, ◌<◌, ◌≤◌, max, List, [], ◌++◌, length, refl, sym, arith, inl, inr}
 use Rattle.std.proofs.lemmas.Bool.{cases_lt}
 use Rattle.std.proofs.lemmas.List.{append-nil}
-use Rattle.rope_tree.specs.Tree.{Tree, leaves_of, height_of, breaks_of}
-use Rattle.rope_tree.specs.Siblings.{AreSiblings, AreParts}
+use Rattle.rope_leaf.specs.Tree.{Tree, leaves_of, height_of, breaks_of}
+use Rattle.rope_leaf.specs.Siblings.{AreSiblings, AreParts}
 use Rattle.rope_join.specs.Join.{CanJoin, CanMerge, EndsIn, BeginsIn, IsNear, IsUnion}
 use Rattle.rope_join.proofs.Unions.{end_child, end_can_join, end_near, end_count, end_siblings, end_union, front_child, front_can_join, front_near, front_count, front_siblings, front_union, meeting_at, meet_some, meet_can_join, meet_count, meet_siblings, meet_union}
 

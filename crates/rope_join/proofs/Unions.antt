@@ -10,16 +10,16 @@ use Rattle.rope_text.proofs.Measures.{IsMeasure-byte_len}
 use Rattle.rope_text.proofs.CuttingLaws.{concat-append}
 use Rattle.rope_text.specs.Dense.{IsDenseAfter, last_bytes}
 use Rattle.rope_text.proofs.DenseLaws.{last_bytes-append, last_bytes-some, dense_left}
-use Rattle.rope_tree.specs.Leaves.{AreLeaves, IsSeam, Recuts}
-use Rattle.rope_tree.specs.Tree.{Tree, text, joined, leaves_of, height_of, breaks_of, tree_over, leaf_tree, one_leaf, IsTree, IsWide, IsChild, AreChildren}
-use Rattle.rope_tree.specs.Siblings.{AreSiblings, AreParts}
+use Rattle.rope_leaf.specs.Leaves.{AreLeaves, IsSeam, Recuts}
+use Rattle.rope_leaf.specs.Tree.{Tree, text, joined, leaves_of, height_of, breaks_of, tree_over, leaf_tree, one_leaf, IsTree, IsWide, IsChild, AreChildren}
+use Rattle.rope_leaf.specs.Siblings.{AreSiblings, AreParts}
 use Rattle.rope_tree.proofs.PartLaws.{same_set}
-use Rattle.rope_tree.proofs.LeafLaws.{all_left, all_right, seam_of_left, seam_of_right, recuts_kept, recuts_left, recuts_right}
-use Rattle.rope_tree.proofs.StandLaws.{one_leaf_is}
-use Rattle.rope_tree.proofs.TreeLaws.{height_of_is, breaks_of_is, wide_weaker, wide_more}
-use Rattle.rope_tree.proofs.NodeLaws.{leaves_of-append}
-use Rattle.rope_tree.proofs.SiblingLaws.{byte_len-append}
-use Rattle.rope_tree.proofs.InsertLeaves.{wide_leaf, text_of_leaf}
+use Rattle.rope_leaf.proofs.LeafLaws.{all_left, all_right, seam_of_left, seam_of_right, recuts_kept, recuts_left, recuts_right}
+use Rattle.rope_leaf.proofs.StandLaws.{one_leaf_is}
+use Rattle.rope_leaf.proofs.TreeLaws.{height_of_is, breaks_of_is, wide_weaker, wide_more}
+use Rattle.rope_leaf.proofs.NodeLaws.{leaves_of-append}
+use Rattle.rope_leaf.proofs.SiblingLaws.{byte_len-append}
+use Rattle.rope_leaf.proofs.InsertLeaves.{wide_leaf, text_of_leaf}
 use Rattle.rope_join.specs.Join.{CanJoin, EndsIn, BeginsIn, IsNear, IsUnion}
 
 -- a union of two trees of equal height

@@ -9,11 +9,11 @@ use Rattle.rope_text.specs.Text.{byte_len}
 use Rattle.rope_text.proofs.Measures.{IsMeasure-byte_len}
 use Rattle.rope_text.proofs.CuttingLaws.{concat-append}
 use Rattle.rope_text.proofs.DenseLaws.{last_bytes-some}
-use Rattle.rope_tree.specs.Leaves.{Recuts}
-use Rattle.rope_tree.specs.Tree.{Tree, text, joined, leaves_of, height_of, breaks_of, tree_over, IsTree, IsWide, IsChild, AreChildren}
-use Rattle.rope_tree.specs.Siblings.{AreParts, gathered}
-use Rattle.rope_tree.proofs.TreeLaws.{height_of_is, breaks_of_is, is_tree_over}
-use Rattle.rope_tree.proofs.NodeLaws.{children_of_first}
+use Rattle.rope_leaf.specs.Leaves.{Recuts}
+use Rattle.rope_leaf.specs.Tree.{Tree, text, joined, leaves_of, height_of, breaks_of, tree_over, IsTree, IsWide, IsChild, AreChildren}
+use Rattle.rope_leaf.specs.Siblings.{AreParts, gathered}
+use Rattle.rope_leaf.proofs.TreeLaws.{height_of_is, breaks_of_is, is_tree_over}
+use Rattle.rope_leaf.proofs.NodeLaws.{children_of_first}
 use Rattle.rope_tree.proofs.EmptyTrees.{no_leaves_of, lone_of_none}
 use Rattle.rope_tree.specs.declared.node.Nodes.{Nodes}
 use Rattle.rope_tree.specs.declared.node.Nodes.TheVariants.{One, Two}

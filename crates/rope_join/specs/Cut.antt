@@ -2,9 +2,9 @@
 use Rattle.std.specs.Prelude.{◌≡◌, ℕ, ◌+◌, ◌≤◌, max, List, [], ◌∷◌, ◌++◌, length, take, drop}
 use Rattle.rope_text.specs.declared.TheConstants.{MAX_CHILDREN, MIN_TWO_LEAVES_BYTES}
 use Rattle.rope_text.specs.Dense.{IsDenseAfter, last_bytes}
-use Rattle.rope_tree.specs.Leaves.{AreLeaves}
-use Rattle.rope_tree.specs.Tree.{Tree, text, height_of, IsTree, AreFamily}
-use Rattle.rope_tree.specs.Siblings.{gathered}
+use Rattle.rope_leaf.specs.Leaves.{AreLeaves}
+use Rattle.rope_leaf.specs.Tree.{Tree, text, height_of, IsTree, AreFamily}
+use Rattle.rope_leaf.specs.Siblings.{gathered}
 use Rattle.rope_join.specs.Join.{CanJoin, IsUnion}
 use Rattle.rope_join.specs.declared.cut.Side.{Side}
 use Rattle.rope_join.specs.declared.cut.Side.TheVariants.{Front, Back}

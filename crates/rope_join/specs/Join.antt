@@ -3,9 +3,9 @@ use Rattle.std.specs.Prelude.{◌≡◌, ◌+◌, ◌^◌, ◌≤◌, ◌<◌, m
 use Rattle.rope_text.specs.declared.TheConstants.{MAX_CHILDREN, MIN_TWO_LEAVES_BYTES}
 use Rattle.rope_text.specs.Text.{byte_len}
 use Rattle.rope_text.specs.Dense.{IsDenseAfter, last_bytes}
-use Rattle.rope_tree.specs.Leaves.{IsSeam, Recuts}
-use Rattle.rope_tree.specs.Tree.{Tree, text, leaves_of, tree_over, AreChildren}
-use Rattle.rope_tree.specs.Siblings.{AreParts}
+use Rattle.rope_leaf.specs.Leaves.{IsSeam, Recuts}
+use Rattle.rope_leaf.specs.Tree.{Tree, text, leaves_of, tree_over, AreChildren}
+use Rattle.rope_leaf.specs.Siblings.{AreParts}
 
 -- two trees that may be joined: they have one set of line breaks, and at the seam, the boundary
 -- between them, no CR meets an LF

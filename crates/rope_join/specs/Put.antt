@@ -4,10 +4,10 @@ use Rattle.std.specs.List.{concat}
 use Rattle.rope_text.specs.declared.TheConstants.{MIN_TWO_LEAVES_BYTES}
 use Rattle.rope_text.specs.Text.{byte_len}
 use Rattle.rope_text.specs.Dense.{IsDenseAfter, last_bytes}
-use Rattle.rope_tree.specs.Leaves.{AreLeaves, IsSeam, Recuts}
-use Rattle.rope_tree.specs.Siblings.{gathered}
+use Rattle.rope_leaf.specs.Leaves.{AreLeaves, IsSeam, Recuts}
+use Rattle.rope_leaf.specs.Siblings.{gathered}
 use Rattle.rope_join.specs.Join.{IsJoin}
-use Rattle.rope_tree.specs.Tree.{Tree, text, joined, leaves_of, height_of, breaks_of, IsTree}
+use Rattle.rope_leaf.specs.Tree.{Tree, text, joined, leaves_of, height_of, breaks_of, IsTree}
 
 -- the leaves of the children before, and those of the tree and of the children after it
 abbrev pub leaves_before : List Tree → ℕ → List (List ℕ)

@@ -2,11 +2,11 @@
 //! wholly inside the result are shared.
 ghost use Rattle.std.specs.Prelude.{◌≡◌, ◌+◌, ◌-◌, ◌*◌, ◌<◌, ◌≤◌, ◌++◌, length, take, drop, IfOk, OnOk, OnErr};
 ghost use Rattle.std.specs.List.{slice_range};
-ghost use Rattle.rope_tree.specs.Tree.{text, leaf_tree, IsTree};
+ghost use Rattle.rope_leaf.specs.Tree.{text, leaf_tree, IsTree};
 ghost use Rattle.rope_tree.specs.View.{trees_in};
-ghost use Rattle.rope_tree.specs.Siblings.{gathered};
+ghost use Rattle.rope_leaf.specs.Siblings.{gathered};
 ghost use Rattle.rope_tree.specs.Rows.{IsRow};
-ghost use Rattle.rope_tree.specs.Searched.{HasSearched};
+ghost use Rattle.rope_leaf.specs.Searched.{HasSearched};
 ghost use Rattle.rope_join.specs.Cut.{side_of, IsFront, IsBack, ArePart, AreBeside, IsWithFront, IsWithBack};
 
 use crate::join::{unite, unite_after, unite_before};

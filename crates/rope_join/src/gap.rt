@@ -7,11 +7,11 @@ ghost use Rattle.std.specs.Prelude.{◌≡◌, ◌+◌, ◌*◌, ◌<◌, ◌≤
 ghost use Rattle.rope_text.specs.declared.TheConstants.{MIN_TWO_LEAVES_BYTES};
 ghost use Rattle.rope_text.specs.Dense.{IsDenseAfter, last_bytes};
 ghost use Rattle.rope_text.specs.Text.{byte_len};
-ghost use Rattle.rope_tree.specs.Leaves.{IsSeam};
-ghost use Rattle.rope_tree.specs.Siblings.{gathered};
-ghost use Rattle.rope_tree.specs.Totals.{HasTotals};
-ghost use Rattle.rope_tree.specs.Searched.{HasSearched};
-ghost use Rattle.rope_tree.specs.Tree.{text, leaves_of, height_of, breaks_of, IsTree, AreFamily};
+ghost use Rattle.rope_leaf.specs.Leaves.{IsSeam};
+ghost use Rattle.rope_leaf.specs.Siblings.{gathered};
+ghost use Rattle.rope_leaf.specs.Totals.{HasTotals};
+ghost use Rattle.rope_leaf.specs.Searched.{HasSearched};
+ghost use Rattle.rope_leaf.specs.Tree.{text, leaves_of, height_of, breaks_of, IsTree, AreFamily};
 ghost use Rattle.rope_join.specs.Cut.{first_chars, last_chars, SparesFirst, SparesLast, IsSides};
 ghost use Rattle.rope_join.specs.Put.{CanPut, CanPutAtEnd, IsPut, IsPutAtEnd, leaves_before};
 

@@ -10,9 +10,9 @@ ghost use Rattle.rope_text.specs.Text.{byte_len};
 ghost use Rattle.rope_text.specs.Cutting.{parts_crlf};
 ghost use Rattle.rope_text.specs.Dense.{IsDenseAfter, last_bytes};
 ghost use Rattle.rope_text.specs.Edit.{inserted, removed};
-ghost use Rattle.rope_tree.specs.Leaves.{IsSeam};
-ghost use Rattle.rope_tree.specs.Searched.{HasSearched};
-ghost use Rattle.rope_tree.specs.Tree.{text, leaf_tree, IsTree};
+ghost use Rattle.rope_leaf.specs.Leaves.{IsSeam};
+ghost use Rattle.rope_leaf.specs.Searched.{HasSearched};
+ghost use Rattle.rope_leaf.specs.Tree.{text, leaf_tree, IsTree};
 
 use crate::cut::{back, front};
 use crate::gap::{join_sides, put, stands, without};
@@ -20,8 +20,8 @@ use crate::join::{end_leaf_len, join};
 use rope_text::{MAX_BYTES, MAX_SHORT_BYTES, MIN_TWO_LEAVES_BYTES};
 use rope_tree::build::build;
 use rope_tree::{
-    Builder, Editor, MAX_MEDIUM_BYTES, Made, Maker, Node, ShortText, View, insert_at,
-    insert_medium_at, is_lf, leaf_of, remove_at, total_before,
+    Builder, Editor, MAX_MEDIUM_BYTES, Made, Maker, Node, ShortText, View, counted_char_at,
+    insert_at, insert_medium_at, is_lf, leaf_of, remove_at, total_before,
 };
 
 /// Returns whether a CR at the end of the first `end` characters of one tree meets an LF at the
@@ -36,7 +36,7 @@ fn meets(editor: &mut Editor, left: &Node, end: usize, right: &Node, start: usiz
     ensures searched { HasSearched (2 * max left.now.height right.now.height + 2)
         (10 * max left.now.height right.now.height) editor.old editor.new }
 {
-    end > 0 && editor.char_at(left, end - 1) == '\r' && is_lf(editor, right, start)
+    end > 0 && counted_char_at(editor, left, end - 1) == '\r' && is_lf(editor, right, start)
 }
 
 /// Joins the first `end` characters of one tree and the characters of another from `start` on.

@@ -7,8 +7,8 @@ use Rattle.rope_text.specs.TextInfo.{info_of}
 use Rattle.rope_text.specs.Cutting.{clip}
 use Rattle.rope_text.specs.Lookup.{chunk_index_at_line_break}
 use Rattle.rope_text.proofs.ClipLaws.{concat-clip}
-use Rattle.rope_tree.specs.declared.search.Unit.TheVariants.{LineBreak}
-use Rattle.rope_tree.specs.Tree.{Tree, IsTree, text}
+use Rattle.rope_leaf.specs.declared.search.Unit.TheVariants.{LineBreak}
+use Rattle.rope_leaf.specs.Tree.{Tree, IsTree, text}
 use Rattle.rope_slice.specs.Edge.{IsExcerpt}
 use Rattle.rope_slice.specs.Path.{Place, leaves, HoldsPlace}
 use Rattle.rope_slice.specs.Span.{IsSpanFrom, clipped_at, clipped_place}

@@ -23,7 +23,7 @@ use Rattle.rope_slice.specs.Path.{Place, leaves}
 use Rattle.rope_slice.proofs.InChunks.{in_chunk}
 use Rattle.rope_text.specs.LineParts.{after_byte}
 use Rattle.rope_slice.specs.Caret.{halves_at, HoldsAhead, IsCaret, PassesLine}
-use Rattle.rope_tree.specs.Search.{IsSmall}
+use Rattle.rope_leaf.specs.Search.{IsSmall}
 use Rattle.rope_slice.proofs.Carets.{some_break, here_apart, whole_text, size_two, size_front, small_of}
 
 -- chunks of no text

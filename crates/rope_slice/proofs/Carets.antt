@@ -23,8 +23,8 @@ use Rattle.rope_text.proofs.LineSeams.{parts_crlf-take, first_line-left, first_l
 use Rattle.rope_slice.specs.Path.{Place, IsNext, leaves}
 use Rattle.rope_text.specs.LineParts.{after_byte, IsBetween}
 use Rattle.rope_slice.specs.Caret.{AreChunks, IsCaret, PassesLine}
-use Rattle.rope_tree.specs.Search.{IsSmall}
-use Rattle.rope_tree.proofs.Infos.{small_info}
+use Rattle.rope_leaf.specs.Search.{IsSmall}
+use Rattle.rope_leaf.proofs.Infos.{small_info}
 use Rattle.rope_slice.proofs.Spans.{leaves_next}
 
 -- no CR meets LF after joined texts, or before a prefix of a text

@@ -26,7 +26,7 @@ use Rattle.rope_text.specs.LineParts.{before_byte, after_byte, last_line_byte, l
 use Rattle.rope_slice.specs.Caret.{halves_at, AreChunks, IsCaret, PassesBack}
 use Rattle.rope_slice.proofs.Spans.{leaves_next}
 use Rattle.rope_slice.proofs.Carets.{apart_joined, apart_front, small_of, size_two, whole_text}
-use Rattle.rope_tree.specs.Search.{IsSmall}
+use Rattle.rope_leaf.specs.Search.{IsSmall}
 
 -- texts with too few breaks were passed backward, up to the start of a chunk; `left` breaks are
 -- left to pass

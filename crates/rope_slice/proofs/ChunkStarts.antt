@@ -25,9 +25,9 @@ use Rattle.rope_text.proofs.LineLaws.{line_start_first}
 use Rattle.rope_text.proofs.Measures.{IsMeasure-byte_len}
 use Rattle.rope_text.proofs.Apart.{some_char}
 use Rattle.rope_text.specs.Conversions.{char_to_line}
-use Rattle.rope_tree.specs.declared.search.Unit.{Unit}
-use Rattle.rope_tree.specs.declared.search.Unit.TheVariants.{Byte, Char, CodeUnit, LineBreak}
-use Rattle.rope_tree.specs.Search.{count_of}
+use Rattle.rope_leaf.specs.declared.search.Unit.{Unit}
+use Rattle.rope_leaf.specs.declared.search.Unit.TheVariants.{Byte, Char, CodeUnit, LineBreak}
+use Rattle.rope_leaf.specs.Search.{count_of}
 use Rattle.rope_slice.specs.Starts.{AreBefore, IsItem, size_in, chunk_place}
 use Rattle.rope_slice.proofs.ClippedChunks.{front_less}
 use Rattle.rope_slice.proofs.FoundChunks.{first_index, line_break_index}

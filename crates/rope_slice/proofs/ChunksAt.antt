@@ -6,11 +6,11 @@ use Rattle.rope_text.specs.declared.text_info.TextInfo.{TextInfo}
 use Rattle.rope_text.specs.TextInfo.{info_of}
 use Rattle.rope_text.specs.Cutting.{clip, single_chunk}
 use Rattle.rope_text.specs.Lookup.{chunk_index_at_char}
-use Rattle.rope_tree.specs.declared.search.Unit.{Unit}
-use Rattle.rope_tree.specs.declared.search.Unit.TheVariants.{Byte, Char, CodeUnit, LineBreak}
-use Rattle.rope_tree.specs.Search.{count_of}
-use Rattle.rope_tree.specs.Tree.{Tree, IsTree, text}
-use Rattle.rope_tree.specs.Found.{IsFound}
+use Rattle.rope_leaf.specs.declared.search.Unit.{Unit}
+use Rattle.rope_leaf.specs.declared.search.Unit.TheVariants.{Byte, Char, CodeUnit, LineBreak}
+use Rattle.rope_leaf.specs.Search.{count_of}
+use Rattle.rope_leaf.specs.Tree.{Tree, IsTree, text}
+use Rattle.rope_leaf.specs.Found.{IsFound}
 use Rattle.rope_slice.specs.Edge.{IsExcerpt}
 use Rattle.rope_slice.specs.Found.{MayHold, chunk_index}
 use Rattle.rope_slice.proofs.Measured.{Measured, measured}

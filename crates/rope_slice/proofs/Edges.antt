@@ -16,11 +16,11 @@ use Rattle.rope_text.proofs.BreakLaws.{break_count-append}
 use Rattle.rope_text.proofs.InfoLaws.{surrogate_count-append, same_info}
 use Rattle.rope_text.proofs.LineLaws.{line_start-le-length}
 use Rattle.rope_text.proofs.LineSeams.{break_count-front, parts_crlf-take}
-use Rattle.rope_tree.specs.declared.search.Unit.TheVariants.{Char, LineBreak}
-use Rattle.rope_tree.specs.Tree.{Tree, text, IsTree}
-use Rattle.rope_tree.specs.Found.{IsFound}
+use Rattle.rope_leaf.specs.declared.search.Unit.TheVariants.{Char, LineBreak}
+use Rattle.rope_leaf.specs.Tree.{Tree, text, IsTree}
+use Rattle.rope_leaf.specs.Found.{IsFound}
 use Rattle.rope_tree.proofs.FoundLaws.{lies_at, front_in, found_char, found_char_to_byte, found_char_to_utf16, found_char_to_line, found_line_start, found_line_to_byte}
-use Rattle.rope_tree.proofs.LeafLaws.{nonempty_leaves}
+use Rattle.rope_leaf.proofs.LeafLaws.{nonempty_leaves}
 use Rattle.rope_slice.specs.Edge.{start_info, end_info, IsLeafFrom}
 
 front_apart : (s leaf rest : List ℕ) (k : ℕ) → parts_crlf s (leaf ++ rest) ≡ false

@@ -15,9 +15,9 @@ use Rattle.rope_text.specs.TextInfo.{info_of}
 use Rattle.rope_text.proofs.Measures.{IsMeasure-byte_len, IsMeasure-utf16_len, size_le, size_le_all}
 use Rattle.rope_text.proofs.ConversionLaws.{byte_to_char-le-length, byte_to_line-byte_to_char, char_to_line-less}
 use Rattle.rope_text.proofs.LineLaws.{line_start-le-length}
-use Rattle.rope_tree.specs.declared.search.Unit.{Unit}
-use Rattle.rope_tree.specs.declared.search.Unit.TheVariants.{Byte, Char, CodeUnit, LineBreak}
-use Rattle.rope_tree.specs.Search.{count_of}
+use Rattle.rope_leaf.specs.declared.search.Unit.{Unit}
+use Rattle.rope_leaf.specs.declared.search.Unit.TheVariants.{Byte, Char, CodeUnit, LineBreak}
+use Rattle.rope_leaf.specs.Search.{count_of}
 use Rattle.rope_tree.specs.Conversions.{end_index, first_sought, are_converted, converted}
 use Rattle.rope_tree.proofs.FoundLaws.{utf16_to_char-le}
 use Rattle.rope_tree.proofs.ConvertedLaws.{converted_end}

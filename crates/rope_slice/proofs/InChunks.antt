@@ -9,9 +9,9 @@ use Rattle.rope_text.specs.Text.{byte_len}
 use Rattle.rope_text.proofs.Measures.{IsMeasure-byte_len, size_lt}
 use Rattle.rope_text.proofs.ClipLaws.{clip_empty, slice_range_empty, concat-clip, length-slice_range, slice_range-slice_range, clip-clip}
 use Rattle.rope_text.specs.declared.text_info.TextInfo.{TextInfo}
-use Rattle.rope_tree.specs.declared.search.Unit.{Unit}
-use Rattle.rope_tree.specs.Tree.{Tree, text}
-use Rattle.rope_tree.specs.Found.{IsFound}
+use Rattle.rope_leaf.specs.declared.search.Unit.{Unit}
+use Rattle.rope_leaf.specs.Tree.{Tree, text}
+use Rattle.rope_leaf.specs.Found.{IsFound}
 use Rattle.rope_tree.proofs.FoundLaws.{lies_at}
 use Rattle.rope_slice.specs.InChunk.{IsInChunk}
 use Rattle.rope_slice.proofs.Clips.{single_chunk-clip, clip_past}

@@ -15,9 +15,9 @@ use Rattle.rope_text.proofs.CuttingLaws.{IsCutting-clip}
 use Rattle.rope_text.proofs.ChunkLaws.{KeepsCrlf-clip}
 use Rattle.rope_text.proofs.ClipLaws.{concat-clip}
 use Rattle.rope_text.proofs.TextParts.{all_scalars-take, all_scalars-drop}
-use Rattle.rope_tree.specs.Leaves.{IsLeafText}
-use Rattle.rope_tree.specs.Tree.{Tree, text, IsTree}
-use Rattle.rope_tree.proofs.LeafLaws.{nonempty_leaves}
+use Rattle.rope_leaf.specs.Leaves.{IsLeafText}
+use Rattle.rope_leaf.specs.Tree.{Tree, text, IsTree}
+use Rattle.rope_leaf.proofs.LeafLaws.{nonempty_leaves}
 use Rattle.rope_slice.specs.Edge.{IsExcerpt}
 use Rattle.rope_slice.specs.Kept.{IsPart}
 use Rattle.rope_slice.specs.Slice.{text_of, chunks_of}

@@ -12,7 +12,7 @@ use Rattle.rope_text.proofs.LineLaws.{line_start_mono}
 use Rattle.rope_text.proofs.LineSeams.{parts_crlf-take, line_start_apart, first_line-drop, first_line-left}
 use Rattle.rope_text.proofs.InfoLaws.{break_count-le-length}
 use Rattle.rope_text.proofs.LinesJoin.{take-slice_range}
-use Rattle.rope_tree.specs.Tree.{Tree, text}
+use Rattle.rope_leaf.specs.Tree.{Tree, text}
 use Rattle.rope_slice.specs.Edge.{IsLeafFrom}
 
 -- the counts up to the next line's start

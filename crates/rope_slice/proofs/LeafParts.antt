@@ -17,10 +17,10 @@ use Rattle.rope_text.proofs.ConversionLaws.{char_to_line-line_start}
 use Rattle.rope_text.proofs.LineLaws.{line_start-le-length}
 use Rattle.rope_text.proofs.LookupLaws.{breaks_before}
 use Rattle.rope_text.proofs.Measures.{IsMeasure-byte_len, size_le, size_lt}
-use Rattle.rope_tree.specs.Tree.{Tree, text, IsTree}
-use Rattle.rope_tree.proofs.LeafLaws.{nonempty_leaves}
-use Rattle.rope_tree.specs.declared.search.Unit.TheVariants.{Byte, Char, LineBreak}
-use Rattle.rope_tree.specs.Found.{IsFound}
+use Rattle.rope_leaf.specs.Tree.{Tree, text, IsTree}
+use Rattle.rope_leaf.proofs.LeafLaws.{nonempty_leaves}
+use Rattle.rope_leaf.specs.declared.search.Unit.TheVariants.{Byte, Char, LineBreak}
+use Rattle.rope_leaf.specs.Found.{IsFound}
 use Rattle.rope_tree.proofs.FoundLaws.{lies_at, found_line_start}
 use Rattle.rope_slice.proofs.ClippedChunks.{before_is_front, upto_is_front}
 use Rattle.rope_slice.specs.Edge.{IsExcerpt}

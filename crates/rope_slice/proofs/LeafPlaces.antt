@@ -13,9 +13,9 @@ use Rattle.rope_text.proofs.ChunkLaws.{before, after}
 use Rattle.rope_text.proofs.ConversionLaws.{byte_to_char-char_to_byte}
 use Rattle.rope_text.proofs.Fronts.{front_at}
 use Rattle.rope_text.proofs.TextParts.{byte_len_boundary}
-use Rattle.rope_tree.specs.Tree.{Tree, text, IsTree}
-use Rattle.rope_tree.specs.declared.search.Unit.TheVariants.{Byte, Char}
-use Rattle.rope_tree.specs.Found.{IsFound}
+use Rattle.rope_leaf.specs.Tree.{Tree, text, IsTree}
+use Rattle.rope_leaf.specs.declared.search.Unit.TheVariants.{Byte, Char}
+use Rattle.rope_leaf.specs.Found.{IsFound}
 use Rattle.rope_tree.proofs.FoundLaws.{lies_at, found_byte, found_byte_to_char}
 use Rattle.rope_slice.specs.Edge.{IsExcerpt}
 use Rattle.rope_slice.specs.LeafPlace.{IsLeafPlace}

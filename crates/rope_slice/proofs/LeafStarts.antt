@@ -14,12 +14,12 @@ use Rattle.rope_text.proofs.Measures.{IsMeasure-byte_len, size_le, size_le_all}
 use Rattle.rope_text.proofs.ChunkLaws.{before_more}
 use Rattle.rope_text.proofs.CuttingLaws.{concat-append}
 use Rattle.rope_text.proofs.ClipLaws.{concat-clip, length-slice_range, slice_range-append}
-use Rattle.rope_tree.specs.Tree.{Tree, text, IsTree}
-use Rattle.rope_tree.proofs.LeafLaws.{nonempty_leaves}
-use Rattle.rope_tree.specs.Found.{IsFound}
-use Rattle.rope_tree.specs.declared.search.Unit.{Unit}
-use Rattle.rope_tree.specs.declared.search.Unit.TheVariants.{Byte, Char, CodeUnit, LineBreak}
-use Rattle.rope_tree.specs.Search.{count_of}
+use Rattle.rope_leaf.specs.Tree.{Tree, text, IsTree}
+use Rattle.rope_leaf.proofs.LeafLaws.{nonempty_leaves}
+use Rattle.rope_leaf.specs.Found.{IsFound}
+use Rattle.rope_leaf.specs.declared.search.Unit.{Unit}
+use Rattle.rope_leaf.specs.declared.search.Unit.TheVariants.{Byte, Char, CodeUnit, LineBreak}
+use Rattle.rope_leaf.specs.Search.{count_of}
 use Rattle.rope_slice.specs.Edge.{IsExcerpt}
 use Rattle.rope_slice.proofs.ClippedChunks.{size_of_part, cons_some}
 use Rattle.rope_slice.proofs.Measured.{Measured, measured}

@@ -21,7 +21,7 @@ use Rattle.rope_slice.specs.InChunk.{IsInChunk}
 use Rattle.rope_slice.proofs.InChunks.{in_chunk_end}
 use Rattle.rope_slice.specs.Caret.{Halves, HoldsAhead}
 use Rattle.rope_slice.specs.Lines.{IsLineStart}
-use Rattle.rope_tree.proofs.Infos.{sum_of_small}
+use Rattle.rope_leaf.proofs.Infos.{sum_of_small}
 use Rattle.rope_slice.proofs.Carets.{small_of, size_front}
 use Rattle.rope_slice.proofs.PartsBetween.{line_from, line_to, line_ordered, line_within, line_apart, line_is}
 

@@ -16,16 +16,16 @@ use Rattle.rope_text.proofs.ChunkLaws.{before, before_more}
 use Rattle.rope_text.proofs.CuttingLaws.{concat-append}
 use Rattle.rope_text.proofs.LookupLaws.{chunk_index_at_byte_is}
 use Rattle.rope_text.proofs.Measures.{IsMeasure-byte_len}
-use Rattle.rope_tree.specs.declared.search.Unit.{Unit}
-use Rattle.rope_tree.specs.declared.search.Unit.TheVariants.{Byte, Char, CodeUnit, LineBreak}
-use Rattle.rope_tree.specs.Search.{count_of}
-use Rattle.rope_tree.specs.Totals.{HasTotals}
-use Rattle.rope_tree.specs.Tree.{Tree, text, joined, leaves_of, height_of, breaks_of, leaf_tree, tree_over, IsTree, IsChild, AreChildren}
-use Rattle.rope_tree.proofs.Descents.{Descends, count_of-nil}
-use Rattle.rope_tree.proofs.LeafLaws.{nonempty_leaves}
+use Rattle.rope_leaf.specs.declared.search.Unit.{Unit}
+use Rattle.rope_leaf.specs.declared.search.Unit.TheVariants.{Byte, Char, CodeUnit, LineBreak}
+use Rattle.rope_leaf.specs.Search.{count_of}
+use Rattle.rope_leaf.specs.Totals.{HasTotals}
+use Rattle.rope_leaf.specs.Tree.{Tree, text, joined, leaves_of, height_of, breaks_of, leaf_tree, tree_over, IsTree, IsChild, AreChildren}
+use Rattle.rope_leaf.proofs.Descents.{Descends, count_of-nil}
+use Rattle.rope_leaf.proofs.LeafLaws.{nonempty_leaves}
 use Rattle.rope_tree.proofs.LookupDescent.{IsOnDescent, at_start, at_end, further}
 use Rattle.rope_tree.proofs.LeafCounts.{lowest}
-use Rattle.rope_tree.proofs.BesideLaws.{one_text}
+use Rattle.rope_leaf.proofs.BesideLaws.{one_text}
 use Rattle.rope_slice.specs.Path.{Place, leaves, IsNext, HoldsPlace}
 use Rattle.rope_slice.specs.Descent.{place_at, IsLow, AreInList, IsDescent}
 use Rattle.rope_slice.specs.Starts.{IsItem}

@@ -10,9 +10,9 @@ use Rattle.std.specs.Str.{chars, encode_utf8_all, IsUtf8}
 use Rattle.rope_text.specs.declared.text_info.TextInfo.{TextInfo}
 use Rattle.rope_text.specs.Text.{byte_len}
 use Rattle.rope_text.proofs.Measures.{IsMeasure-byte_len}
-use Rattle.rope_tree.specs.Tree.{Tree, text, IsTree}
-use Rattle.rope_tree.specs.declared.search.Unit.TheVariants.{Byte}
-use Rattle.rope_tree.proofs.LeafLaws.{nonempty_leaves}
+use Rattle.rope_leaf.specs.Tree.{Tree, text, IsTree}
+use Rattle.rope_leaf.specs.declared.search.Unit.TheVariants.{Byte}
+use Rattle.rope_leaf.proofs.LeafLaws.{nonempty_leaves}
 use Rattle.rope_slice.specs.Edge.{IsExcerpt}
 use Rattle.rope_slice.proofs.Measured.{measured}
 use Rattle.rope_slice.proofs.Excerpts.{bytes_of_part}

@@ -10,10 +10,10 @@ use Rattle.rope_text.specs.Breaks.{is_break_end}
 use Rattle.rope_text.proofs.Measures.{IsMeasure-byte_len, size_le_all}
 use Rattle.rope_text.proofs.ConversionLaws.{char_to_line_upto}
 use Rattle.rope_text.proofs.Places.{length-upto_le}
-use Rattle.rope_tree.specs.declared.search.Unit.{Unit}
-use Rattle.rope_tree.specs.declared.search.Unit.TheVariants.{Byte, Char, CodeUnit, LineBreak}
-use Rattle.rope_tree.specs.Search.{count_of, IsSmall}
-use Rattle.rope_tree.proofs.Infos.{small_info}
+use Rattle.rope_leaf.specs.declared.search.Unit.{Unit}
+use Rattle.rope_leaf.specs.declared.search.Unit.TheVariants.{Byte, Char, CodeUnit, LineBreak}
+use Rattle.rope_leaf.specs.Search.{count_of, IsSmall}
+use Rattle.rope_leaf.proofs.Infos.{small_info}
 use Rattle.rope_slice.specs.Edge.{IsExcerpt}
 use Rattle.rope_slice.proofs.Measured.{measured}
 

@@ -6,7 +6,7 @@ use Rattle.rope_text.specs.declared.TheConstants.{MAX_CHILDREN}
 use Rattle.rope_text.specs.Text.{byte_len}
 use Rattle.rope_text.specs.Lookup.{chunk_index_at_byte}
 use Rattle.rope_text.specs.declared.text_info.TextInfo.{TextInfo}
-use Rattle.rope_tree.specs.Tree.{Tree, IsTree, tree_over}
+use Rattle.rope_leaf.specs.Tree.{Tree, IsTree, tree_over}
 use Rattle.rope_tree.specs.View.{IsInnerOf}
 use Rattle.rope_slice.specs.Path.{Place}
 

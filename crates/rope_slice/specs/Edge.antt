@@ -10,7 +10,7 @@ use Rattle.rope_text.specs.Conversions.{char_to_line}
 use Rattle.rope_text.specs.Cutting.{parts_crlf, KeepsCrlf}
 use Rattle.rope_text.specs.Dense.{IsDenseAfter}
 use Rattle.rope_text.specs.declared.TheConstants.{MAX_HEIGHT}
-use Rattle.rope_tree.specs.Tree.{Tree, IsTree, text}
+use Rattle.rope_leaf.specs.Tree.{Tree, IsTree, text}
 
 -- the counts of the text before a slice's start. Its breaks are those that end there or before: the
 -- CR of a CR LF that the start cuts is not one of them, since the LF is a break of the slice

@@ -4,7 +4,7 @@ use Rattle.std.specs.List.{slice_range}
 use Rattle.rope_text.specs.declared.line_breaks.LineBreaks.{LineBreaks}
 use Rattle.rope_text.specs.Cutting.{clip}
 use Rattle.rope_text.specs.Content.{Content}
-use Rattle.rope_tree.specs.Tree.{text}
+use Rattle.rope_leaf.specs.Tree.{text}
 use Rattle.rope_slice.specs.declared.excerpt.Excerpt.{Excerpt}
 
 -- the text and the leaves of the tree, clipped

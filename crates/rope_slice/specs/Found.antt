@@ -8,8 +8,8 @@ use Rattle.rope_text.specs.Lookup.{FoundChunk, found_chunk, StandsAt, chunk_inde
 use Rattle.rope_text.specs.declared.line_breaks.LineBreaks.{LineBreaks}
 use Rattle.rope_text.specs.Text.{byte_len}
 use Rattle.rope_text.specs.Breaks.{break_count}
-use Rattle.rope_tree.specs.declared.search.Unit.{Unit}
-use Rattle.rope_tree.specs.declared.search.Unit.TheVariants.{Byte, Char, CodeUnit, LineBreak}
+use Rattle.rope_leaf.specs.declared.search.Unit.{Unit}
+use Rattle.rope_leaf.specs.declared.search.Unit.TheVariants.{Byte, Char, CodeUnit, LineBreak}
 use Rattle.rope_text.specs.Sides.{Sides}
 
 -- a chunk and three numbers are the result of the lookup

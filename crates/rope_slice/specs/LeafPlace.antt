@@ -2,9 +2,9 @@
 use Rattle.std.specs.Prelude.{◌≡◌, ℕ, ◌+◌, List}
 use Rattle.rope_text.specs.declared.text_info.TextInfo.{TextInfo}
 use Rattle.rope_text.specs.Conversions.{char_to_byte}
-use Rattle.rope_tree.specs.declared.search.Unit.TheVariants.{Char}
-use Rattle.rope_tree.specs.Found.{IsFound}
-use Rattle.rope_tree.specs.Tree.{Tree}
+use Rattle.rope_leaf.specs.declared.search.Unit.TheVariants.{Char}
+use Rattle.rope_leaf.specs.Found.{IsFound}
+use Rattle.rope_leaf.specs.Tree.{Tree}
 
 -- the leaf contains the character i of the text, after `bytes` bytes and `chars` characters of the
 -- leaf

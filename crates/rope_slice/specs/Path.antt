@@ -5,8 +5,8 @@ use Rattle.std.specs.List.{concat}
 use Rattle.rope_text.specs.declared.line_breaks.LineBreaks.{LineBreaks}
 use Rattle.rope_text.specs.declared.text_info.TextInfo.{TextInfo}
 use Rattle.rope_text.specs.TextInfo.{info_of}
-use Rattle.rope_tree.specs.declared.search.Unit.{Unit}
-use Rattle.rope_tree.specs.Search.{count_of}
+use Rattle.rope_leaf.specs.declared.search.Unit.{Unit}
+use Rattle.rope_leaf.specs.Search.{count_of}
 
 -- the leaves before a leaf, that leaf, and those after it
 pub record Place : Type 0 where

@@ -9,10 +9,10 @@ use Rattle.rope_text.specs.Cutting.{clip}
 use Rattle.rope_text.specs.Lookup.{chunk_index_at_line_break, chunk_place_at_byte, chunk_place_at_char}
 use Rattle.rope_text.specs.declared.text_info.TextInfo.{TextInfo}
 use Rattle.rope_text.specs.TextInfo.{info_of}
-use Rattle.rope_tree.specs.Tree.{Tree, text as tree_text}
-use Rattle.rope_tree.specs.Found.{IsFound}
-use Rattle.rope_tree.specs.declared.search.Unit.{Unit}
-use Rattle.rope_tree.specs.declared.search.Unit.TheVariants.{Byte, Char, CodeUnit, LineBreak}
+use Rattle.rope_leaf.specs.Tree.{Tree, text as tree_text}
+use Rattle.rope_leaf.specs.Found.{IsFound}
+use Rattle.rope_leaf.specs.declared.search.Unit.{Unit}
+use Rattle.rope_leaf.specs.declared.search.Unit.TheVariants.{Byte, Char, CodeUnit, LineBreak}
 use Rattle.rope_slice.specs.Path.{Place, leaves}
 
 -- a byte or a character

@@ -6,10 +6,10 @@ ghost use Rattle.rope_text.specs.Breaks.{break_count};
 ghost use Rattle.rope_text.specs.Text.{byte_len};
 ghost use Rattle.rope_text.specs.TextInfo.{info_of};
 ghost use Rattle.rope_text.specs.Lines.{line_start, line_count};
-ghost use Rattle.rope_tree.specs.declared.search.Unit.TheVariants.{LineBreak};
-ghost use Rattle.rope_tree.specs.Found.{IsFound};
-ghost use Rattle.rope_tree.specs.Search.{count_of};
-ghost use Rattle.rope_tree.specs.Tree.{IsTree, text};
+ghost use Rattle.rope_leaf.specs.declared.search.Unit.TheVariants.{LineBreak};
+ghost use Rattle.rope_leaf.specs.Found.{IsFound};
+ghost use Rattle.rope_leaf.specs.Search.{count_of};
+ghost use Rattle.rope_leaf.specs.Tree.{IsTree, text};
 ghost use Rattle.rope_slice.specs.Edge.{start_info, end_info, line_info, IsLeafFrom, IsExcerpt, IsExcerpt-prop, IsLowTree, IsLowTree-prop};
 ghost use Rattle.rope_slice.specs.InChunk.{IsInChunk};
 

@@ -15,7 +15,7 @@ ghost use Rattle.rope_text.specs.Conversions.{byte_to_char};
 ghost use Rattle.rope_text.specs.Cutting.{clip, single_chunk};
 ghost use Rattle.rope_text.specs.LineParts.{part_between};
 ghost use Rattle.rope_text.specs.Edit.{given, byte_range_error, is_char_boundary};
-ghost use Rattle.rope_tree.specs.Tree.{text};
+ghost use Rattle.rope_leaf.specs.Tree.{text};
 ghost use Rattle.rope_slice.specs.Kept.{IsPart};
 ghost use Rattle.rope_slice.specs.Found.{GivesWithin};
 ghost use Rattle.rope_slice.specs.Sliced.{HasCharRange, HasByteRange, IsCharRange, IsByteRange};

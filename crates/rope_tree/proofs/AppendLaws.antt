@@ -7,14 +7,14 @@ use Rattle.rope_text.specs.declared.line_breaks.LineBreaks.{LineBreaks}
 use Rattle.rope_text.specs.Text.{byte_len}
 use Rattle.rope_text.specs.Dense.{IsDenseAfter, last_bytes}
 use Rattle.rope_text.proofs.CuttingLaws.{concat-append}
-use Rattle.rope_tree.specs.Leaves.{IsSeam}
-use Rattle.rope_tree.specs.Tree.{Tree, joined, leaves_of, height_of, breaks_of, tree_over, IsChild, AreFamily}
-use Rattle.rope_tree.specs.Siblings.{AreSiblings}
-use Rattle.rope_tree.proofs.NodeLaws.{leaves_of-append}
-use Rattle.rope_tree.proofs.SiblingLaws.{byte_len-append, siblings_left, siblings_right, children_of}
+use Rattle.rope_leaf.specs.Leaves.{IsSeam}
+use Rattle.rope_leaf.specs.Tree.{Tree, joined, leaves_of, height_of, breaks_of, tree_over, IsChild, AreFamily}
+use Rattle.rope_leaf.specs.Siblings.{AreSiblings}
+use Rattle.rope_leaf.proofs.NodeLaws.{leaves_of-append}
+use Rattle.rope_leaf.proofs.SiblingLaws.{byte_len-append, siblings_left, siblings_right, children_of}
 use Rattle.rope_tree.proofs.RowLaws.{siblings_of}
 use Rattle.rope_tree.proofs.PartLaws.{same_set}
-use Rattle.rope_tree.proofs.TreeLaws.{is_wide_over}
+use Rattle.rope_leaf.proofs.TreeLaws.{is_wide_over}
 use Rattle.rope_tree.proofs.MoveLaws.{AreMovable, level_of, siblings-append, family_of}
 
 -- two lists of children of one height that may follow each other

@@ -11,13 +11,13 @@ use Rattle.rope_text.specs.Dense.{IsDenseAfter, last_bytes}
 use Rattle.rope_text.proofs.DenseLaws.{last_bytes-append, last_bytes-some, dense_more}
 use Rattle.rope_text.proofs.CuttingLaws.{concat-append}
 use Rattle.rope_text.proofs.Measures.{IsMeasure-byte_len}
-use Rattle.rope_tree.specs.Leaves.{AreLeaves, IsSeam}
-use Rattle.rope_tree.specs.Tree.{Tree, joined, leaves_of, height_of, breaks_of, tree_over, IsChild, AreFamily}
-use Rattle.rope_tree.specs.Siblings.{AreSiblings}
+use Rattle.rope_leaf.specs.Leaves.{AreLeaves, IsSeam}
+use Rattle.rope_leaf.specs.Tree.{Tree, joined, leaves_of, height_of, breaks_of, tree_over, IsChild, AreFamily}
+use Rattle.rope_leaf.specs.Siblings.{AreSiblings}
 use Rattle.rope_tree.specs.Split.{AreSettled, IsBackOf, EndsAs}
-use Rattle.rope_tree.proofs.LeafLaws.{all_right, leaves_left, leaves_right, leaves_seam, leaves_near, seam-drop}
-use Rattle.rope_tree.proofs.NodeLaws.{leaves_of-append, joined-append}
-use Rattle.rope_tree.proofs.SiblingLaws.{byte_len-append, siblings_right}
+use Rattle.rope_leaf.proofs.LeafLaws.{all_right, leaves_left, leaves_right, leaves_seam, leaves_near, seam-drop}
+use Rattle.rope_leaf.proofs.NodeLaws.{leaves_of-append, joined-append}
+use Rattle.rope_leaf.proofs.SiblingLaws.{byte_len-append, siblings_right}
 use Rattle.rope_tree.proofs.RowLaws.{siblings_of}
 use Rattle.rope_tree.proofs.MoveLaws.{AreMovable, level_of, siblings-append}
 use Rattle.rope_tree.proofs.SettledLaws.{settled_some, settled_few, settled_leaves, settled_each}

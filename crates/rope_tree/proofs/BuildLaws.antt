@@ -17,16 +17,16 @@ use Rattle.rope_text.proofs.Apart.{some_char, apart_at_cut}
 use Rattle.rope_text.proofs.Walks.{byte_len-chars}
 use Rattle.rope_text.proofs.CuttingLaws.{concat-append}
 use Rattle.rope_text.proofs.DenseLaws.{last_bytes-append, dense-append}
-use Rattle.rope_tree.specs.Leaves.{IsLeafText, IsSeam}
-use Rattle.rope_tree.specs.Tree.{Tree, leaves_of, joined, height_of, breaks_of, one_leaf, leaf_tree, tree_over, IsTree, IsChild, AreChildren}
-use Rattle.rope_tree.specs.Siblings.{AreSiblings}
+use Rattle.rope_leaf.specs.Leaves.{IsLeafText, IsSeam}
+use Rattle.rope_leaf.specs.Tree.{Tree, leaves_of, joined, height_of, breaks_of, one_leaf, leaf_tree, tree_over, IsTree, IsChild, AreChildren}
+use Rattle.rope_leaf.specs.Siblings.{AreSiblings}
 use Rattle.rope_tree.specs.Fronts.{AreFronts, AreFrontNodes}
-use Rattle.rope_tree.proofs.LeafLaws.{lone_leaf, leaves-append, seam-nil, seam_of_left, seam_left_longer}
-use Rattle.rope_tree.proofs.TreeLaws.{is_wide_over, height_of_is, breaks_of_is}
-use Rattle.rope_tree.proofs.NodeLaws.{leaves_of-append}
-use Rattle.rope_tree.proofs.SiblingLaws.{siblings_left, siblings_right, children_of}
-use Rattle.rope_tree.proofs.StandLaws.{one_leaf_is}
-use Rattle.rope_tree.proofs.InsertLeaves.{wide_leaf}
+use Rattle.rope_leaf.proofs.LeafLaws.{lone_leaf, leaves-append, seam-nil, seam_of_left, seam_left_longer}
+use Rattle.rope_leaf.proofs.TreeLaws.{is_wide_over, height_of_is, breaks_of_is}
+use Rattle.rope_leaf.proofs.NodeLaws.{leaves_of-append}
+use Rattle.rope_leaf.proofs.SiblingLaws.{siblings_left, siblings_right, children_of}
+use Rattle.rope_leaf.proofs.StandLaws.{one_leaf_is}
+use Rattle.rope_leaf.proofs.InsertLeaves.{wide_leaf}
 
 -- one more leaf, from the front of the rest
 fronts_more : (text : List ℕ) (leaves : List (List ℕ)) (rest x y : List ℕ)
@@ -261,10 +261,6 @@ level_up breaks h ts us a some b more =
     let s : AreSiblings breaks (height_of ts + 1) us =
     subst (λ x. AreSiblings x (height_of ts + 1) us) (breaks_of_is breaks h ts some a.each) b in
     subst (λ k. AreSiblings breaks k us) (sym e) s
-
-pub no_chars : (bs : List ℕ) → length bs ≡ 0 → chars bs ≡ []
-no_chars [] none = chars-nil
-no_chars (b ∷ bs) none = absurd (omega arith)
 
 -- each node has a leaf
 pub nodes_le : (breaks : LineBreaks) (h : ℕ) (ts : List Tree) → All (IsChild breaks h) ts

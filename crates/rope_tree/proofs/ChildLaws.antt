@@ -5,23 +5,23 @@ use Rattle.rope_text.specs.Text.{byte_len}
 use Rattle.rope_text.specs.Edit.{inserted}
 use Rattle.rope_text.specs.TextInfo.{info_of, info_sum, HasPart}
 use Rattle.rope_text.proofs.Measures.{IsMeasure-byte_len}
-use Rattle.rope_tree.specs.Tree.{Tree, text, joined, height_of, breaks_of, tree_over, AreChildren}
-use Rattle.rope_tree.specs.Totals.{HasTotals}
+use Rattle.rope_leaf.specs.Tree.{Tree, text, joined, height_of, breaks_of, tree_over, AreChildren}
+use Rattle.rope_leaf.specs.Totals.{HasTotals}
 use Rattle.rope_tree.specs.declared.node.Children.TheInside.{Inside}
 use Rattle.rope_tree.specs.Listed.{listed, IsListed}
 use Rattle.rope_tree.proofs.ListedLaws.{seen_at, set_seen, set_listed, set_totals}
-use Rattle.rope_tree.specs.Search.{IsSmall}
-use Rattle.rope_tree.specs.Insert.{MayInsert, GoesIn, IsInserted, AreGrown}
-use Rattle.rope_tree.proofs.Infos.{small_info}
-use Rattle.rope_tree.specs.Narrow.{AreNarrow, FitsWith}
-use Rattle.rope_tree.specs.Change.{IsChange, no_counts}
-use Rattle.rope_tree.proofs.CountLaws.{counts_grow}
-use Rattle.rope_tree.proofs.ChangeLaws.{grown_change, part_of_part, part_fits, whole_changed, change_by, change_own, change_of_list}
-use Rattle.rope_tree.proofs.TreeLaws.{breaks_of_is}
-use Rattle.rope_tree.proofs.InsertDescents.{Takes, takes, last_total}
-use Rattle.rope_tree.proofs.InsertTrees.{child_may, text_around, byte_len-inserted}
-use Rattle.rope_tree.proofs.TotalLaws.{has_part, fits_after}
-use Rattle.rope_tree.proofs.GrownLaws.{totals_seen, grown, children_grown, child_grown}
+use Rattle.rope_leaf.specs.Search.{IsSmall}
+use Rattle.rope_leaf.specs.Insert.{MayInsert, GoesIn, IsInserted, AreGrown}
+use Rattle.rope_leaf.proofs.Infos.{small_info}
+use Rattle.rope_leaf.specs.Narrow.{AreNarrow, FitsWith}
+use Rattle.rope_leaf.specs.Change.{IsChange, no_counts}
+use Rattle.rope_leaf.proofs.CountLaws.{counts_grow}
+use Rattle.rope_leaf.proofs.ChangeLaws.{grown_change, part_of_part, part_fits, whole_changed, change_by, change_own, change_of_list}
+use Rattle.rope_leaf.proofs.TreeLaws.{breaks_of_is}
+use Rattle.rope_leaf.proofs.InsertDescents.{Takes, takes, last_total}
+use Rattle.rope_leaf.proofs.InsertTrees.{child_may, text_around, byte_len-inserted}
+use Rattle.rope_leaf.proofs.TotalLaws.{has_part, fits_after}
+use Rattle.rope_leaf.proofs.GrownLaws.{totals_seen, grown, children_grown, child_grown}
 
 -- a property of both outcomes holds of a failure
 pub on_err : {T E P : Type 0} (r : Result T E) → P → OnErr r P

@@ -12,12 +12,12 @@ use Rattle.rope_text.proofs.Measures.{IsMeasure-byte_len, IsMeasure-utf16_len, s
 use Rattle.rope_text.proofs.ConversionLaws.{byte_to_char-byte_len, byte_to_char-le-length, char_to_line_end, utf16_len-le}
 use Rattle.rope_text.proofs.LineLaws.{line_start-le-length, line_start_first, line_start_past}
 use Rattle.rope_text.proofs.AsciiTexts.{ascii_front, ascii_units, ascii_byte_to_char, ascii_utf16_to_char}
-use Rattle.rope_tree.specs.declared.search.Unit.{Unit}
-use Rattle.rope_tree.specs.declared.search.Unit.TheVariants.{Byte, Char, CodeUnit, LineBreak}
-use Rattle.rope_tree.specs.Search.{count_of}
+use Rattle.rope_leaf.specs.declared.search.Unit.{Unit}
+use Rattle.rope_leaf.specs.declared.search.Unit.TheVariants.{Byte, Char, CodeUnit, LineBreak}
+use Rattle.rope_leaf.specs.Search.{count_of}
 use Rattle.rope_tree.specs.Conversions.{first_sought, are_converted, converted}
-use Rattle.rope_tree.specs.Tree.{Tree, text, IsTree}
-use Rattle.rope_tree.specs.Found.{IsFound}
+use Rattle.rope_leaf.specs.Tree.{Tree, text, IsTree}
+use Rattle.rope_leaf.specs.Found.{IsFound}
 use Rattle.rope_tree.proofs.FoundLaws.{utf16_to_char_end, char_to_byte_end, char_to_utf16_end, byte_to_line_end, found_byte_to_char, found_utf16_to_char, found_char_to_line, found_byte_to_line, found_char_to_byte, found_char_to_utf16, found_line_start, found_line_to_byte, utf16_to_char-le, char_to_line-le, byte_to_line-le}
 
 -- a conversion is that of the leaf, after the text before it

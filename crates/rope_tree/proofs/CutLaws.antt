@@ -9,13 +9,13 @@ use Rattle.rope_text.specs.declared.text_info.TextInfo.{TextInfo}
 use Rattle.rope_text.specs.Text.{byte_len}
 use Rattle.rope_text.specs.TextInfo.{info_of, info_sum}
 use Rattle.rope_text.proofs.InfoLaws.{same_info}
-use Rattle.rope_tree.specs.Tree.{Tree, text, joined, height_of, breaks_of, IsChild, AreChildren}
-use Rattle.rope_tree.specs.Totals.{HasTotals}
-use Rattle.rope_tree.specs.Narrow.{IsNarrow, AreNarrow, FitsWith}
-use Rattle.rope_tree.specs.Search.{IsSmall}
-use Rattle.rope_tree.proofs.Infos.{info_within, small_info}
-use Rattle.rope_tree.proofs.NodeLaws.{child_at, more_at, byte_len-joined}
-use Rattle.rope_tree.proofs.TotalLaws.{sums_more, sums_cancel, get_or_self}
+use Rattle.rope_leaf.specs.Tree.{Tree, text, joined, height_of, breaks_of, IsChild, AreChildren}
+use Rattle.rope_leaf.specs.Totals.{HasTotals}
+use Rattle.rope_leaf.specs.Narrow.{IsNarrow, AreNarrow, FitsWith}
+use Rattle.rope_leaf.specs.Search.{IsSmall}
+use Rattle.rope_leaf.proofs.Infos.{info_within, small_info}
+use Rattle.rope_leaf.proofs.NodeLaws.{child_at, more_at, byte_len-joined}
+use Rattle.rope_leaf.proofs.TotalLaws.{sums_more, sums_cancel, get_or_self}
 
 -- the counts of the first m children
 abbrev counted : LineBreaks → List Tree → ℕ → TextInfo

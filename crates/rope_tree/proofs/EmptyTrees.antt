@@ -6,8 +6,8 @@ use Rattle.std.proofs.lemmas.Str.{length-le-encodes}
 use Rattle.std.proofs.lemmas.Bool.{cases_lt}
 use Rattle.std.proofs.Math.Nat.{mul-le-mul_right, one-le-pow}
 use Rattle.rope_text.specs.Text.{byte_len}
-use Rattle.rope_tree.specs.Tree.{Tree, text, IsTree}
-use Rattle.rope_tree.proofs.LeafLaws.{leaves_le}
+use Rattle.rope_leaf.specs.Tree.{Tree, text, IsTree}
+use Rattle.rope_leaf.proofs.LeafLaws.{leaves_le}
 
 -- a tree without text has no leaf, and is a single node
 pub no_leaves_of : (t : Tree) → IsTree t → byte_len (text t) ≡ 0 → t.leaves ≡ []

@@ -9,21 +9,21 @@ use Rattle.rope_text.specs.declared.text_info.TextInfo.{TextInfo}
 use Rattle.rope_text.specs.Text.{byte_len}
 use Rattle.rope_text.specs.TextInfo.{info_of, info_sum}
 use Rattle.rope_tree.specs.declared.node.Children.TheInside.{Inside}
-use Rattle.rope_tree.specs.Leaves.{AreLeaves}
-use Rattle.rope_tree.specs.Tree.{Tree, text, joined, leaves_of, height_of, breaks_of, IsChild}
-use Rattle.rope_tree.specs.Siblings.{AreLevel}
-use Rattle.rope_tree.specs.Totals.{HasTotals}
-use Rattle.rope_tree.specs.Narrow.{IsNarrow}
-use Rattle.rope_tree.specs.RunningTotals.{AreSmall, FitFrom}
-use Rattle.rope_tree.specs.Change.{no_counts}
-use Rattle.rope_tree.specs.Flat.{IsFlat}
+use Rattle.rope_leaf.specs.Leaves.{AreLeaves}
+use Rattle.rope_leaf.specs.Tree.{Tree, text, joined, leaves_of, height_of, breaks_of, IsChild}
+use Rattle.rope_leaf.specs.Siblings.{AreLevel}
+use Rattle.rope_leaf.specs.Totals.{HasTotals}
+use Rattle.rope_leaf.specs.Narrow.{IsNarrow}
+use Rattle.rope_leaf.specs.RunningTotals.{AreSmall, FitFrom}
+use Rattle.rope_leaf.specs.Change.{no_counts}
+use Rattle.rope_leaf.specs.Flat.{IsFlat}
 use Rattle.rope_tree.specs.Listed.{listed, IsListed}
-use Rattle.rope_tree.proofs.Infos.{info_within}
-use Rattle.rope_tree.proofs.NodeLaws.{joined_one, byte_len-joined, small_totals}
-use Rattle.rope_tree.proofs.PartCounts.{sum_turned}
+use Rattle.rope_leaf.proofs.Infos.{info_within}
+use Rattle.rope_leaf.proofs.NodeLaws.{joined_one, byte_len-joined, small_totals}
+use Rattle.rope_leaf.proofs.PartCounts.{sum_turned}
 use Rattle.rope_tree.proofs.PartLaws.{counts_both, front_are_leaves}
-use Rattle.rope_tree.proofs.SiblingLaws.{siblings_right}
-use Rattle.rope_tree.proofs.TreeLaws.{breaks_of_is}
+use Rattle.rope_leaf.proofs.SiblingLaws.{siblings_right}
+use Rattle.rope_leaf.proofs.TreeLaws.{breaks_of_is}
 
 -- counts of a text whose counts all fit in 32 bits
 pub narrow_info : (b : LineBreaks) (s : List ℕ) → byte_len s < 2 ^ 32 → IsNarrow (info_of b s)

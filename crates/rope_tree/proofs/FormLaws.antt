@@ -11,17 +11,18 @@ use Rattle.rope_text.specs.Edit.{inserted}
 use Rattle.rope_tree.specs.declared.node.Node.TheInside.{Inside}
 use Rattle.rope_tree.specs.declared.node.Form.{Form}
 use Rattle.rope_tree.specs.declared.node.Children.{Children}
-use Rattle.rope_tree.specs.declared.leaf.Leaf.{Leaf}
+use Rattle.rope_leaf.specs.declared.leaf.Leaf.{Leaf}
 use Rattle.rope_tree.specs.declared.node.Form.TheVariants.{Empty, Leaf as LeafForm, Inner}
-use Rattle.rope_tree.specs.Tree.{Tree, text, joined, height_of, breaks_of, tree_over, IsTree, IsWide, AreChildren}
-use Rattle.rope_tree.specs.Shape.{form_tree, tree_of, IsLeafNode, IsForm, IsNode}
-use Rattle.rope_tree.specs.Insert.{IsInserted, AreGrown}
-use Rattle.rope_tree.specs.Removal.{IsRemoved, AreRemoved}
+use Rattle.rope_leaf.specs.Tree.{Tree, text, joined, height_of, breaks_of, tree_over, IsTree, IsWide, AreChildren}
+use Rattle.rope_leaf.specs.LeafTree.{IsLeafNode}
+use Rattle.rope_tree.specs.Shape.{form_tree, tree_of, IsForm, IsNode}
+use Rattle.rope_leaf.specs.Insert.{IsInserted, AreGrown}
+use Rattle.rope_leaf.specs.Removal.{IsRemoved, AreRemoved}
 use Rattle.rope_tree.specs.Tries.{IsTried}
-use Rattle.rope_tree.proofs.TreeLaws.{is_leaf_tree, is_tree_over, low_tree}
-use Rattle.rope_tree.proofs.NodeLaws.{children_of_first}
-use Rattle.rope_tree.proofs.RemovalLaws.{over_removed, tree_removed}
-use Rattle.rope_tree.proofs.GrownLaws.{children_after, over_grown}
+use Rattle.rope_leaf.proofs.TreeLaws.{is_leaf_tree, is_tree_over, low_tree}
+use Rattle.rope_leaf.proofs.NodeLaws.{children_of_first}
+use Rattle.rope_leaf.proofs.RemovalLaws.{over_removed, tree_removed}
+use Rattle.rope_leaf.proofs.GrownLaws.{children_after, over_grown}
 
 -- the node over these children
 pub record IsInner (t : Tree) (ts : List Tree) : Type 0 where
@@ -69,13 +70,15 @@ grown_leaf old t ts new own i =
     record { flat = w.at_height ∙ own.flat; tree = w.tree }
 
 -- a leaf that was split, or wasn't
-pub cut_leaf : {E : Type 0} (r : Result (Option Tree) E) (old new : Tree) (s : List ℕ)
-    → IsLeafNode old → IfOk r (λ found. IfSome found (λ back. IsInserted old (new ∷ back ∷ []) s))
+pub cut_leaf : {A E : Type 0} (r : Result (Option A) E) (tree : A → Tree) (old new : Tree)
+    (s : List ℕ) → IsLeafNode old
+    → IfOk r (λ found. IfSome found (λ back. IsInserted old (new ∷ tree back ∷ []) s))
     → IfOk r (λ found. IfNone found (new ≡ old)) → OnErr r (new ≡ old)
     → IsLeafNode new
-cut_leaf (Ok (Some back)) old new s own cut kept err = grown_leaf old new (back ∷ []) s own cut
-cut_leaf (Ok None) old new s own cut kept err = rw kept own
-cut_leaf (Err e) old new s own cut kept err = rw err own
+cut_leaf (Ok (Some back)) tree old new s own cut kept err =
+    grown_leaf old new (tree back ∷ []) s own cut
+cut_leaf (Ok None) tree old new s own cut kept err = rw kept own
+cut_leaf (Err e) tree old new s own cut kept err = rw err own
 
 -- a leaf after a removal
 pub fallen_leaf : (first last : ℕ) (old t : Tree) (start end : ℕ) → start < end → IsLeafNode old

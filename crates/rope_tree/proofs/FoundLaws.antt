@@ -19,13 +19,13 @@ use Rattle.rope_text.proofs.ConversionLaws.{byte_to_char-byte_len, utf16_to_char
 use Rattle.rope_text.proofs.LineLaws.{line_start-le-length}
 use Rattle.rope_text.proofs.InfoLaws.{info_of-append_apart}
 use Rattle.rope_text.proofs.ChunkLaws.{before, after, before_more, concat_at, byte_to_char_at, utf16_to_char_at, char_to_line_at, byte_to_line_at, line_start_at}
-use Rattle.rope_tree.specs.declared.search.Unit.{Unit}
-use Rattle.rope_tree.specs.declared.search.Unit.TheVariants.{Byte, Char, CodeUnit, LineBreak}
-use Rattle.rope_tree.specs.Leaves.{AreLeaves}
-use Rattle.rope_tree.specs.Tree.{Tree, text, IsTree}
-use Rattle.rope_tree.specs.Found.{IsFound}
+use Rattle.rope_leaf.specs.declared.search.Unit.{Unit}
+use Rattle.rope_leaf.specs.declared.search.Unit.TheVariants.{Byte, Char, CodeUnit, LineBreak}
+use Rattle.rope_leaf.specs.Leaves.{AreLeaves}
+use Rattle.rope_leaf.specs.Tree.{Tree, text, IsTree}
+use Rattle.rope_leaf.specs.Found.{IsFound}
 use Rattle.rope_text.proofs.InfoLaws.{break_count-le-length}
-use Rattle.rope_tree.proofs.LeafLaws.{nonempty_leaves, leaves_left, leaves_seam}
+use Rattle.rope_leaf.proofs.LeafLaws.{nonempty_leaves, leaves_left, leaves_seam}
 
 -- at the end of the text
 pub utf16_to_char_end : (text : List ℕ) → utf16_to_char text (utf16_len text) ≡ length text

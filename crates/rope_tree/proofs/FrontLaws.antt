@@ -12,7 +12,7 @@ use Rattle.rope_text.specs.Cutting.{parts_crlf}
 use Rattle.rope_text.proofs.CutOff.{IsCutOff, cut_off}
 use Rattle.rope_text.proofs.Walks.{byte_len-chars}
 use Rattle.rope_text.proofs.Apart.{some_char}
-use Rattle.rope_tree.proofs.HalfLaws.{apart_after}
+use Rattle.rope_leaf.proofs.HalfLaws.{apart_after}
 
 -- the leaf, and the text after it
 pub cut_whole : (bs : List ℕ) (r : ℕ) (leaf more whole : List ℕ) → IsCutOff bs r

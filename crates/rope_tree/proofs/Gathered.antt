@@ -4,9 +4,9 @@ use Rattle.std.specs.List.{All}
 use Rattle.std.proofs.lemmas.List.{append-nil}
 use Rattle.std.proofs.lemmas.List.Elements.{All-head}
 use Rattle.rope_text.specs.declared.line_breaks.LineBreaks.{LineBreaks}
-use Rattle.rope_tree.specs.Tree.{Tree, leaves_of, height_of, breaks_of, tree_over, IsWide, IsTree, AreChildren}
-use Rattle.rope_tree.specs.Siblings.{gathered}
-use Rattle.rope_tree.proofs.TreeLaws.{is_tree_over}
+use Rattle.rope_leaf.specs.Tree.{Tree, leaves_of, height_of, breaks_of, tree_over, IsWide, IsTree, AreChildren}
+use Rattle.rope_leaf.specs.Siblings.{gathered}
+use Rattle.rope_leaf.proofs.TreeLaws.{is_tree_over}
 
 -- properties of the result
 pub record IsGathered (ts : List Tree) (t : Tree) : Type 0 where

@@ -5,11 +5,11 @@ use Rattle.std.proofs.lemmas.List.{drop_more}
 use Rattle.std.proofs.lemmas.Option.{slice_get_within, get_or_from_slice_get}
 use Rattle.rope_text.specs.Text.{byte_len}
 use Rattle.rope_text.specs.Breaks.{begins_with_lf}
-use Rattle.rope_tree.specs.Tree.{Tree, text, height_of, breaks_of, IsTree, AreChildren}
-use Rattle.rope_tree.specs.Siblings.{gathered}
-use Rattle.rope_tree.specs.Insert.{IsInserted}
-use Rattle.rope_tree.proofs.TreeLaws.{breaks_of_wide}
-use Rattle.rope_tree.proofs.NodeLaws.{children_of_first}
+use Rattle.rope_leaf.specs.Tree.{Tree, text, height_of, breaks_of, IsTree, AreChildren}
+use Rattle.rope_leaf.specs.Siblings.{gathered}
+use Rattle.rope_leaf.specs.Insert.{IsInserted}
+use Rattle.rope_leaf.proofs.TreeLaws.{breaks_of_wide}
+use Rattle.rope_leaf.proofs.NodeLaws.{children_of_first}
 use Rattle.rope_tree.proofs.Gathered.{is_gathered, gathered_tree}
 
 -- the character at an index begins the rest

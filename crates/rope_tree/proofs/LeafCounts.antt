@@ -6,9 +6,9 @@ use Rattle.std.proofs.lemmas.List.Elements.{All-head, All-tail}
 use Rattle.std.proofs.lemmas.Str.{length-le-encodes}
 use Rattle.rope_text.specs.declared.line_breaks.LineBreaks.{LineBreaks}
 use Rattle.rope_text.specs.Text.{byte_len}
-use Rattle.rope_tree.specs.Tree.{Tree, leaves_of, IsChild, AreChildren, one_leaf}
-use Rattle.rope_tree.proofs.LeafLaws.{leaves_le}
-use Rattle.rope_tree.proofs.NodeLaws.{leaves_of-append}
+use Rattle.rope_leaf.specs.Tree.{Tree, leaves_of, IsChild, AreChildren, one_leaf}
+use Rattle.rope_leaf.proofs.LeafLaws.{leaves_le}
+use Rattle.rope_leaf.proofs.NodeLaws.{leaves_of-append}
 
 -- the leaves of one more tree
 pub leaves_more : (ts : List Tree) (i : ℕ) (n : Tree) → i < length ts → n ≡ get_or ts i n

@@ -8,18 +8,18 @@ use Rattle.rope_text.specs.Text.{byte_len}
 use Rattle.rope_text.specs.Dense.{IsDenseAfter, last_bytes}
 use Rattle.rope_text.proofs.DenseLaws.{last_bytes-append, last_bytes_more, dense-append, dense_left, dense_right, dense_more}
 use Rattle.rope_text.proofs.Measures.{IsMeasure-byte_len}
-use Rattle.rope_tree.specs.Leaves.{AreLeaves, IsSeam}
-use Rattle.rope_tree.specs.Tree.{Tree, text, joined, leaves_of, breaks_of, leaf_tree, IsTree, IsChild}
-use Rattle.rope_tree.specs.Siblings.{AreSiblings}
+use Rattle.rope_leaf.specs.Leaves.{AreLeaves, IsSeam}
+use Rattle.rope_leaf.specs.Tree.{Tree, text, joined, leaves_of, breaks_of, leaf_tree, IsTree, IsChild}
+use Rattle.rope_leaf.specs.Siblings.{AreSiblings}
 use Rattle.rope_tree.specs.Split.{IsFrontOf, IsBackOf, MayFollow, EndsAs}
-use Rattle.rope_tree.proofs.BesideLaws.{one_text}
-use Rattle.rope_tree.proofs.InsertLeaves.{wide_leaf}
-use Rattle.rope_tree.proofs.LeafLaws.{leaves_right, leaves_seam, seam-take, seam-drop}
+use Rattle.rope_leaf.proofs.BesideLaws.{one_text}
+use Rattle.rope_leaf.proofs.InsertLeaves.{wide_leaf}
+use Rattle.rope_leaf.proofs.LeafLaws.{leaves_right, leaves_seam, seam-take, seam-drop}
 use Rattle.rope_tree.proofs.LeafSplits.{HasLeaf, lone_siblings, level_before, level_after, leaves_are, texts_are, bytes_are}
 use Rattle.rope_tree.proofs.MoveLaws.{AreMovable, level_of, siblings-append}
-use Rattle.rope_tree.proofs.NodeLaws.{leaves_of-append, joined-append, joined_one}
-use Rattle.rope_tree.proofs.SiblingLaws.{byte_len-append, siblings_left, siblings_right}
-use Rattle.rope_tree.proofs.StandLaws.{one_leaf_is}
+use Rattle.rope_leaf.proofs.NodeLaws.{leaves_of-append, joined-append, joined_one}
+use Rattle.rope_leaf.proofs.SiblingLaws.{byte_len-append, siblings_left, siblings_right}
+use Rattle.rope_leaf.proofs.StandLaws.{one_leaf_is}
 
 -- the new leaf
 pub record HasTaken (w leaf : Tree) (at : ℕ) (f : Tree) : Type 0 where

@@ -1,5 +1,5 @@
 -- The fields of a list of children after a change.
-use Rattle.std.proofs.Common.{◌≡◌, ℕ, ◌+◌, ◌-◌, ◌<◌, ◌≤◌, List, [], ◌∷◌, ◌++◌, length, get_or, set, take, drop, refl, sym, ap, ◌∙◌, arith}
+use Rattle.std.proofs.Common.{◌≡◌, ℕ, zero, suc, ◌+◌, ◌-◌, ◌<◌, ◌≤◌, List, [], ◌∷◌, ◌++◌, length, get_or, set, take, drop, refl, sym, ap, ◌∙◌, arith}
 use borrow.Rule.Slice.PartMut.{mid_of, post_of, put_mid}
 use Rattle.std.proofs.Math.Seq.{take-set-lt, drop-append_seam, take-append_seam}
 use Rattle.std.proofs.lemmas.List.Elements.{All-drop}
@@ -8,13 +8,19 @@ use Rattle.std.specs.List.{All, insert}
 use Rattle.rope_text.specs.declared.text_info.TextInfo.{TextInfo}
 use Rattle.rope_text.specs.TextInfo.{info_of, info_sum}
 use Rattle.rope_tree.specs.declared.node.Children.TheInside.{Inside}
-use Rattle.rope_tree.specs.Tree.{Tree, text, height_of, breaks_of, AreChildren}
-use Rattle.rope_tree.specs.Totals.{HasTotals}
-use Rattle.rope_tree.specs.Flat.{IsFlat}
-use Rattle.rope_tree.specs.Listed.{listed, IsListed}
-use Rattle.rope_tree.proofs.TreeLaws.{height_of_is, breaks_of_is}
-use Rattle.rope_tree.proofs.TotalLaws.{totals_after}
-use Rattle.rope_tree.proofs.GrownLaws.{set_parts}
+use Rattle.rope_leaf.specs.Tree.{Tree, text, height_of, breaks_of, AreChildren}
+use Rattle.rope_leaf.specs.Totals.{HasTotals}
+use Rattle.rope_leaf.specs.Flat.{IsFlat}
+use Rattle.rope_tree.specs.Listed.{listed, tallest, IsListed}
+use Rattle.rope_leaf.proofs.TreeLaws.{height_of_is, breaks_of_is}
+use Rattle.rope_leaf.proofs.TotalLaws.{totals_after}
+use Rattle.rope_leaf.proofs.GrownLaws.{set_parts}
+
+pub tallest_above : (ts : List Tree) (k : ℕ) (d : Tree) → k < length ts
+    → (get_or ts k d).height + (get_or ts k d).height + 1 ≤ tallest ts
+tallest_above [] k d lt = absurd (omega arith)
+tallest_above (t ∷ ts) zero d lt = omega arith
+tallest_above (t ∷ ts) (suc k) d lt = omega (arith, tallest_above ts k d (omega arith))
 
 -- a child by its index among the nodes
 pub seen_at : (a : Inside) (ts : List Tree) (k : ℕ) (d : Tree) → listed a ≡ ts → k < length ts

@@ -11,14 +11,14 @@ use Rattle.rope_text.specs.Cutting.{parts_crlf}
 use Rattle.rope_text.proofs.Measures.{IsMeasure-byte_len}
 use Rattle.rope_text.proofs.CuttingLaws.{concat-append}
 use Rattle.rope_text.proofs.InfoLaws.{info_of-append_apart}
-use Rattle.rope_tree.specs.declared.search.Unit.{Unit}
-use Rattle.rope_tree.specs.Leaves.{AreLeaves, IsSeam}
-use Rattle.rope_tree.specs.Tree.{Tree, text, joined, leaves_of, breaks_of, tree_over, leaf_tree, IsTree}
-use Rattle.rope_tree.specs.Search.{count_of, IsSmall}
-use Rattle.rope_tree.specs.Found.{IsFound}
-use Rattle.rope_tree.proofs.LeafLaws.{seam_of_left, leaves_seam}
-use Rattle.rope_tree.proofs.Descents.{Descends, count_of-sum, count_of-nil, leaves_at, front_leaves, front_info}
-use Rattle.rope_tree.proofs.Infos.{small_info}
+use Rattle.rope_leaf.specs.declared.search.Unit.{Unit}
+use Rattle.rope_leaf.specs.Leaves.{AreLeaves, IsSeam}
+use Rattle.rope_leaf.specs.Tree.{Tree, text, joined, leaves_of, breaks_of, tree_over, leaf_tree, IsTree}
+use Rattle.rope_leaf.specs.Search.{count_of, IsSmall}
+use Rattle.rope_leaf.specs.Found.{IsFound}
+use Rattle.rope_leaf.proofs.LeafLaws.{seam_of_left, leaves_seam}
+use Rattle.rope_leaf.proofs.Descents.{Descends, count_of-sum, count_of-nil, leaves_at, front_leaves, front_info}
+use Rattle.rope_leaf.proofs.Infos.{small_info}
 
 -- the node `here` is on the path: the leaves `left` are before it, and it contains the index, as
 -- `rest` in its own text

@@ -10,19 +10,19 @@ use Rattle.rope_text.specs.Edit.{removed}
 use Rattle.rope_text.specs.Dense.{IsDenseAfter, last_bytes}
 use Rattle.rope_text.proofs.DenseLaws.{dense_after_fewer}
 use Rattle.rope_text.proofs.Measures.{IsMeasure-byte_len}
-use Rattle.rope_tree.specs.Leaves.{StandFor, IsEnoughAfter, IsEnoughAhead}
-use Rattle.rope_tree.specs.Tree.{Tree, text, joined, leaves_of, height_of, breaks_of, IsChild, AreChildren}
-use Rattle.rope_tree.specs.Totals.{HasTotals}
-use Rattle.rope_tree.specs.Narrow.{AreNarrow, FitsWith}
-use Rattle.rope_tree.specs.Change.{IsChange}
-use Rattle.rope_tree.specs.Removal.{IsRemoved, AreRemoved}
-use Rattle.rope_tree.proofs.NodeLaws.{child_at, joined_more}
-use Rattle.rope_tree.proofs.BesideLaws.{leaf_next_after, leaf_next_ahead}
-use Rattle.rope_tree.proofs.ChangeLaws.{part_of_part, part_fits, whole_changed, change_by, change_own, change_of_list}
-use Rattle.rope_tree.proofs.InsertDescents.{last_total}
-use Rattle.rope_tree.proofs.TotalLaws.{has_part, fits_after}
+use Rattle.rope_leaf.specs.Leaves.{StandFor, IsEnoughAfter, IsEnoughAhead}
+use Rattle.rope_leaf.specs.Tree.{Tree, text, joined, leaves_of, height_of, breaks_of, IsChild, AreChildren}
+use Rattle.rope_leaf.specs.Totals.{HasTotals}
+use Rattle.rope_leaf.specs.Narrow.{AreNarrow, FitsWith}
+use Rattle.rope_leaf.specs.Change.{IsChange}
+use Rattle.rope_leaf.specs.Removal.{IsRemoved, AreRemoved}
+use Rattle.rope_leaf.proofs.NodeLaws.{child_at, joined_more}
+use Rattle.rope_leaf.proofs.BesideLaws.{leaf_next_after, leaf_next_ahead}
+use Rattle.rope_leaf.proofs.ChangeLaws.{part_of_part, part_fits, whole_changed, change_by, change_own, change_of_list}
+use Rattle.rope_leaf.proofs.InsertDescents.{last_total}
+use Rattle.rope_leaf.proofs.TotalLaws.{has_part, fits_after}
 use Rattle.rope_tree.proofs.ListedLaws.{set_totals}
-use Rattle.rope_tree.proofs.RemovalLaws.{Holds, byte_len-removed, children_removed}
+use Rattle.rope_leaf.proofs.RemovalLaws.{Holds, byte_len-removed, children_removed}
 
 module _ (ts : List Tree) (k : ℕ) (c u : Tree) (i j start end : ℕ)
     (a : AreChildren (breaks_of ts) (height_of ts) ts) (lt : k < length ts)

@@ -11,20 +11,20 @@ use Rattle.rope_text.specs.Text.{byte_len}
 use Rattle.rope_text.specs.TextInfo.{info_of}
 use Rattle.rope_text.specs.Dense.{IsDenseAfter, last_bytes}
 use Rattle.rope_text.proofs.DenseLaws.{dense-append}
-use Rattle.rope_tree.specs.Leaves.{IsSeam}
-use Rattle.rope_tree.specs.Tree.{Tree, joined, leaves_of, height_of, breaks_of, IsChild, AreFamily, tree_over}
-use Rattle.rope_tree.specs.Siblings.{AreSiblings, AreLevel}
+use Rattle.rope_leaf.specs.Leaves.{IsSeam}
+use Rattle.rope_leaf.specs.Tree.{Tree, joined, leaves_of, height_of, breaks_of, IsChild, AreFamily, tree_over}
+use Rattle.rope_leaf.specs.Siblings.{AreSiblings, AreLevel}
 use Rattle.rope_tree.specs.Split.{nodes_over}
-use Rattle.rope_tree.specs.Totals.{HasTotals}
-use Rattle.rope_tree.specs.Flat.{IsFlat}
+use Rattle.rope_leaf.specs.Totals.{HasTotals}
+use Rattle.rope_leaf.specs.Flat.{IsFlat}
 use Rattle.rope_tree.specs.Listed.{listed, IsListed}
 use Rattle.rope_tree.specs.declared.node.Children.TheInside.{Inside}
-use Rattle.rope_tree.proofs.LeafLaws.{all_right, leaves-append}
-use Rattle.rope_tree.proofs.NodeLaws.{leaves_of-append}
-use Rattle.rope_tree.proofs.SiblingLaws.{byte_len-append, siblings_left, siblings_right, children_of}
+use Rattle.rope_leaf.proofs.LeafLaws.{all_right, leaves-append}
+use Rattle.rope_leaf.proofs.NodeLaws.{leaves_of-append}
+use Rattle.rope_leaf.proofs.SiblingLaws.{byte_len-append, siblings_left, siblings_right, children_of}
 use Rattle.rope_tree.proofs.RowLaws.{siblings_of}
 use Rattle.rope_tree.proofs.PartLaws.{same_set}
-use Rattle.rope_tree.proofs.TreeLaws.{height_of_is, breaks_of_is, is_wide_over}
+use Rattle.rope_leaf.proofs.TreeLaws.{height_of_is, breaks_of_is, is_wide_over}
 
 pub over_some : (ts : List Tree) → 1 ≤ length ts → nodes_over ts ≡ tree_over ts ∷ []
 over_some [] some = absurd (omega arith)

@@ -6,15 +6,15 @@ use Rattle.std.proofs.lemmas.List.{append-nil, append_assoc, length-append}
 use Rattle.std.proofs.lemmas.List.Elements.{All-cons, All-head, All-tail, All-append}
 use Rattle.rope_text.specs.declared.line_breaks.LineBreaks.{LineBreaks}
 use Rattle.rope_text.specs.Text.{byte_len}
-use Rattle.rope_tree.specs.Leaves.{AreLeaves}
-use Rattle.rope_tree.specs.Tree.{Tree, joined, leaves_of, height_of, breaks_of, tree_over, IsChild, AreFamily}
-use Rattle.rope_tree.specs.Siblings.{AreSiblings}
+use Rattle.rope_leaf.specs.Leaves.{AreLeaves}
+use Rattle.rope_leaf.specs.Tree.{Tree, joined, leaves_of, height_of, breaks_of, tree_over, IsChild, AreFamily}
+use Rattle.rope_leaf.specs.Siblings.{AreSiblings}
 use Rattle.rope_tree.specs.Split.{nodes_over}
-use Rattle.rope_tree.proofs.LeafLaws.{all_right}
-use Rattle.rope_tree.proofs.NodeLaws.{leaves_of-append}
-use Rattle.rope_tree.proofs.SiblingLaws.{byte_len-append, siblings_left, siblings_right}
+use Rattle.rope_leaf.proofs.LeafLaws.{all_right}
+use Rattle.rope_leaf.proofs.NodeLaws.{leaves_of-append}
+use Rattle.rope_leaf.proofs.SiblingLaws.{byte_len-append, siblings_left, siblings_right}
 use Rattle.rope_tree.proofs.RowLaws.{siblings_of}
-use Rattle.rope_tree.proofs.TreeLaws.{height_of_is, breaks_of_is}
+use Rattle.rope_leaf.proofs.TreeLaws.{height_of_is, breaks_of_is}
 use Rattle.rope_tree.proofs.MoveLaws.{AreMovable, level_of, family_of, over_some, each_over}
 
 -- trees with the same leaves under one node

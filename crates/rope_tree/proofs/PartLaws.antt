@@ -9,23 +9,23 @@ use Rattle.rope_text.specs.declared.line_breaks.LineBreaks.{LineBreaks}
 use Rattle.rope_text.specs.declared.text_info.TextInfo.{TextInfo}
 use Rattle.rope_text.specs.TextInfo.{info_of, info_sum, HasPart}
 use Rattle.rope_text.proofs.InfoLaws.{same_info, info_of-append_apart}
-use Rattle.rope_tree.specs.Leaves.{AreLeaves}
+use Rattle.rope_leaf.specs.Leaves.{AreLeaves}
 use Rattle.rope_text.specs.Text.{byte_len}
-use Rattle.rope_tree.specs.Tree.{Tree, joined, leaves_of, height_of, breaks_of, IsChild, AreChildren}
-use Rattle.rope_tree.specs.Siblings.{AreSiblings}
-use Rattle.rope_tree.specs.Totals.{HasTotals, IsTotalOf}
-use Rattle.rope_tree.specs.Search.{IsSmall}
-use Rattle.rope_tree.specs.Narrow.{FitsWith}
-use Rattle.rope_tree.specs.Flat.{IsFlat}
+use Rattle.rope_leaf.specs.Tree.{Tree, joined, leaves_of, height_of, breaks_of, IsChild, AreChildren}
+use Rattle.rope_leaf.specs.Siblings.{AreSiblings}
+use Rattle.rope_leaf.specs.Totals.{HasTotals, IsTotalOf}
+use Rattle.rope_leaf.specs.Search.{IsSmall}
+use Rattle.rope_leaf.specs.Narrow.{FitsWith}
+use Rattle.rope_leaf.specs.Flat.{IsFlat}
 use Rattle.rope_tree.specs.Rows.{IsPart}
 use Rattle.rope_tree.specs.NewList.{NewList, nodes_in, IsNewList}
-use Rattle.rope_tree.proofs.LeafLaws.{leaves_left, leaves_seam}
-use Rattle.rope_tree.proofs.NodeLaws.{leaves_of-append, joined-append, byte_len-joined, small_totals}
-use Rattle.rope_tree.proofs.TreeLaws.{breaks_of_is}
-use Rattle.rope_tree.proofs.TotalLaws.{sums_cancel}
-use Rattle.rope_tree.proofs.SiblingLaws.{byte_len-append, siblings_right}
+use Rattle.rope_leaf.proofs.LeafLaws.{leaves_left, leaves_seam}
+use Rattle.rope_leaf.proofs.NodeLaws.{leaves_of-append, joined-append, byte_len-joined, small_totals}
+use Rattle.rope_leaf.proofs.TreeLaws.{breaks_of_is}
+use Rattle.rope_leaf.proofs.TotalLaws.{sums_cancel}
+use Rattle.rope_leaf.proofs.SiblingLaws.{byte_len-append, siblings_right}
 use Rattle.rope_tree.proofs.RowLaws.{front_counts, siblings_of}
-use Rattle.rope_tree.proofs.Infos.{small_info}
+use Rattle.rope_leaf.proofs.Infos.{small_info}
 
 -- the counts of adjacent trees are sums
 pub counts_both : (b : LineBreaks) (xs ys : List Tree) → AreLeaves (leaves_of (xs ++ ys))

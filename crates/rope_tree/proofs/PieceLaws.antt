@@ -13,17 +13,17 @@ use Rattle.rope_text.specs.Text.{byte_len}
 use Rattle.rope_text.proofs.Apart.{apart_at_cut, has_chars}
 use Rattle.rope_text.proofs.Measures.{IsMeasure-byte_len}
 use Rattle.rope_text.proofs.Walks.{byte_len-chars}
-use Rattle.rope_tree.specs.Halves.{AreHalves}
-use Rattle.rope_tree.specs.Leaves.{AreLeaves, IsSeam}
-use Rattle.rope_tree.specs.Tree.{Tree, text, joined, leaves_of, leaf_tree, IsTree, IsWide, IsChild}
-use Rattle.rope_tree.specs.Insert.{IsReplaced}
+use Rattle.rope_leaf.specs.Halves.{AreHalves}
+use Rattle.rope_leaf.specs.Leaves.{AreLeaves, IsSeam}
+use Rattle.rope_leaf.specs.Tree.{Tree, text, joined, leaves_of, leaf_tree, IsTree, IsWide, IsChild}
+use Rattle.rope_leaf.specs.Insert.{IsReplaced}
 use Rattle.rope_tree.specs.Pieces.{ArePieces, IsFirstSplit}
 use Rattle.rope_tree.proofs.BuildLaws.{nodes_le}
-use Rattle.rope_tree.proofs.HalfLaws.{front_bytes, back_bytes}
-use Rattle.rope_tree.proofs.InsertLeaves.{wide_leaf}
-use Rattle.rope_tree.proofs.LeafLaws.{leaves-append}
-use Rattle.rope_tree.proofs.StandLaws.{one_leaf_is}
-use Rattle.rope_tree.proofs.TreeLaws.{wide_weaker}
+use Rattle.rope_leaf.proofs.HalfLaws.{front_bytes, back_bytes}
+use Rattle.rope_leaf.proofs.InsertLeaves.{wide_leaf}
+use Rattle.rope_leaf.proofs.LeafLaws.{leaves-append}
+use Rattle.rope_leaf.proofs.StandLaws.{one_leaf_is}
+use Rattle.rope_leaf.proofs.TreeLaws.{wide_weaker}
 
 -- leaves with half a leaf's bytes may follow any leaf
 long_dense : (n : ℕ) (xs : List (List ℕ)) → 1 ≤ n → All (λ leaf. 491 ≤ byte_len leaf) xs

@@ -8,18 +8,18 @@ use Rattle.rope_text.specs.declared.line_breaks.LineBreaks.{LineBreaks}
 use Rattle.rope_text.specs.declared.text_info.TextInfo.{TextInfo}
 use Rattle.rope_text.specs.TextInfo.{info_of, info_sum}
 use Rattle.rope_text.proofs.InfoLaws.{info_of-append_apart}
-use Rattle.rope_tree.specs.Leaves.{AreLeaves}
-use Rattle.rope_tree.specs.Tree.{Tree, text, joined, leaves_of, height_of, breaks_of, IsChild, AreChildren}
-use Rattle.rope_tree.specs.Siblings.{AreSiblings}
-use Rattle.rope_tree.specs.Totals.{HasTotals, IsTotalOf}
-use Rattle.rope_tree.specs.Search.{IsSmall}
-use Rattle.rope_tree.specs.Flat.{IsFlat}
+use Rattle.rope_leaf.specs.Leaves.{AreLeaves}
+use Rattle.rope_leaf.specs.Tree.{Tree, text, joined, leaves_of, height_of, breaks_of, IsChild, AreChildren}
+use Rattle.rope_leaf.specs.Siblings.{AreSiblings}
+use Rattle.rope_leaf.specs.Totals.{HasTotals, IsTotalOf}
+use Rattle.rope_leaf.specs.Search.{IsSmall}
+use Rattle.rope_leaf.specs.Flat.{IsFlat}
 use Rattle.rope_tree.specs.NewList.{NewList, nodes_in, IsNewList}
-use Rattle.rope_tree.proofs.LeafLaws.{leaves_seam, all_right, no_leaves}
-use Rattle.rope_tree.proofs.Infos.{small_info}
-use Rattle.rope_tree.proofs.NodeLaws.{leaves_of-append, joined-append, joined_one, totals_more, children_of_first}
-use Rattle.rope_tree.proofs.SiblingLaws.{byte_len-append, siblings_left}
-use Rattle.rope_tree.proofs.Descents.{front_is}
+use Rattle.rope_leaf.proofs.LeafLaws.{leaves_seam, all_right, no_leaves}
+use Rattle.rope_leaf.proofs.Infos.{small_info}
+use Rattle.rope_leaf.proofs.NodeLaws.{leaves_of-append, joined-append, joined_one, totals_more, children_of_first}
+use Rattle.rope_leaf.proofs.SiblingLaws.{byte_len-append, siblings_left}
+use Rattle.rope_leaf.proofs.Descents.{front_is}
 
 -- the counts with one more tree
 pub counts_more : (b : LineBreaks) (xs : List Tree) (x : Tree)

@@ -4,10 +4,10 @@ use Rattle.std.specs.List.{All}
 use Rattle.std.proofs.lemmas.List.{length-append}
 use Rattle.std.proofs.lemmas.List.Elements.{All-append}
 use Rattle.rope_text.specs.declared.line_breaks.LineBreaks.{LineBreaks}
-use Rattle.rope_tree.specs.Tree.{Tree, leaves_of, height_of, breaks_of, IsChild, AreFamily}
-use Rattle.rope_tree.specs.Siblings.{AreSiblings}
+use Rattle.rope_leaf.specs.Tree.{Tree, leaves_of, height_of, breaks_of, IsChild, AreFamily}
+use Rattle.rope_leaf.specs.Siblings.{AreSiblings}
 use Rattle.rope_tree.specs.Split.{nodes_over, AreSettled}
-use Rattle.rope_tree.proofs.SiblingLaws.{siblings_left, siblings_right}
+use Rattle.rope_leaf.proofs.SiblingLaws.{siblings_left, siblings_right}
 use Rattle.rope_tree.proofs.MoveLaws.{AreMovable, family_of, over_some, few_over, leaves_over_both, each_over}
 
 module _ (cs ns : List Tree) (t : AreSettled cs ns) where

@@ -10,16 +10,16 @@ use Rattle.rope_text.specs.Dense.{IsDenseAfter, last_bytes}
 use Rattle.rope_text.proofs.DenseLaws.{last_bytes-append, last_bytes-some, dense_left}
 use Rattle.rope_text.proofs.CuttingLaws.{concat-append}
 use Rattle.rope_text.proofs.Measures.{IsMeasure-byte_len}
-use Rattle.rope_tree.specs.Tree.{Tree, joined, leaves_of, height_of, breaks_of, IsTree, IsChild, AreFamily, tree_over}
-use Rattle.rope_tree.specs.Siblings.{AreSiblings, gathered}
-use Rattle.rope_tree.specs.Searched.{HasSearched}
-use Rattle.rope_tree.specs.declared.editor.Editor.{Editor}
+use Rattle.rope_leaf.specs.Tree.{Tree, joined, leaves_of, height_of, breaks_of, IsTree, IsChild, AreFamily, tree_over}
+use Rattle.rope_leaf.specs.Siblings.{AreSiblings, gathered}
+use Rattle.rope_leaf.specs.Searched.{HasSearched}
+use Rattle.rope_leaf.specs.declared.editor.Editor.{Editor}
 use Rattle.rope_tree.specs.Split.{IsFrontOf, IsBackOf, AreSides, IsWhole}
-use Rattle.rope_tree.proofs.LeafLaws.{all_right}
-use Rattle.rope_tree.proofs.NodeLaws.{leaves_of-append, joined-append, joined_one, joined_parts}
-use Rattle.rope_tree.proofs.SiblingLaws.{byte_len-append, siblings_left, siblings_right}
+use Rattle.rope_leaf.proofs.LeafLaws.{all_right}
+use Rattle.rope_leaf.proofs.NodeLaws.{leaves_of-append, joined-append, joined_one, joined_parts}
+use Rattle.rope_leaf.proofs.SiblingLaws.{byte_len-append, siblings_left, siblings_right}
 use Rattle.rope_tree.proofs.RowLaws.{siblings_of}
-use Rattle.rope_tree.proofs.TreeLaws.{height_of_is, breaks_of_is}
+use Rattle.rope_leaf.proofs.TreeLaws.{height_of_is, breaks_of_is}
 use Rattle.rope_tree.proofs.LeafSplits.{leaves_some}
 use Rattle.rope_tree.proofs.MoveLaws.{family_of}
 use Rattle.rope_tree.proofs.Gathered.{is_gathered, gathered_tree}

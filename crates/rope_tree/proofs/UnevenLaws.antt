@@ -8,13 +8,13 @@ use Rattle.rope_text.specs.declared.line_breaks.LineBreaks.{LineBreaks}
 use Rattle.rope_text.specs.Text.{byte_len}
 use Rattle.rope_text.proofs.CuttingLaws.{concat-append}
 use Rattle.rope_text.proofs.Measures.{IsMeasure-byte_len}
-use Rattle.rope_tree.specs.Leaves.{AreLeaves}
-use Rattle.rope_tree.specs.Tree.{Tree, joined, leaves_of, height_of, breaks_of, tree_over, IsChild, AreFamily}
-use Rattle.rope_tree.specs.Siblings.{AreSiblings}
+use Rattle.rope_leaf.specs.Leaves.{AreLeaves}
+use Rattle.rope_leaf.specs.Tree.{Tree, joined, leaves_of, height_of, breaks_of, tree_over, IsChild, AreFamily}
+use Rattle.rope_leaf.specs.Siblings.{AreSiblings}
 use Rattle.rope_tree.specs.Split.{AreSettled}
-use Rattle.rope_tree.proofs.LeafLaws.{all_left, all_right, leaves_left, leaves_right}
-use Rattle.rope_tree.proofs.NodeLaws.{leaves_of-append}
-use Rattle.rope_tree.proofs.TreeLaws.{height_of_is, breaks_of_is, is_wide_over}
+use Rattle.rope_leaf.proofs.LeafLaws.{all_left, all_right, leaves_left, leaves_right}
+use Rattle.rope_leaf.proofs.NodeLaws.{leaves_of-append}
+use Rattle.rope_leaf.proofs.TreeLaws.{height_of_is, breaks_of_is, is_wide_over}
 use Rattle.rope_tree.proofs.MoveLaws.{AreMovable, level_of, family_of}
 use Rattle.rope_tree.proofs.SettledLaws.{settled_leaves, settled_each}
 

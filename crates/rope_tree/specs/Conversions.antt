@@ -4,8 +4,8 @@ use Rattle.rope_text.specs.declared.line_breaks.LineBreaks.{LineBreaks}
 use Rattle.rope_text.specs.Text.{byte_len, utf16_len}
 use Rattle.rope_text.specs.Lines.{line_count}
 use Rattle.rope_text.specs.Conversions.{byte_to_char, byte_to_line, char_to_byte, char_to_line, char_to_utf16, line_to_byte, line_to_char, utf16_to_char}
-use Rattle.rope_tree.specs.declared.search.Unit.{Unit}
-use Rattle.rope_tree.specs.declared.search.Unit.TheVariants.{Byte, Char, CodeUnit, LineBreak}
+use Rattle.rope_leaf.specs.declared.search.Unit.{Unit}
+use Rattle.rope_leaf.specs.declared.search.Unit.TheVariants.{Byte, Char, CodeUnit, LineBreak}
 
 -- the index of the end of a text; for lines it is one past the last
 abbrev pub end_index : Unit → LineBreaks → List ℕ → ℕ

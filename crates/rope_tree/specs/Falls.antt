@@ -9,8 +9,8 @@ use Rattle.rope_tree.specs.declared.node.Children.TheInside.{Inside}
 use Rattle.rope_tree.specs.declared.node.Form.{Form}
 use Rattle.rope_tree.specs.declared.node.Form.TheVariants.{Empty, Leaf, Inner}
 use Rattle.rope_tree.specs.declared.node.Children.TheDeep.{deep-Form}
-use Rattle.rope_tree.specs.Tree.{Tree, IsChild, height_of, breaks_of}
-use Rattle.rope_tree.specs.Flat.{IsFlat}
+use Rattle.rope_leaf.specs.Tree.{Tree, IsChild, height_of, breaks_of}
+use Rattle.rope_leaf.specs.Flat.{IsFlat}
 use Rattle.rope_tree.specs.Listed.{tallest, listed, IsListed}
 use Rattle.rope_tree.specs.Shape.{form_tree, IsForm}
 

@@ -5,8 +5,8 @@ use Rattle.rope_text.specs.declared.TheConstants.{MIN_CUT_BYTES, MIN_TWO_LEAVES_
 use Rattle.rope_text.specs.declared.line_breaks.LineBreaks.{LineBreaks}
 use Rattle.rope_text.specs.Text.{byte_len}
 use Rattle.rope_text.specs.Dense.{last_bytes}
-use Rattle.rope_tree.specs.Leaves.{AreLeaves, IsSeam}
-use Rattle.rope_tree.specs.Tree.{Tree, joined, leaves_of, IsChild}
+use Rattle.rope_leaf.specs.Leaves.{AreLeaves, IsSeam}
+use Rattle.rope_leaf.specs.Tree.{Tree, joined, leaves_of, IsChild}
 use Rattle.rope_tree.specs.declared.builder.Builder.TheInside.{Inside}
 
 -- the leaves so far, and the rest of the text, whose first characters may begin any leaf

@@ -3,9 +3,9 @@ use Rattle.std.specs.Prelude.{◌≡◌, ℕ, ◌+◌, max, List, [], ◌∷◌,
 use Rattle.std.specs.List.{All}
 use Rattle.rope_text.specs.declared.TheConstants.{MAX_CHILDREN}
 use Rattle.rope_tree.specs.declared.node.Children.TheInside.{Inside}
-use Rattle.rope_tree.specs.Tree.{Tree, height_of, breaks_of}
-use Rattle.rope_tree.specs.Totals.{HasTotals}
-use Rattle.rope_tree.specs.Flat.{IsFlat}
+use Rattle.rope_leaf.specs.Tree.{Tree, height_of, breaks_of}
+use Rattle.rope_leaf.specs.Totals.{HasTotals}
+use Rattle.rope_leaf.specs.Flat.{IsFlat}
 
 -- a bound above the size of every tree, and above that of an empty node
 abbrev pub tallest : List Tree → ℕ

@@ -3,9 +3,9 @@ use Rattle.std.specs.Prelude.{◌≡◌, List, length, take, drop}
 use Rattle.std.specs.List.{All}
 use Rattle.rope_text.specs.declared.TheConstants.{MAX_CHILDREN}
 use Rattle.rope_text.specs.declared.text_info.TextInfo.{TextInfo}
-use Rattle.rope_tree.specs.Tree.{Tree, breaks_of}
-use Rattle.rope_tree.specs.Totals.{HasTotals}
-use Rattle.rope_tree.specs.Flat.{IsFlat}
+use Rattle.rope_leaf.specs.Tree.{Tree, breaks_of}
+use Rattle.rope_leaf.specs.Totals.{HasTotals}
+use Rattle.rope_leaf.specs.Flat.{IsFlat}
 
 -- the entries of its nodes, and the totals of the first of them
 pub record NewList : Type 0 where

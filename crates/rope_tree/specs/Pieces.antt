@@ -6,8 +6,8 @@ use Rattle.rope_text.specs.declared.TheConstants.{MAX_BYTES, MIN_CUT_BYTES, MIN_
 use Rattle.rope_text.specs.declared.line_breaks.LineBreaks.{LineBreaks}
 use Rattle.rope_text.specs.Text.{byte_len}
 use Rattle.rope_text.specs.Cutting.{parts_crlf}
-use Rattle.rope_tree.specs.Leaves.{AreLeaves}
-use Rattle.rope_tree.specs.Tree.{Tree, joined, leaves_of, IsChild}
+use Rattle.rope_leaf.specs.Leaves.{AreLeaves}
+use Rattle.rope_leaf.specs.Tree.{Tree, joined, leaves_of, IsChild}
 
 -- leaves of this text, each with at least half a leaf's bytes less one
 pub record ArePieces (breaks : LineBreaks) (new : List ℕ) (ts : List Tree) : Type 0 where

@@ -2,9 +2,9 @@
 use Rattle.std.specs.Prelude.{◌≡◌, ◌≤◌, ℕ, List, length, take, drop, IfSome}
 use Rattle.rope_text.specs.declared.TheConstants.{MAX_CHILDREN}
 use Rattle.rope_text.specs.declared.text_info.TextInfo.{TextInfo}
-use Rattle.rope_tree.specs.Tree.{Tree, breaks_of}
-use Rattle.rope_tree.specs.Siblings.{AreLevel}
-use Rattle.rope_tree.specs.Totals.{HasTotals}
+use Rattle.rope_leaf.specs.Tree.{Tree, breaks_of}
+use Rattle.rope_leaf.specs.Siblings.{AreLevel}
+use Rattle.rope_leaf.specs.Totals.{HasTotals}
 use Rattle.rope_tree.specs.declared.node.row.Row.{Row}
 
 -- the trees are some of adjacent trees with these totals, and `from` trees precede them

@@ -1,15 +1,10 @@
 -- The model and the invariant of a node.
 use Rattle.std.specs.Prelude.{[]}
-use Rattle.rope_tree.specs.Flat.{IsFlat}
-use Rattle.rope_tree.specs.Tree.{Tree, IsTree, AreChildren, leaf_tree, tree_over, height_of, breaks_of}
+use Rattle.rope_leaf.specs.LeafTree.{IsLeafNode}
+use Rattle.rope_leaf.specs.Tree.{Tree, AreChildren, leaf_tree, tree_over, height_of, breaks_of}
 use Rattle.rope_tree.specs.declared.node.Node.TheInside.{Inside}
 use Rattle.rope_tree.specs.declared.node.Form.{Form}
 use Rattle.rope_tree.specs.declared.node.Form.TheVariants.{Empty, Leaf, Inner}
-
--- a leaf node: a tree of height 0, with the invariants of every node
-pub record IsLeafNode (t : Tree) : Type 0 where
-  pub flat : IsFlat t
-  pub tree : IsTree t
 
 abbrev pub form_tree : Form → Tree
 form_tree (Empty b) = leaf_tree b []

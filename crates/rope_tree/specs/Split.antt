@@ -3,8 +3,8 @@ use Rattle.std.specs.Prelude.{◌≡◌, ℕ, ◌≤◌, List, [], ◌∷◌, �
 use Rattle.rope_text.specs.declared.TheConstants.{MAX_CHILDREN, MIN_CHILDREN}
 use Rattle.rope_text.specs.declared.line_breaks.LineBreaks.{LineBreaks}
 use Rattle.rope_text.specs.Dense.{IsDenseAfter, last_bytes}
-use Rattle.rope_tree.specs.Tree.{Tree, joined, leaves_of, height_of, breaks_of, tree_over}
-use Rattle.rope_tree.specs.Siblings.{AreSiblings}
+use Rattle.rope_leaf.specs.Tree.{Tree, joined, leaves_of, height_of, breaks_of, tree_over}
+use Rattle.rope_leaf.specs.Siblings.{AreSiblings}
 
 -- the node over a list of children: none if the list is empty
 abbrev pub nodes_over : List Tree → List Tree

@@ -1,9 +1,9 @@
 -- The view of a node.
 use Rattle.std.specs.Prelude.{◌≡◌, List, [], ◌∷◌}
 use Rattle.rope_text.specs.declared.text_info.TextInfo.{TextInfo}
-use Rattle.rope_tree.specs.Tree.{Tree, AreChildren, tree_over, height_of, breaks_of}
-use Rattle.rope_tree.specs.LeafTree.{IsLeafOf}
-use Rattle.rope_tree.specs.Totals.{HasTotals}
+use Rattle.rope_leaf.specs.Tree.{Tree, AreChildren, tree_over, height_of, breaks_of}
+use Rattle.rope_leaf.specs.LeafTree.{IsLeafOf}
+use Rattle.rope_leaf.specs.Totals.{HasTotals}
 use Rattle.rope_tree.specs.declared.node.View.{View}
 use Rattle.rope_tree.specs.declared.node.View.TheVariants.{Leaf, Inner}
 use Rattle.rope_tree.specs.declared.node.Nodes.{Nodes}

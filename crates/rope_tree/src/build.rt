@@ -2,11 +2,11 @@
 ghost use Rattle.std.specs.Prelude.{◌≡◌, ◌+◌, ◌-◌, ◌*◌, ◌/◌, ◌<◌, ◌≤◌, length, IfOk};
 ghost use Rattle.std.specs.Str.{chars};
 ghost use Rattle.rope_text.specs.declared.TheConstants.{MAX_CHILDREN, MIN_CHILDREN, MIN_CUT_BYTES};
-ghost use Rattle.rope_tree.specs.Tree.{text, leaves_of, height_of, breaks_of, IsTree};
-ghost use Rattle.rope_tree.specs.Siblings.{AreSiblings};
+ghost use Rattle.rope_leaf.specs.Tree.{text, leaves_of, height_of, breaks_of, IsTree};
+ghost use Rattle.rope_leaf.specs.Siblings.{AreSiblings};
 
-use crate::node_text::first_leaf_len;
 use crate::{Made, Maker, Node, leaf_of, node_over};
+use rope_leaf::first_leaf_len;
 use rope_text::{FRESH_CHILDREN, FRESH_LEAVES, LineBreaks, MAX_BYTES, MAX_CHILDREN};
 
 /// Returns the number of nodes on the level above these, by the numbers of children of a fresh

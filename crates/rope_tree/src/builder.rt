@@ -5,12 +5,12 @@ ghost use Rattle.rope_text.specs.declared.TheConstants.{MAX_BYTES, MIN_CUT_BYTES
 ghost use Rattle.rope_text.specs.Text.{byte_len};
 ghost use Rattle.rope_text.specs.Cutting.{parts_crlf};
 ghost use Rattle.rope_text.specs.Edit.{size_error, IsRefusal};
-ghost use Rattle.rope_tree.specs.Tree.{text, joined, leaf_tree, leaves_of, IsTree};
+ghost use Rattle.rope_leaf.specs.Tree.{text, joined, leaf_tree, leaves_of, IsTree};
 ghost use Rattle.rope_tree.specs.Fronts.{AreFrontNodes};
 
 use crate::build::root_over;
-use crate::node_text::{first_leaf_len, text_of_parts};
 use crate::{Made, Maker, Node, NodeText, leaf_of};
+use rope_leaf::{first_leaf_len, text_of_parts};
 use rope_text::crlf::{prev_break, seam_is_break};
 use rope_text::{Error, LineBreaks, MAX_BYTES, MAX_TEXT_BYTES, MIN_CUT_BYTES, Result};
 use std::alloc::{AllocError, Global};

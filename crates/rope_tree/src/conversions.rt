@@ -4,11 +4,11 @@ ghost use Rattle.std.specs.Prelude.{◌≡◌, ◌≤◌, ◌<◌, true};
 ghost use Rattle.std.specs.Str.{chars};
 ghost use Rattle.rope_text.specs.TextInfo.{info_of};
 ghost use Rattle.rope_tree.specs.Conversions.{end_index, first_sought, are_converted, converted};
-ghost use Rattle.rope_tree.specs.Tree.{text};
+ghost use Rattle.rope_leaf.specs.Tree.{text};
 ghost use Rattle.rope_tree.specs.StepBounds.{HaveRoom, LooksUp, WentDown};
 
-use crate::search::Unit::{Byte, Char, CodeUnit, LineBreak};
 use crate::{Node, Unit, count, leaf_at};
+use rope_leaf::Unit::{Byte, Char, CodeUnit, LineBreak};
 use rope_text::{LineBreaks, Steps, TextInfo, str_utils};
 
 /// Returns the first index for which a conversion descends: 1 for lines, since the first line

@@ -5,9 +5,9 @@ ghost use Rattle.std.specs.Str.{encode_utf8_all};
 ghost use Rattle.rope_text.specs.declared.text_info.TextInfo.{TextInfo};
 ghost use Rattle.rope_text.specs.Text.{byte_len};
 ghost use Rattle.rope_text.specs.TextInfo.{info_of};
-ghost use Rattle.rope_tree.specs.Search.{count_of};
-ghost use Rattle.rope_tree.specs.Tree.{text};
-ghost use Rattle.rope_tree.specs.Found.{IsFound};
+ghost use Rattle.rope_leaf.specs.Search.{count_of};
+ghost use Rattle.rope_leaf.specs.Tree.{text};
+ghost use Rattle.rope_leaf.specs.Found.{IsFound};
 ghost use Rattle.rope_tree.specs.StepBounds.{HaveRoom, LooksUp};
 
 use crate::{Node, ShortText, Unit, View, count, place_of, total_before};

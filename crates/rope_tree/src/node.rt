@@ -4,14 +4,14 @@ ghost use Rattle.std.specs.Prelude.{◌≡◌, ◌+◌, ◌^◌, ◌<◌, ◌≤
 ghost use Rattle.std.specs.Str.{chars};
 ghost use Rattle.rope_text.specs.declared.TheConstants.{MAX_BYTES, MAX_CHILDREN, MAX_HEIGHT};
 ghost use Rattle.rope_text.specs.TextInfo.{info_of};
-ghost use Rattle.rope_tree.specs.Tree.{Tree, text, joined, breaks_of, leaf_tree, IsTree};
-ghost use Rattle.rope_tree.specs.Totals.{HasTotals};
-ghost use Rattle.rope_tree.specs.Flat.{IsFlat};
-ghost use Rattle.rope_tree.specs.Shape.{IsLeafNode};
+ghost use Rattle.rope_leaf.specs.Tree.{Tree, text, joined, breaks_of, leaf_tree, IsTree};
+ghost use Rattle.rope_leaf.specs.Totals.{HasTotals};
+ghost use Rattle.rope_leaf.specs.Flat.{IsFlat};
+ghost use Rattle.rope_leaf.specs.LeafTree.{IsLeafNode};
 ghost use Rattle.rope_tree.specs.View.{IsViewOf};
 
-use crate::leaf::Leaf;
 use crate::{Made, Maker, ShortText, Totals};
+use rope_leaf::Leaf;
 use rope_text::{LineBreaks, MAX_CHILDREN, TextInfo};
 use std::marker::Model;
 use std::rc::Rc;
@@ -58,7 +58,7 @@ struct Children {
 
 impl Model for Children {
     ghost use Rattle.std.specs.Prelude.{List};
-    ghost use Rattle.rope_tree.specs.Tree.{Tree};
+    ghost use Rattle.rope_leaf.specs.Tree.{Tree};
 
     ghost Value = { List Tree };
 
@@ -77,7 +77,7 @@ impl Model for Children {
 
 impl Model for Node {
     ghost use Rattle.std.specs.Prelude.{◌+◌};
-    ghost use Rattle.rope_tree.specs.Tree.{Tree};
+    ghost use Rattle.rope_leaf.specs.Tree.{Tree};
 
     ghost Value = { Tree };
 

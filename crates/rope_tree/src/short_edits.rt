@@ -2,24 +2,38 @@
 //! and removals from one leaf or from two adjacent ones.
 //!
 //! If an allocation fails, the tree is unchanged.
-ghost use Rattle.std.specs.Prelude.{◌≡◌, ◌+◌, ◌-◌, ◌*◌, ◌<◌, ◌≤◌, ◌^◌, true, false, length, drop, IfOk, OnOk, OnErr};
+ghost use Rattle.std.specs.Prelude.{◌≡◌, ◌+◌, ◌-◌, ◌*◌, ◌<◌, ◌≤◌, ◌^◌, true, false, length, drop, slice_get, Some, IfOk, OnOk, OnErr};
 ghost use Rattle.std.specs.Str.{chars};
 ghost use Rattle.rope_text.specs.declared.TheConstants.{MAX_BYTES, MAX_SHORT_BYTES};
 ghost use Rattle.rope_text.specs.Text.{byte_len};
 ghost use Rattle.rope_text.specs.Breaks.{begins_with_lf};
 ghost use Rattle.rope_text.specs.Edit.{inserted, removed};
-ghost use Rattle.rope_tree.specs.Tree.{text, leaf_tree, IsTree};
+ghost use Rattle.rope_leaf.specs.Tree.{text, leaf_tree, IsTree};
 ghost use Rattle.rope_tree.specs.View.{trees_in};
-ghost use Rattle.rope_tree.specs.Searched.{HasSearched};
-ghost use Rattle.rope_tree.specs.declared.TheConstants.{MAX_MEDIUM_BYTES};
-ghost use Rattle.rope_tree.specs.Insert.{Takes, MayInsert, IsInserted, extra_leaves};
+ghost use Rattle.rope_leaf.specs.Searched.{HasSearched};
+ghost use Rattle.rope_leaf.specs.declared.TheConstants.{MAX_MEDIUM_BYTES};
+ghost use Rattle.rope_leaf.specs.Insert.{Takes, MayInsert, IsInserted, extra_leaves};
 ghost use Rattle.rope_tree.specs.Tries.{IsTried};
 
-use crate::beside::Least;
-use crate::leaf_edits::ends_in_cr;
 use crate::node::anew::insert;
-use crate::{Editor, Made, MediumText, Node, ShortText, root_of};
-use rope_text::TextInfo;
+use crate::{Editor, Made, MediumText, Node, ShortText, char_at, root_of};
+use rope_leaf::{Least, ends_in_cr};
+use rope_text::{Steps, TextInfo};
+
+/// Returns the character at an index, and counts the lookup.
+pub fn counted_char_at(editor: &mut Editor, node: &Node, char_idx: usize) -> char
+    requires tree { IsTree node.now }
+    requires within { char_idx < length (text node.now) }
+    ensures value { slice_get (text node.now) char_idx ≡ Some result }
+    ensures made { editor.new.maker.made ≡ editor.old.maker.made }
+    ensures searched { HasSearched (node.now.height + 1) (5 * node.now.height)
+        editor.old editor.new }
+{
+    let mut steps = Steps::new();
+    let found = char_at(node, char_idx, &mut steps);
+    editor.add(steps);
+    found
+}
 
 /// Returns whether the character at an index is LF. The end of the text has none.
 pub fn is_lf(editor: &mut Editor, node: &Node, at: usize) -> bool
@@ -30,7 +44,7 @@ pub fn is_lf(editor: &mut Editor, node: &Node, at: usize) -> bool
     ensures searched { HasSearched (node.now.height + 1) (5 * node.now.height)
         editor.old editor.new }
 {
-    at < node.info().chars && editor.char_at(node, at) == '\n'
+    at < node.info().chars && counted_char_at(editor, node, at) == '\n'
 }
 
 /// Returns on which side of a seam between leaves a text goes: a text that ends in CR goes to the

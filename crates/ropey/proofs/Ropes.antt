@@ -10,10 +10,10 @@ use Rattle.rope_text.specs.Text.{byte_len}
 use Rattle.rope_text.specs.Cutting.{IsChunkSize}
 use Rattle.rope_text.specs.Content as of_content
 use Rattle.rope_text.proofs.DenseLaws.{few_chunks}
-use Rattle.rope_tree.specs.Leaves.{IsLeafText}
-use Rattle.rope_tree.specs.Tree.{Tree, text, IsTree}
-use Rattle.rope_tree.proofs.LeafLaws.{leaf_sizes, leaves_le}
-use Rattle.rope_tree.proofs.TreeLaws.{low_tree}
+use Rattle.rope_leaf.specs.Leaves.{IsLeafText}
+use Rattle.rope_leaf.specs.Tree.{Tree, text, IsTree}
+use Rattle.rope_leaf.proofs.LeafLaws.{leaf_sizes, leaves_le}
+use Rattle.rope_leaf.proofs.TreeLaws.{low_tree}
 use Rattle.ropey.specs.View.{RopeView, IsRope, HasFewChunks, content, view_of}
 use lib.Utf8.{scalar, encode}
 use Rattle.rope_slice.proofs.Kept.{scalars-concat}

@@ -4,7 +4,7 @@ use Rattle.rope_text.specs.declared.TheConstants.{MAX_CHILDREN, MAX_HEIGHT, MIN_
 use Rattle.rope_text.specs.declared.line_breaks.LineBreaks.{LineBreaks}
 use Rattle.rope_text.specs.Content.{Content}
 use Rattle.rope_text.specs.Content as of_content
-use Rattle.rope_tree.specs.Tree.{Tree, text}
+use Rattle.rope_leaf.specs.Tree.{Tree, text}
 
 -- a text, its chunks, its set of line breaks, and the number of levels of its tree above the chunks
 pub record RopeView : Type 0 where

@@ -25,7 +25,7 @@ ghost use Rattle.rope_text.specs.Conversions.{byte_to_char, byte_to_line, char_t
 ghost use Rattle.rope_text.specs.Edit.{byte_index_error, char_index_error, line_index_error, utf16_index_error};
 ghost use Rattle.rope_text.specs.Answer.{checked};
 ghost use Rattle.rope_text.specs.declared.TheConstants.{MAX_HEIGHT};
-ghost use Rattle.rope_tree.specs.Tree.{text};
+ghost use Rattle.rope_leaf.specs.Tree.{text};
 ghost use Rattle.ropey.specs.Counted.{IsLookUp, WentDown, IsLookUpAt, IsLineLookUp};
 
 use crate::rope::Rope;

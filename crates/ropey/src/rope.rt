@@ -10,7 +10,7 @@ ghost use Rattle.rope_text.specs.declared.TheConstants.{MAX_BYTES};
 ghost use Rattle.rope_text.specs.Text.{byte_len, utf16_len};
 ghost use Rattle.rope_text.specs.Lines.{line_count};
 ghost use Rattle.rope_text.specs.Sides.{at_start};
-ghost use Rattle.rope_tree.specs.Tree.{text};
+ghost use Rattle.rope_leaf.specs.Tree.{text};
 ghost use Rattle.ropey.specs.View.{IsRope, HasFewChunks, IsBuilt};
 
 use crate::iter::Chunks;
@@ -36,7 +36,7 @@ impl Drop for Rope {
 }
 
 impl Model for Rope {
-    ghost use Rattle.rope_tree.specs.Tree.{IsTree};
+    ghost use Rattle.rope_leaf.specs.Tree.{IsTree};
     ghost use Rattle.ropey.specs.View.{RopeView, view_of};
 
     ghost Value = { RopeView };

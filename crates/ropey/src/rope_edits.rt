@@ -10,7 +10,7 @@ ghost use Rattle.rope_text.specs.declared.TheConstants.{MAX_SHORT_BYTES};
 ghost use Rattle.rope_text.specs.Text.{byte_len};
 ghost use Rattle.rope_text.specs.Edit.{IsRefusal, char_index_error, append_error};
 ghost use Rattle.rope_slice.specs.Sliced.{HasCharRange, IsEmptyRange};
-ghost use Rattle.rope_tree.specs.Searched.{HasSearched};
+ghost use Rattle.rope_leaf.specs.Searched.{HasSearched};
 ghost use Rattle.ropey.specs.View.{IsRope};
 ghost use Rattle.ropey.specs.Counted.{IsEditCount, IsLongInsertCount, no_steps, insert_nodes, long_insert_nodes, removal_nodes, split_nodes, append_nodes};
 ghost use Rattle.ropey.specs.Edited.{IsEdit, IsIdle, CanInsert, IsInsert, IsInsertRefusal, IsRemoval, IsRemovalRefusal, CanAppend, CannotAppend, IsAppend, IsAppendRefusal, IsCutAt};

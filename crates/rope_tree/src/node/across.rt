@@ -4,16 +4,15 @@ ghost use Rattle.std.specs.Prelude.{◌≡◌, ◌+◌, ◌-◌, ◌<◌, ◌≤
 ghost use Rattle.rope_text.specs.declared.TheConstants.{MIN_TWO_LEAVES_BYTES};
 ghost use Rattle.rope_text.specs.Text.{byte_len};
 ghost use Rattle.rope_text.specs.Edit.{removed};
-ghost use Rattle.rope_tree.specs.Tree.{Tree, text, joined, height_of, AreFamily};
-ghost use Rattle.rope_tree.specs.Change.{FallsBy, FallBy};
-ghost use Rattle.rope_tree.specs.Removal.{Spares, AreShortened, AreRemoved};
+ghost use Rattle.rope_leaf.specs.Tree.{Tree, text, joined, height_of, AreFamily};
+ghost use Rattle.rope_leaf.specs.Change.{FallsBy, FallBy};
+ghost use Rattle.rope_leaf.specs.Removal.{Spares, AreShortened, AreRemoved};
 ghost use Rattle.rope_tree.specs.Tries.{IsTried};
 
 use super::in_place::own_leaf;
 use super::{Children, Form, Node};
-use crate::beside::{Least, least_at};
-use crate::leaf::Leaf;
 use crate::{Made, Maker};
+use rope_leaf::{Leaf, Least, least_at};
 use rope_text::{MIN_TWO_LEAVES_BYTES, TextInfo};
 use std::alloc::AllocError;
 use std::rc::Rc;

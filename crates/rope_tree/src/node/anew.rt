@@ -3,18 +3,16 @@ ghost use Rattle.std.specs.Prelude.{◌≡◌, ◌+◌, ◌*◌, ◌<◌, ◌≤
 ghost use Rattle.rope_text.specs.declared.TheConstants.{MAX_SHORT_BYTES};
 ghost use Rattle.rope_text.specs.Text.{byte_len};
 ghost use Rattle.rope_text.specs.Edit.{inserted};
-ghost use Rattle.rope_tree.specs.Tree.{text, leaf_tree};
+ghost use Rattle.rope_leaf.specs.Tree.{text, leaf_tree};
 ghost use Rattle.rope_tree.specs.View.{trees_in};
-ghost use Rattle.rope_tree.specs.Searched.{HasSearched};
-ghost use Rattle.rope_tree.specs.Insert.{Takes, MayInsert, IsInserted, extra_leaves};
+ghost use Rattle.rope_leaf.specs.Searched.{HasSearched};
+ghost use Rattle.rope_leaf.specs.Insert.{Takes, MayInsert, IsInserted, extra_leaves};
 
 use super::pieces::{Pieces, fill_with};
 use super::row::{Row, pack, pack_over};
 use super::{Node, Nodes, View, make_leaf};
-use crate::leaf_edits::leaf_with;
-use crate::node_text::halves_of;
-use crate::search::char_to_hold;
 use crate::{Editor, Made, Maker, MediumText, ShortText, total_before};
+use rope_leaf::{char_to_hold, halves_of, leaf_with};
 use rope_text::{MAX_BYTES, MAX_SHORT_BYTES, TextInfo};
 
 /// Returns the leaf with a text inserted before the character `at`, as one leaf, or as two if one

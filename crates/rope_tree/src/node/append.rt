@@ -4,8 +4,8 @@ ghost use Rattle.std.specs.Prelude.{◌≡◌, ◌+◌, ◌^◌, ◌<◌, ◌≤
 ghost use Rattle.rope_text.specs.declared.TheConstants.{MIN_TWO_LEAVES_BYTES};
 ghost use Rattle.rope_text.specs.Text.{byte_len};
 ghost use Rattle.rope_text.specs.Dense.{IsDenseAfter, last_bytes};
-ghost use Rattle.rope_tree.specs.Leaves.{AreLeaves, IsSeam};
-ghost use Rattle.rope_tree.specs.Tree.{text, joined, leaves_of, height_of, breaks_of, tree_over, IsTree, AreFamily};
+ghost use Rattle.rope_leaf.specs.Leaves.{AreLeaves, IsSeam};
+ghost use Rattle.rope_leaf.specs.Tree.{text, joined, leaves_of, height_of, breaks_of, tree_over, IsTree, AreFamily};
 
 use super::moves::{MAX_NARROW_BYTES, empty_list, over};
 use super::{Children, Node};

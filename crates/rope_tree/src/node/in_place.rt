@@ -23,21 +23,20 @@ ghost use Rattle.std.specs.List.{insert};
 ghost use Rattle.rope_text.specs.declared.TheConstants.{MAX_CHILDREN, MAX_SHORT_BYTES};
 ghost use Rattle.rope_text.specs.Text.{byte_len};
 ghost use Rattle.rope_text.specs.Edit.{inserted};
-ghost use Rattle.rope_tree.specs.Tree.{Tree, text, joined, height_of, tree_over, IsTree, AreFamily};
+ghost use Rattle.rope_leaf.specs.Tree.{Tree, text, joined, height_of, tree_over, IsTree, AreFamily};
 ghost use Rattle.rope_tree.specs.declared.node.in_place.Cut.TheVariants.{Kept, Grown, Split};
-ghost use Rattle.rope_tree.specs.Change.{GrowsBy, FallsBy, GrowBy, FallBy};
-ghost use Rattle.rope_tree.specs.Searched.{HasSearched};
-ghost use Rattle.rope_tree.specs.Insert.{TakesShort, Takes, MayInsert, GoesIn, IsInserted, IsCut, AreGrown, extra_leaves};
-ghost use Rattle.rope_tree.specs.Removal.{IsRemoved, AreRemoved};
+ghost use Rattle.rope_leaf.specs.Change.{GrowsBy, FallsBy, GrowBy, FallBy};
+ghost use Rattle.rope_leaf.specs.Searched.{HasSearched};
+ghost use Rattle.rope_tree.specs.Cut.{IsCut};
+ghost use Rattle.rope_leaf.specs.Insert.{TakesShort, Takes, MayInsert, GoesIn, IsInserted, AreGrown, extra_leaves};
+ghost use Rattle.rope_leaf.specs.Removal.{IsRemoved, AreRemoved};
 ghost use Rattle.rope_tree.specs.Tries.{IsTried};
 
 use super::anew::insert;
 use super::row::{Row, list_of};
 use super::{Children, Form, Node, Nodes};
-use crate::beside::{Least, least_at};
-use crate::leaf::Leaf;
-use crate::search::{char_to_hold, try_place};
 use crate::{Editor, Made, Maker, MediumText, ShortText, Totals, total_before};
+use rope_leaf::{Leaf, Least, char_to_hold, least_at, try_place};
 use rope_text::{MAX_BYTES, MAX_CHILDREN, TextInfo};
 use std::rc::Rc;
 
@@ -602,7 +601,7 @@ impl Node {
             return Ok(Cut::Kept);
         };
         match leaf.cut(&mut editor.maker, at, &added.as_short())? {
-            Some(back) => Ok(Cut::Split(back)),
+            Some(back) => Ok(Cut::Split(Node::of_leaf(back))),
             None => Ok(Cut::Kept),
         }
     }

@@ -4,8 +4,8 @@ ghost use Rattle.std.specs.Prelude.{◌≡◌, ℕ, ◌+◌, ◌-◌, ◌^◌, �
 ghost use Rattle.rope_text.specs.declared.TheConstants.{MAX_CHILDREN, MIN_CHILDREN, MIN_TWO_LEAVES_BYTES};
 ghost use Rattle.rope_text.specs.Text.{byte_len};
 ghost use Rattle.rope_text.specs.Dense.{IsDenseAfter, last_bytes};
-ghost use Rattle.rope_tree.specs.Tree.{Tree, joined, leaves_of, height_of, tree_over, AreFamily};
-ghost use Rattle.rope_tree.specs.Siblings.{AreLevel, gathered};
+ghost use Rattle.rope_leaf.specs.Tree.{Tree, joined, leaves_of, height_of, tree_over, AreFamily};
+ghost use Rattle.rope_leaf.specs.Siblings.{AreLevel, gathered};
 ghost use Rattle.rope_tree.specs.Split.{nodes_over, AreSettled, IsPushed, IsPrepended};
 
 use super::{Children, Form, Node};

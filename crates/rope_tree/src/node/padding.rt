@@ -3,9 +3,9 @@
 ghost use Rattle.std.specs.Prelude.{◌≡◌, ◌+◌, ◌-◌, ◌*◌, ◌^◌, ◌<◌, ◌≤◌, [], ◌++◌, true, length};
 ghost use Rattle.rope_text.specs.declared.TheConstants.{MAX_CHILDREN, MIN_CHILDREN};
 ghost use Rattle.rope_text.specs.Text.{byte_len};
-ghost use Rattle.rope_tree.specs.Tree.{text, joined, height_of, tree_over, AreFamily};
-ghost use Rattle.rope_tree.specs.Siblings.{AreLevel};
-ghost use Rattle.rope_tree.specs.Searched.{HasSearched};
+ghost use Rattle.rope_leaf.specs.Tree.{text, joined, height_of, tree_over, AreFamily};
+ghost use Rattle.rope_leaf.specs.Siblings.{AreLevel};
+ghost use Rattle.rope_leaf.specs.Searched.{HasSearched};
 
 use super::in_place::Branch;
 use super::{Children, Form, Node, View};

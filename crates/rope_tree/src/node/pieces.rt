@@ -4,15 +4,15 @@ ghost use Rattle.std.specs.Str.{chars};
 ghost use Rattle.rope_text.specs.declared.TheConstants.{MAX_BYTES, MAX_SHORT_BYTES, MIN_CUT_BYTES, MIN_HALF_BYTES};
 ghost use Rattle.rope_text.specs.Text.{byte_len};
 ghost use Rattle.rope_text.specs.Edit.{inserted};
-ghost use Rattle.rope_tree.specs.declared.TheConstants.{MAX_MEDIUM_BYTES};
-ghost use Rattle.rope_tree.specs.Tree.{text};
-ghost use Rattle.rope_tree.specs.Insert.{IsReplaced, extra_leaves};
+ghost use Rattle.rope_leaf.specs.declared.TheConstants.{MAX_MEDIUM_BYTES};
+ghost use Rattle.rope_leaf.specs.Tree.{text};
+ghost use Rattle.rope_leaf.specs.Insert.{IsReplaced, extra_leaves};
 ghost use Rattle.rope_tree.specs.Pieces.{ArePieces, IsFirstSplit};
 
 use super::{Node, View, leaf_of};
-use crate::node_text::{first_leaf_len, halves_of, text_of_parts};
 use crate::{MAX_MEDIUM_BYTES, MAX_PIECES, Made, Maker, MediumText};
 use arrayvec::ArrayVec;
+use rope_leaf::{first_leaf_len, halves_of, text_of_parts};
 use rope_text::{LineBreaks, MAX_BYTES, MAX_JOINED_BYTES};
 
 /// Adjacent leaves.

@@ -1,10 +1,10 @@
 //! Rows of adjacent nodes, and the nodes made over them. A new node shares the nodes below it.
 ghost use Rattle.std.specs.Prelude.{◌≡◌, ◌+◌, ◌*◌, ◌^◌, ◌<◌, ◌≤◌, ◌++◌, [], length, take, drop, IfOk, OnOk};
 ghost use Rattle.rope_text.specs.declared.TheConstants.{MAX_CHILDREN};
-ghost use Rattle.rope_tree.specs.Tree.{breaks_of, leaves_of, tree_over, AreFamily};
-ghost use Rattle.rope_tree.specs.Totals.{HasTotals};
+ghost use Rattle.rope_leaf.specs.Tree.{breaks_of, leaves_of, tree_over, AreFamily};
+ghost use Rattle.rope_leaf.specs.Totals.{HasTotals};
 ghost use Rattle.rope_tree.specs.View.{trees_in};
-ghost use Rattle.rope_tree.specs.Siblings.{AreLevel, AreOver, gathered};
+ghost use Rattle.rope_leaf.specs.Siblings.{AreLevel, AreOver, gathered};
 ghost use Rattle.rope_tree.specs.Rows.{IsRow};
 ghost use Rattle.rope_tree.specs.NewList.{new_list, nodes_in, IsNewList};
 

@@ -13,8 +13,8 @@
 ghost use Rattle.std.specs.Prelude.{◌≡◌, ◌+◌, ◌-◌, ◌*◌, ◌^◌, ◌<◌, ◌≤◌, [], ◌∷◌, ◌++◌, true, false, length, take, drop, slice_index_or, IfOk, IfSome, IfNone, OnErr};
 ghost use Rattle.rope_text.specs.declared.TheConstants.{MIN_TWO_LEAVES_BYTES};
 ghost use Rattle.rope_text.specs.Text.{byte_len};
-ghost use Rattle.rope_tree.specs.Tree.{Tree, text, joined, leaf_tree, height_of, breaks_of, IsTree, AreFamily};
-ghost use Rattle.rope_tree.specs.Searched.{HasSearched};
+ghost use Rattle.rope_leaf.specs.Tree.{Tree, text, joined, leaf_tree, height_of, breaks_of, IsTree, AreFamily};
+ghost use Rattle.rope_leaf.specs.Searched.{HasSearched};
 ghost use Rattle.rope_tree.specs.Split.{IsFrontOf, IsBackOf, MayFollow, EndsAs, AreSides, IsWhole};
 
 use super::in_place::Branch;

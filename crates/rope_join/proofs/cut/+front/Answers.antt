@@ -3,15 +3,15 @@ use Rattle.std.specs.Str.{chars}
 use Rattle.std.proofs.lemmas.Str.{chars-nil}
 use Rattle.std.proofs.lemmas.Result.{IfOk-weaker}
 use Rattle.std.proofs.lemmas.List.{length-take-le, take_more}
-use Rattle.rope_tree.specs.declared.search.Unit.TheVariants.{Char}
+use Rattle.rope_leaf.specs.declared.search.Unit.TheVariants.{Char}
 use Rattle.rope_tree.specs.declared.node.Nodes.{Nodes}
-use Rattle.rope_tree.specs.Tree.{text, joined, height_of, breaks_of, leaf_tree}
+use Rattle.rope_leaf.specs.Tree.{text, joined, height_of, breaks_of, leaf_tree}
 use Rattle.rope_tree.specs.View.{trees_in}
-use Rattle.rope_tree.specs.Siblings.{gathered}
-use Rattle.rope_tree.proofs.InsertLeaves.{text_of_leaf}
+use Rattle.rope_leaf.specs.Siblings.{gathered}
+use Rattle.rope_leaf.proofs.InsertLeaves.{text_of_leaf}
 use Rattle.rope_tree.proofs.LastCalls.{both_ok}
-use Rattle.rope_tree.proofs.NodeLaws.{small_totals}
-use Rattle.rope_tree.proofs.Descents.{Descends, descends}
+use Rattle.rope_leaf.proofs.NodeLaws.{small_totals}
+use Rattle.rope_leaf.proofs.Descents.{Descends, descends}
 use Rattle.rope_join.specs.Cut.{IsFront, ArePart, IsWithFront}
 use Rattle.rope_join.proofs.Empty.{empty_front}
 use Rattle.rope_join.proofs.Cuts.{CutsAt, cuts_at, front_alone, front_joins, front_some, leaf_front, whole_front, under_last, beside_at}

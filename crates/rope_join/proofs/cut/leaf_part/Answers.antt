@@ -1,9 +1,9 @@
 use Rattle.std.proofs.Common.{ap₂, sym, ◌∙◌}
 use Rattle.std.proofs.lemmas.Result.{IfOk-weaker}
 use Rattle.rope_text.specs.TextInfo.{info_of}
-use Rattle.rope_tree.proofs.InsertLeaves.{text_of_leaf}
-use Rattle.rope_tree.proofs.PartTexts.{AreCut, are_cut}
-use Rattle.rope_tree.specs.Tree.{leaf_tree}
+use Rattle.rope_leaf.proofs.InsertLeaves.{text_of_leaf}
+use Rattle.rope_leaf.proofs.PartTexts.{AreCut, are_cut}
+use Rattle.rope_leaf.specs.Tree.{leaf_tree}
 use Rattle.rope_join.proofs.cut.leaf_part.Goals.{After-range_from-back}
 use Rattle.rope_join.proofs.cut.leaf_part.Goals as goal
 

@@ -1,6 +1,6 @@
 use Rattle.std.proofs.Common.{◌≡◌, ℕ, take, length, sym, ap, ◌∙◌, arith}
 use Rattle.std.specs.List.{concat}
-use Rattle.rope_tree.specs.Tree.{leaves_of}
+use Rattle.rope_leaf.specs.Tree.{leaves_of}
 use Rattle.rope_join.proofs.Gaps.{spares_first_at, first_child_cuts}
 use Rattle.rope_join.proofs.gap.+spares_first.Goals.{After-get}
 use Rattle.rope_join.proofs.gap.+spares_first.Goals as goal

@@ -1,6 +1,6 @@
 use Rattle.std.proofs.Common.{◌≡◌, ℕ, ◌+◌, ◌-◌, ◌<◌, take, length, sym, ap, ◌∙◌, arith}
 use Rattle.std.specs.List.{concat}
-use Rattle.rope_tree.specs.Tree.{leaves_of}
+use Rattle.rope_leaf.specs.Tree.{leaves_of}
 use Rattle.rope_join.proofs.Gaps.{spares_last_at, last_child_spares, last_child_cuts}
 use Rattle.rope_join.proofs.gap.+spares_last.Goals.{After-total_before-before}
 use Rattle.rope_join.proofs.gap.+spares_last.Goals as goal

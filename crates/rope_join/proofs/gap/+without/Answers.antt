@@ -1,10 +1,10 @@
 use Rattle.std.proofs.Common.{◌≡◌, ℕ, ◌+◌, ◌-◌, ◌≤◌, ◌<◌, length, take, drop, get_or, sym, ap, subst, ◌∙◌, arith, inl, inr, ltb, true}
 use Rattle.std.proofs.lemmas.Result.{IfOk-weaker}
-use Rattle.rope_tree.specs.declared.search.Unit.TheVariants.{Char}
-use Rattle.rope_tree.specs.Leaves.{IsSeam}
-use Rattle.rope_tree.specs.Tree.{text, joined, height_of, breaks_of, IsTree}
-use Rattle.rope_tree.proofs.NodeLaws.{small_totals}
-use Rattle.rope_tree.proofs.Descents.{Descends, descends}
+use Rattle.rope_leaf.specs.declared.search.Unit.TheVariants.{Char}
+use Rattle.rope_leaf.specs.Leaves.{IsSeam}
+use Rattle.rope_leaf.specs.Tree.{text, joined, height_of, breaks_of, IsTree}
+use Rattle.rope_leaf.proofs.NodeLaws.{small_totals}
+use Rattle.rope_leaf.proofs.Descents.{Descends, descends}
 use Rattle.rope_join.specs.Cut.{IsSides}
 use Rattle.rope_join.proofs.Cuts.{CutsAt, cuts_at, under_last}
 use Rattle.rope_join.proofs.Gaps.{leaf_by_bytes}

@@ -1,10 +1,10 @@
 use Rattle.std.proofs.Common.{◌≡◌, ◌-◌, ◌≤◌, ◌<◌, List, ◌++◌, length, take, drop, refl, sym, ap, subst, arith}
 use Rattle.std.specs.List.{All}
 use Rattle.std.proofs.lemmas.Result.{IfOk-weaker}
-use Rattle.rope_tree.specs.Leaves.{Recuts}
-use Rattle.rope_tree.specs.Tree.{Tree, leaves_of, height_of, breaks_of, IsTree, IsChild}
+use Rattle.rope_leaf.specs.Leaves.{Recuts}
+use Rattle.rope_leaf.specs.Tree.{Tree, leaves_of, height_of, breaks_of, IsTree, IsChild}
 use Rattle.rope_tree.specs.View.{trees_in}
-use Rattle.rope_tree.proofs.NodeLaws.{first_height}
+use Rattle.rope_leaf.proofs.NodeLaws.{first_height}
 use Rattle.rope_join.specs.Put.{IsPut, leaves_before, leaves_after}
 use Rattle.rope_join.proofs.Puts.{put_level, put_family, put_is, put_tree, level_each, level_count, level_recuts, left_join, united_each, united_count, united_recuts}
 use Rattle.rope_join.proofs.gap.put.Goals.{After-new, After-index-children-first, After-first-2}

@@ -1,5 +1,5 @@
 use Rattle.std.proofs.Common.{◌≡◌, ◌-◌, length, take, drop, refl, sym, ap, subst, ◌∙◌, arith}
-use Rattle.rope_tree.specs.Siblings.{gathered}
+use Rattle.rope_leaf.specs.Siblings.{gathered}
 use Rattle.rope_tree.proofs.BuildLaws.{back_of}
 use Rattle.rope_join.specs.Join.{CanJoin}
 use Rattle.rope_join.proofs.Ends.{family_before, family_after, low_before, low_after, join_before, join_after}

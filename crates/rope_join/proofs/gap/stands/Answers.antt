@@ -1,6 +1,6 @@
 use Rattle.std.proofs.Common.{◌≡◌, ◌+◌, ◌-◌, ◌≤◌, take, subst, refl, sym, arith}
 use Rattle.rope_text.specs.Dense.{IsDenseAfter, last_bytes}
-use Rattle.rope_tree.specs.Tree.{leaves_of, tree_over}
+use Rattle.rope_leaf.specs.Tree.{leaves_of, tree_over}
 use Rattle.rope_join.proofs.Gaps.{near_child, next_child}
 use Rattle.rope_join.proofs.gap.stands.Goals as goal
 

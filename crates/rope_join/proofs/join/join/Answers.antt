@@ -1,6 +1,6 @@
 use Rattle.std.proofs.Common.{arith, ap}
 use Rattle.std.proofs.lemmas.Result.{IfOk-weaker}
-use Rattle.rope_tree.specs.Tree.{IsTree}
+use Rattle.rope_leaf.specs.Tree.{IsTree}
 use Rattle.rope_join.specs.Join.{IsJoin}
 use Rattle.rope_tree.proofs.LastCalls.{both_ok}
 use Rattle.rope_join.proofs.Whole.{join_empty_right, join_empty_left, join_root, join_tree, root_siblings}

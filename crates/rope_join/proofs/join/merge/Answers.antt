@@ -1,10 +1,10 @@
 use Rattle.std.proofs.Common.{refl, ap, ap₂, ◌∙◌, ◌++◌, ◌+◌, ◌≤◌, arith, sym}
 use Rattle.rope_text.specs.TextInfo.{info_of}
-use Rattle.rope_tree.specs.Search.{IsSmall}
-use Rattle.rope_tree.proofs.Infos.{small_info, sum_of_small}
-use Rattle.rope_tree.proofs.InsertLeaves.{text_of_leaf}
-use Rattle.rope_tree.specs.Tree.{text, leaf_tree, height_of, breaks_of}
-use Rattle.rope_tree.specs.Siblings.{AreSiblings}
+use Rattle.rope_leaf.specs.Search.{IsSmall}
+use Rattle.rope_leaf.proofs.Infos.{small_info, sum_of_small}
+use Rattle.rope_leaf.proofs.InsertLeaves.{text_of_leaf}
+use Rattle.rope_leaf.specs.Tree.{text, leaf_tree, height_of, breaks_of}
+use Rattle.rope_leaf.specs.Siblings.{AreSiblings}
 use Rattle.rope_tree.specs.View.{trees_in}
 use Rattle.rope_join.specs.Join.{IsUnion}
 use Rattle.rope_tree.proofs.LastCalls.{both_ok}

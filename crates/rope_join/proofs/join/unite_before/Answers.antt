@@ -1,9 +1,9 @@
 use Rattle.std.proofs.Common.{◌≡◌, ◌≤◌, List, ◌++◌, length, sym, ap, subst, ◌∙◌, arith}
 use Rattle.std.proofs.lemmas.List.{append_assoc, length-append}
 use Rattle.rope_text.specs.Dense.{IsDenseAfter, last_bytes}
-use Rattle.rope_tree.specs.Tree.{Tree, leaves_of, tree_over}
+use Rattle.rope_leaf.specs.Tree.{Tree, leaves_of, tree_over}
 use Rattle.rope_tree.specs.View.{trees_in}
-use Rattle.rope_tree.specs.Siblings.{gathered, AreLevel, AreOver}
+use Rattle.rope_leaf.specs.Siblings.{gathered, AreLevel, AreOver}
 use Rattle.rope_tree.proofs.Gathered.{gathered_over}
 use Rattle.rope_tree.proofs.LastCalls.{both_ok}
 use Rattle.rope_join.specs.Join.{IsUnion}

@@ -5,11 +5,11 @@ use Rattle.std.proofs.lemmas.Result.{IfOk-weaker}
 use Rattle.rope_text.specs.Text.{byte_len}
 use Rattle.rope_text.proofs.Measures.{IsMeasure-byte_len}
 use Rattle.rope_text.proofs.Walks.{byte_len-chars}
-use Rattle.rope_tree.specs.declared.search.Unit.TheVariants.{Char}
-use Rattle.rope_tree.specs.Tree.{text, joined, height_of, breaks_of}
-use Rattle.rope_tree.proofs.NodeLaws.{small_totals, joined_more}
-use Rattle.rope_tree.proofs.Descents.{Descends, descends}
-use Rattle.rope_tree.proofs.TreeLaws.{low_tree}
+use Rattle.rope_leaf.specs.declared.search.Unit.TheVariants.{Char}
+use Rattle.rope_leaf.specs.Tree.{text, joined, height_of, breaks_of}
+use Rattle.rope_leaf.proofs.NodeLaws.{small_totals, joined_more}
+use Rattle.rope_leaf.proofs.Descents.{Descends, descends}
+use Rattle.rope_leaf.proofs.TreeLaws.{low_tree}
 use Rattle.rope_join.proofs.Cuts.{CutsAt, cuts_at, under_last}
 use Rattle.rope_join.proofs.OneChild.{inserted_some, inserted_chars, end_within, before_inserted, after_inserted, inserted_fits, around_inserted, can_put_inserted, put_inserted}
 use Rattle.rope_join.proofs.long_edits.+insert.Goals.{After-total_before, After-get}

@@ -1,5 +1,5 @@
 use Rattle.std.proofs.Common.{◌≡◌, ◌≤◌, ◌++◌, false, sym, ap, ap₂, ◌∙◌, arith}
-use Rattle.rope_tree.specs.Tree.{text, IsTree}
+use Rattle.rope_leaf.specs.Tree.{text, IsTree}
 use Rattle.rope_join.specs.Join.{CanJoin}
 use Rattle.rope_join.proofs.Seams.{join_text}
 use Rattle.rope_join.proofs.long_edits.append_near.Goals.{Joined-height, then-height+in_ok-did, else-height}

@@ -1,8 +1,8 @@
 use Rattle.std.proofs.Common.{ap, arith}
 use Rattle.rope_text.specs.Text.{byte_len}
 use Rattle.rope_text.proofs.Walks.{byte_len-chars}
-use Rattle.rope_tree.specs.Tree.{text}
-use Rattle.rope_tree.proofs.TreeLaws.{low_tree}
+use Rattle.rope_leaf.specs.Tree.{text}
+use Rattle.rope_leaf.proofs.TreeLaws.{low_tree}
 use Rattle.rope_text.proofs.Measures.{IsMeasure-byte_len, size_parts}
 use Rattle.rope_join.proofs.long_edits.insert_apart.Goals as goal
 

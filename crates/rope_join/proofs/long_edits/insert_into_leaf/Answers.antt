@@ -7,9 +7,9 @@ use Rattle.rope_text.specs.Edit.{inserted}
 use Rattle.rope_text.proofs.Measures.{IsMeasure-byte_len, size_parts}
 use Rattle.rope_text.proofs.TextParts.{chars_front, chars_back}
 use Rattle.rope_text.proofs.Walks.{byte_len-chars}
-use Rattle.rope_tree.specs.Tree.{text}
-use Rattle.rope_tree.proofs.InsertLeaves.{text_of_leaf}
-use Rattle.rope_tree.proofs.InsertTrees.{inserted_is}
+use Rattle.rope_leaf.specs.Tree.{text}
+use Rattle.rope_leaf.proofs.InsertLeaves.{text_of_leaf}
+use Rattle.rope_leaf.proofs.InsertTrees.{inserted_is}
 use Rattle.rope_join.proofs.long_edits.insert_into_leaf.Goals.{After-range, After-range_from, In_ok-append-3}
 use Rattle.rope_join.proofs.long_edits.insert_into_leaf.Goals as goal
 

@@ -3,9 +3,9 @@ use Rattle.std.proofs.lemmas.List.{append_assoc}
 use Rattle.std.proofs.lemmas.Result.{IfOk-weaker}
 use Rattle.rope_text.specs.Text.{byte_len}
 use Rattle.rope_text.proofs.Measures.{IsMeasure-byte_len}
-use Rattle.rope_tree.specs.Leaves.{IsSeam}
-use Rattle.rope_tree.specs.Tree.{text}
-use Rattle.rope_tree.proofs.InsertLaws.{seam_ends}
+use Rattle.rope_leaf.specs.Leaves.{IsSeam}
+use Rattle.rope_leaf.specs.Tree.{text}
+use Rattle.rope_leaf.proofs.InsertLaws.{seam_ends}
 use Rattle.rope_join.proofs.Seams.{can_join, join_text}
 use Rattle.rope_join.proofs.long_edits.join_around.Goals.{In_ok-first}
 use Rattle.rope_join.proofs.long_edits.join_around.Goals as goal

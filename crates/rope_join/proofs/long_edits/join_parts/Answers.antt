@@ -2,7 +2,7 @@ use Rattle.std.proofs.Common.{◌≡◌, true, ◌+◌, ◌<◌, ◌^◌, [], �
 use Rattle.std.proofs.lemmas.Str.{length-le-encodes}
 use Rattle.std.proofs.lemmas.Result.{IfOk-weaker}
 use Rattle.rope_text.specs.Text.{byte_len}
-use Rattle.rope_tree.specs.Tree.{text, leaf_tree}
+use Rattle.rope_leaf.specs.Tree.{text, leaf_tree}
 use Rattle.rope_join.proofs.Seams.{Meets, meets, pair_first, pair_second, pair_joined, chars_crlf}
 use Rattle.rope_join.proofs.long_edits.join_parts.Goals.{After-meets, In_ok-pair}
 use Rattle.rope_join.proofs.long_edits.join_parts.Goals as goal

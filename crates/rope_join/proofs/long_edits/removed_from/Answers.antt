@@ -1,5 +1,5 @@
 use Rattle.std.proofs.Common.{arith}
-use Rattle.rope_tree.specs.Tree.{text}
+use Rattle.rope_leaf.specs.Tree.{text}
 use Rattle.rope_join.proofs.Seams.{left_le}
 use Rattle.rope_join.proofs.long_edits.removed_from.Goals as goal
 

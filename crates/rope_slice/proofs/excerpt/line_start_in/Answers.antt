@@ -8,13 +8,13 @@ use Rattle.rope_text.specs.TextInfo.{info_of}
 use Rattle.rope_text.proofs.Measures.{IsMeasure-byte_len, size_le_all}
 use Rattle.rope_text.proofs.TextParts.{chars_back, byte_len_boundary}
 use Rattle.rope_text.proofs.LineSeams.{break_count-front}
-use Rattle.rope_tree.proofs.Infos.{small_info, sum_of_small}
-use Rattle.rope_tree.proofs.Descents.{small_found}
+use Rattle.rope_leaf.proofs.Infos.{small_info, sum_of_small}
+use Rattle.rope_leaf.proofs.Descents.{small_found}
 use Rattle.rope_slice.proofs.Edges.{line_found, line_rest, line_within}
 use Rattle.rope_slice.proofs.InChunks.{in_found}
 use Rattle.rope_text.proofs.LineLaws.{line_start-le-length}
 use Rattle.rope_tree.proofs.FoundLaws.{found_line_start}
-use Rattle.rope_tree.specs.declared.search.Unit.TheVariants.{LineBreak}
+use Rattle.rope_leaf.specs.declared.search.Unit.TheVariants.{LineBreak}
 use Rattle.rope_slice.proofs.excerpt.line_start_in.Goals.{After-before_line-front}
 use Rattle.rope_slice.proofs.excerpt.line_start_in.Goals as goal
 

@@ -2,9 +2,9 @@ use Rattle.std.proofs.Common.{◌≡◌, get_or, take, subst, arith}
 use Rattle.std.proofs.lemmas.List.{get_or_default}
 use Rattle.rope_text.specs.TextInfo.{info_of}
 use Rattle.rope_text.proofs.InfoLaws.{part_of_sum}
-use Rattle.rope_tree.specs.Tree.{breaks_of, joined, tree_over}
+use Rattle.rope_leaf.specs.Tree.{breaks_of, joined, tree_over}
 use Rattle.rope_tree.specs.View.{IsInnerOf}
-use Rattle.rope_tree.proofs.Descents.{child_counts, child_total, front_is}
+use Rattle.rope_leaf.proofs.Descents.{child_counts, child_total, front_is}
 use Rattle.rope_slice.specs.Descent.{AreListed}
 use Rattle.rope_slice.proofs.path.text_in_list.Goals.{After-total_before}
 use Rattle.rope_slice.proofs.path.text_in_list.Goals as goal

@@ -6,12 +6,12 @@ use Rattle.std.specs.List.{concat}
 use Rattle.std.specs.Str.{chars}
 use Rattle.rope_text.specs.Text.{byte_len}
 use Rattle.rope_text.proofs.Walks.{byte_len-chars}
-use Rattle.rope_tree.specs.Tree.{Tree, leaves_of}
-use Rattle.rope_tree.specs.Siblings.{AreSiblings}
+use Rattle.rope_leaf.specs.Tree.{Tree, leaves_of}
+use Rattle.rope_leaf.specs.Siblings.{AreSiblings}
 use Rattle.rope_tree.specs.Fronts.{AreFrontNodes}
-use Rattle.rope_tree.proofs.TreeLaws.{breaks_of_is}
-use Rattle.rope_tree.proofs.InsertLeaves.{text_of_leaf}
-use Rattle.rope_tree.proofs.InsertTrees.{siblings_of_first}
+use Rattle.rope_leaf.proofs.TreeLaws.{breaks_of_is}
+use Rattle.rope_leaf.proofs.InsertLeaves.{text_of_leaf}
+use Rattle.rope_leaf.proofs.InsertTrees.{siblings_of_first}
 use Rattle.rope_tree.proofs.BuildLaws.{leaf_few, nodes_cut, nodes_last, nodes_whole, siblings_whole, nodes_le}
 use Rattle.rope_tree.proofs.build.build.Goals.{In_ok-push-2}
 use Rattle.rope_tree.proofs.build.build.Goals as goal

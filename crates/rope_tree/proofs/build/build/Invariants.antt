@@ -3,7 +3,7 @@ use Rattle.std.proofs.Common.{◌+◌, ◌*◌, ◌<◌, ◌≤◌, length}
 use denote.Text.{Utf8}
 use denote.Shadow.{shadow}
 use Rattle.std.specs.Str.{chars}
-use Rattle.rope_tree.specs.Tree.{leaves_of}
+use Rattle.rope_leaf.specs.Tree.{leaves_of}
 use Rattle.rope_tree.specs.Fronts.{AreFrontNodes}
 use Rattle.rope_tree.proofs.build.build.Given as goal
 

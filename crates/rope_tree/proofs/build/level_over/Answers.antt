@@ -2,8 +2,8 @@
 use Rattle.std.proofs.Common.{◌≡◌, ℕ, ◌-◌, ◌*◌, ◌/◌, ◌≤◌, List, [], ◌∷◌, take, length, refl, ap, sym, subst, arith}
 use Rattle.std.proofs.lemmas.List.{length-drop, length-append}
 use Rattle.rope_text.specs.declared.line_breaks.LineBreaks.{LineBreaks}
-use Rattle.rope_tree.specs.Tree.{Tree}
-use Rattle.rope_tree.proofs.NodeLaws.{children_of_first}
+use Rattle.rope_leaf.specs.Tree.{Tree}
+use Rattle.rope_leaf.proofs.NodeLaws.{children_of_first}
 use Rattle.rope_tree.proofs.BuildLaws.{AreOver, group_children, over_more, back_of}
 use Rattle.rope_tree.proofs.BuildLaws.{share_least, share_most, least_after, most_after}
 use Rattle.std.proofs.Math.Nat.{div-le_self}

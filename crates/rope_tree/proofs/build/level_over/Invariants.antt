@@ -1,7 +1,7 @@
 -- The nodes so far are over the first of the nodes, and the remaining groups can contain the
 -- others.
 use Rattle.std.proofs.Common.{◌≡◌, ◌+◌, ◌*◌, ◌≤◌, length}
-use Rattle.rope_tree.specs.Tree.{breaks_of, height_of}
+use Rattle.rope_leaf.specs.Tree.{breaks_of, height_of}
 use Rattle.rope_tree.proofs.BuildLaws.{AreOver}
 use Rattle.rope_tree.proofs.build.level_over.Given as goal
 

@@ -1,10 +1,10 @@
 -- Each iteration makes the next level.
 use Rattle.std.proofs.Common.{◌∙◌, ◌≤◌, length, ap, sym, subst, arith}
 use Rattle.std.proofs.lemmas.Result.{IfOk-weaker}
-use Rattle.rope_tree.specs.Tree.{IsTree, AreChildren, height_of, breaks_of, tree_over}
-use Rattle.rope_tree.proofs.TreeLaws.{is_tree_over}
-use Rattle.rope_tree.proofs.NodeLaws.{children_of_first}
-use Rattle.rope_tree.proofs.SiblingLaws.{children_of}
+use Rattle.rope_leaf.specs.Tree.{IsTree, AreChildren, height_of, breaks_of, tree_over}
+use Rattle.rope_leaf.proofs.TreeLaws.{is_tree_over}
+use Rattle.rope_leaf.proofs.NodeLaws.{children_of_first}
+use Rattle.rope_leaf.proofs.SiblingLaws.{children_of}
 use Rattle.rope_tree.proofs.BuildLaws.{level_up}
 use Rattle.rope_tree.proofs.build.root_over.Goals.{After-deref-2}
 use Rattle.rope_tree.proofs.build.root_over.Goals as goal

@@ -1,7 +1,7 @@
 -- The nodes of each level have the leaves of the first level.
 use Rattle.std.proofs.Common.{◌≡◌, ◌+◌, ◌≤◌, length}
-use Rattle.rope_tree.specs.Tree.{breaks_of, height_of, leaves_of}
-use Rattle.rope_tree.specs.Siblings.{AreSiblings}
+use Rattle.rope_leaf.specs.Tree.{breaks_of, height_of, leaves_of}
+use Rattle.rope_leaf.specs.Siblings.{AreSiblings}
 use Rattle.rope_tree.proofs.build.root_over.Given as goal
 
 abbrev pub invariant-loop-level : goal.invariant-loop-level

@@ -7,8 +7,8 @@ use Rattle.rope_text.proofs.CutOff.{IsCutOff}
 use Rattle.rope_text.proofs.CutFacts.{cut_near}
 use Rattle.rope_text.specs.Text.{byte_len}
 use Rattle.rope_text.proofs.Walks.{byte_len-chars}
-use Rattle.rope_tree.specs.Tree.{text}
-use Rattle.rope_tree.proofs.InsertLeaves.{text_of_leaf}
+use Rattle.rope_leaf.specs.Tree.{text}
+use Rattle.rope_leaf.proofs.InsertLeaves.{text_of_leaf}
 use Rattle.rope_tree.proofs.FrontLaws.{cut_whole, cut_apart, two_parts, leaf_part, all_taken}
 use Rattle.rope_tree.proofs.builder.cut_at_seam.Goals.{In_ok-leaf, After-from_str, After-new, After-range, then-added-le-MAX_AHEAD_BYTES, else-added-le-MAX_AHEAD_BYTES}
 use Rattle.rope_tree.proofs.builder.cut_at_seam.Goals as goal

@@ -3,7 +3,7 @@ use Rattle.std.proofs.Common.{◌≡◌, ◌∙◌, ◌+◌, ◌++◌, [], ◌�
 use Rattle.std.specs.Str.{chars}
 use Rattle.rope_text.specs.Text.{byte_len}
 use Rattle.rope_text.specs.Cutting.{parts_crlf}
-use Rattle.rope_tree.specs.Tree.{text, leaf_tree, leaves_of}
+use Rattle.rope_leaf.specs.Tree.{text, leaf_tree, leaves_of}
 use Rattle.rope_tree.specs.Fronts.{AreFrontNodes}
 use Rattle.rope_tree.proofs.BuildLaws.{nodes_cut, nodes_front}
 use Rattle.rope_tree.proofs.FormLaws.{no_text}

@@ -5,7 +5,7 @@ use denote.Text.{Utf8}
 use denote.Shadow.{shadow}
 use Rattle.std.specs.Str.{chars}
 use Rattle.rope_text.specs.Text.{byte_len}
-use Rattle.rope_tree.specs.Tree.{joined, leaves_of}
+use Rattle.rope_leaf.specs.Tree.{joined, leaves_of}
 use Rattle.rope_tree.specs.Fronts.{AreFrontNodes}
 use Rattle.rope_tree.proofs.builder.cut_leaves.Given as goal
 

@@ -1,11 +1,11 @@
 use Rattle.std.proofs.Common.{◌≡◌, ◌+◌, ◌-◌, sym, ap, ap₂, ◌∙◌, arith}
 use Rattle.std.specs.Str.{chars}
 use Rattle.rope_text.specs.TextInfo.{info_of}
-use Rattle.rope_tree.specs.Search.{count_of}
+use Rattle.rope_leaf.specs.Search.{count_of}
 use Rattle.rope_tree.specs.Conversions.{converted, first_sought}
-use Rattle.rope_tree.specs.Tree.{text}
-use Rattle.rope_tree.proofs.Infos.{small_info}
-use Rattle.rope_tree.proofs.Descents.{small_found}
+use Rattle.rope_leaf.specs.Tree.{text}
+use Rattle.rope_leaf.proofs.Infos.{small_info}
+use Rattle.rope_leaf.proofs.Descents.{small_found}
 use Rattle.rope_tree.proofs.ConvertedLaws.{found_converted, converted_end, converted_first, converted-le}
 use Rattle.rope_tree.proofs.conversions.convert.Goals.{After-count-3}
 use Rattle.rope_tree.proofs.conversions.convert.Goals as goal

@@ -1,8 +1,8 @@
 use Rattle.std.proofs.Common.{◌≡◌, true, refl, length, ap, arith}
 use Rattle.std.specs.Str.{chars}
 use Rattle.rope_text.specs.Text.{byte_len}
-use Rattle.rope_tree.specs.declared.search.Unit.{Unit}
-use Rattle.rope_tree.specs.declared.search.Unit.TheVariants.{Byte, Char, CodeUnit, LineBreak}
+use Rattle.rope_leaf.specs.declared.search.Unit.{Unit}
+use Rattle.rope_leaf.specs.declared.search.Unit.TheVariants.{Byte, Char, CodeUnit, LineBreak}
 use Rattle.rope_tree.specs.Conversions.{are_converted, converted}
 use Rattle.rope_tree.proofs.ConvertedLaws.{ascii_converted}
 use Rattle.rope_tree.proofs.conversions.convert_in.Goals.{in_default-via-in-LineBreak+in_default, in_default-via-in-Byte+in-Char-1, in_default-via-in-Char+in-Byte-1, in_default-via-in-CodeUnit}

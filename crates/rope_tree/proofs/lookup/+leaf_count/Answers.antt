@@ -1,7 +1,7 @@
 use Rattle.std.proofs.Common.{◌≡◌, ◌+◌, ◌<◌, ℕ, length, take, ap, sym, ◌∙◌, arith, All, subst}
 use Rattle.std.proofs.lemmas.List.{take_all}
-use Rattle.rope_tree.specs.Tree.{leaves_of, height_of, breaks_of, IsChild}
-use Rattle.rope_tree.proofs.NodeLaws.{child_at}
+use Rattle.rope_leaf.specs.Tree.{leaves_of, height_of, breaks_of, IsChild}
+use Rattle.rope_leaf.proofs.NodeLaws.{child_at}
 use Rattle.rope_tree.proofs.LeafCounts.{leaves_more, few_leaves, lowest, lone_count}
 use Rattle.rope_tree.proofs.lookup.+leaf_count.Goals.{After-child-item}
 use Rattle.rope_tree.proofs.lookup.+leaf_count.Goals as goal

@@ -1,5 +1,5 @@
 use Rattle.std.proofs.Common.{◌≡◌, length, take}
-use Rattle.rope_tree.specs.Tree.{leaves_of}
+use Rattle.rope_leaf.specs.Tree.{leaves_of}
 use Rattle.rope_tree.proofs.lookup.+leaf_count.Given as goal
 
 abbrev pub decreases-leaf_count : goal.decreases-leaf_count

@@ -1,13 +1,13 @@
 use Rattle.std.proofs.Common.{ap, ap₂, refl, ◌∙◌, arith}
-use Rattle.rope_tree.specs.Tree.{breaks_of}
-use Rattle.rope_tree.specs.Search.{IsSmall}
+use Rattle.rope_leaf.specs.Tree.{breaks_of}
+use Rattle.rope_leaf.specs.Search.{IsSmall}
 use Rattle.rope_text.specs.TextInfo.{info_of, info_sum}
-use Rattle.rope_tree.proofs.NodeLaws.{small_totals}
-use Rattle.rope_tree.proofs.InsertLeaves.{text_of_leaf}
-use Rattle.rope_tree.proofs.Descents.{Descends, child_counts, child_total, descends}
+use Rattle.rope_leaf.proofs.NodeLaws.{small_totals}
+use Rattle.rope_leaf.proofs.InsertLeaves.{text_of_leaf}
+use Rattle.rope_leaf.proofs.Descents.{Descends, child_counts, child_total, descends}
 use Rattle.rope_tree.proofs.LookupDescent.{at_start, at_end, further, small_more}
 use Rattle.rope_tree.proofs.lookup.leaf_at.Goals.{After-total_before-front}
-use Rattle.rope_tree.proofs.Infos.{small_sum}
+use Rattle.rope_leaf.proofs.Infos.{small_sum}
 use Rattle.rope_text.proofs.InfoLaws.{part_of_sum}
 use Rattle.rope_tree.proofs.lookup.leaf_at.Goals as goal
 

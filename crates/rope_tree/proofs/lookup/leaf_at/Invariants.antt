@@ -1,6 +1,6 @@
 use Rattle.std.specs.Prelude.{◌≡◌}
 use Rattle.rope_text.specs.TextInfo.{info_of}
-use Rattle.rope_tree.specs.Tree.{text}
+use Rattle.rope_leaf.specs.Tree.{text}
 use Rattle.rope_tree.proofs.LookupDescent.{IsOnDescent, GoesDown}
 use Rattle.rope_tree.proofs.lookup.leaf_at.Given as goal
 

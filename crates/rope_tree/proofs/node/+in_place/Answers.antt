@@ -1,14 +1,15 @@
 use Rattle.std.proofs.Common.{◌≡◌, ℕ, true, [], ◌∷◌, get_or, ap, sym, subst, refl, ◌∙◌, arith}
 use Rattle.std.proofs.lemmas.Result.{IfOk-weaker}
 use Rattle.rope_text.specs.Edit.{inserted}
-use Rattle.rope_tree.specs.Shape.{IsLeafNode, IsForm, IsNode}
+use Rattle.rope_leaf.specs.LeafTree.{IsLeafNode}
+use Rattle.rope_tree.specs.Shape.{IsForm, IsNode}
 use Rattle.rope_tree.specs.Falls.{tallest_below}
-use Rattle.rope_tree.specs.Tree.{text, joined, breaks_of, height_of, tree_over, IsTree}
+use Rattle.rope_leaf.specs.Tree.{text, joined, breaks_of, height_of, tree_over, IsTree}
 use Rattle.rope_text.specs.TextInfo.{info_of}
-use Rattle.rope_tree.specs.Change.{IsChange, no_counts}
-use Rattle.rope_tree.specs.Insert.{TakesShort, MayInsert, IsInserted}
-use Rattle.rope_tree.proofs.NodeLaws.{small_totals}
-use Rattle.rope_tree.proofs.GrownLaws.{tallest_above}
+use Rattle.rope_leaf.specs.Change.{IsChange, no_counts}
+use Rattle.rope_leaf.specs.Insert.{TakesShort, MayInsert, IsInserted}
+use Rattle.rope_leaf.proofs.NodeLaws.{small_totals}
+use Rattle.rope_tree.proofs.ListedLaws.{tallest_above}
 use Rattle.rope_tree.proofs.FormLaws.{inner_of, inner_seen, leaf_seen, node_tree, grown_leaf, by_answer, by_outcome, not_tried, tried_in, still_children, grown_children, grown_node}
 use Rattle.rope_tree.proofs.ChildLaws.{if_idle, Finds, found_at, read, child_fits, may, change_narrow, fields_changed, all_changed, list_changed}
 use Rattle.rope_tree.proofs.node.+in_place.Goals.{Children::insert_in_place-After-index-self-place-2, Node::insert_in_place-Joined-self, Node::insert_in_place-in-Empty, Node::insert_in_place-in-Leaf+in_ok-own_leaf-in-Leaf+in-Some, Node::insert_in_place-in-Leaf+in_ok-own_leaf-in-Leaf+in-None, Node::insert_in_place-in-Inner+in_ok-own_children-in-Inner+in-Some-get_mut, Node::insert_in_place-in-Inner+in_ok-own_children-in-Inner+in-None-get_mut}

@@ -1,23 +1,25 @@
 use Rattle.std.proofs.lemmas.Result.{IfOk-weaker}
-use Rattle.rope_tree.specs.Shape.{IsLeafNode, IsForm, IsNode}
+use Rattle.rope_leaf.specs.LeafTree.{IsLeafNode}
+use Rattle.rope_tree.specs.Shape.{IsForm, IsNode}
 use Rattle.rope_tree.specs.Falls.{tallest_below}
 use Rattle.std.proofs.Common.{◌≡◌, true, ℕ, ◌-◌, ◌<◌, ◌^◌, length, get_or, set, sym, ap, subst, refl, ◌∙◌, arith}
 use Rattle.rope_text.specs.Text.{byte_len}
 use Rattle.rope_text.specs.TextInfo.{info_of}
-use Rattle.rope_tree.specs.Tree.{Tree, text, joined, height_of, breaks_of, tree_over, IsTree}
+use Rattle.rope_leaf.specs.Tree.{Tree, text, joined, height_of, breaks_of, tree_over, IsTree}
 use Rattle.rope_tree.specs.Listed.{listed}
-use Rattle.rope_tree.specs.Totals.{AreBelow}
-use Rattle.rope_tree.specs.Change.{IsChange, no_counts}
-use Rattle.rope_tree.specs.Removal.{IsRemoved, AreRemoved}
-use Rattle.rope_tree.proofs.ChangeLaws.{change_to, part_of_part, part_fits, whole_changed, change_by, change_own, change_of_list}
-use Rattle.rope_tree.proofs.NodeLaws.{small_totals}
+use Rattle.rope_leaf.specs.Totals.{AreBelow}
+use Rattle.rope_leaf.specs.Change.{IsChange, no_counts}
+use Rattle.rope_leaf.specs.Removal.{IsRemoved, AreRemoved}
+use Rattle.rope_leaf.proofs.ChangeLaws.{change_to, part_of_part, part_fits, whole_changed, change_by, change_own, change_of_list}
+use Rattle.rope_leaf.proofs.NodeLaws.{small_totals}
 use Rattle.rope_tree.proofs.ChildLaws.{taken_at, if_idle}
-use Rattle.rope_tree.proofs.InsertDescents.{Takes, last_total}
-use Rattle.rope_tree.proofs.TotalLaws.{has_part, fits_after}
-use Rattle.rope_tree.proofs.GrownLaws.{totals_seen, tallest_above}
+use Rattle.rope_leaf.proofs.InsertDescents.{Takes, last_total}
+use Rattle.rope_leaf.proofs.TotalLaws.{has_part, fits_after}
+use Rattle.rope_leaf.proofs.GrownLaws.{totals_seen}
+use Rattle.rope_tree.proofs.ListedLaws.{tallest_above}
 use Rattle.rope_tree.proofs.ListedLaws.{set_seen, set_listed, set_totals}
 use Rattle.rope_tree.proofs.FormLaws.{inner_of, inner_seen, leaf_seen, node_tree, fallen_leaf, by_answer, by_outcome, not_tried, tried_in, still_children, removed_children, removed_node}
-use Rattle.rope_tree.proofs.RemovalLaws.{Holds, holds, byte_len-removed, children_removed}
+use Rattle.rope_leaf.proofs.RemovalLaws.{Holds, holds, byte_len-removed, children_removed}
 use Rattle.rope_tree.proofs.node.+in_place_removal.Goals as goal
 use Rattle.rope_tree.proofs.node.+in_place_removal.Goals.{Children::remove_in_place-After-index-self-place, Node::remove_in_place-Joined-self, Node::remove_in_place-in-Empty, Node::remove_in_place-in-Leaf+in_ok-own_leaf-in-Leaf+in-Some, Node::remove_in_place-in-Leaf+in_ok-own_leaf-in-Leaf+in-None, Node::remove_in_place-in-Inner+in_ok-own_children-in-Inner+in-Some-get_mut, Node::remove_in_place-in-Inner+in_ok-own_children-in-Inner+in-None-get_mut}
 

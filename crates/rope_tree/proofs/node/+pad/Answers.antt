@@ -1,10 +1,10 @@
 use Rattle.std.proofs.Common.{◌≡◌, ℕ, ◌+◌, ◌^◌, ◌<◌, ◌≤◌, true, List, ◌++◌, get_or, take, drop, ap, refl, arith}
 use Rattle.rope_text.specs.Text.{byte_len}
 use Rattle.rope_text.proofs.Measures.{IsMeasure-byte_len}
-use Rattle.rope_tree.specs.Tree.{Tree, text, joined, height_of, breaks_of}
+use Rattle.rope_leaf.specs.Tree.{Tree, text, joined, height_of, breaks_of}
 use Rattle.rope_tree.proofs.ChildLaws.{taken_at}
-use Rattle.rope_tree.proofs.InsertDescents.{Takes}
-use Rattle.rope_tree.proofs.InsertTrees.{text_around}
+use Rattle.rope_leaf.proofs.InsertDescents.{Takes}
+use Rattle.rope_leaf.proofs.InsertTrees.{text_around}
 use Rattle.rope_tree.proofs.node.+pad.Goals.{Children::pad_path-After-index-self-place}
 use Rattle.rope_tree.proofs.node.+pad.Goals as goal
 

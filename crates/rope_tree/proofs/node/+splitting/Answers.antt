@@ -1,9 +1,9 @@
 use Rattle.std.proofs.Common.{ℕ, get_or, sym, refl, arith}
 use Rattle.rope_tree.specs.Shape.{IsNode}
-use Rattle.rope_tree.specs.Tree.{Tree, breaks_of, tree_over}
-use Rattle.rope_tree.proofs.Infos.{small_below}
-use Rattle.rope_tree.proofs.NodeLaws.{small_totals}
-use Rattle.rope_tree.proofs.GrownLaws.{tallest_above}
+use Rattle.rope_leaf.specs.Tree.{Tree, breaks_of, tree_over}
+use Rattle.rope_leaf.proofs.Infos.{small_below}
+use Rattle.rope_leaf.proofs.NodeLaws.{small_totals}
+use Rattle.rope_tree.proofs.ListedLaws.{tallest_above}
 use Rattle.rope_tree.proofs.FormLaws.{inner_of, inner_seen, node_tree, by_outcome, not_tried, tried_in, still_children, grown_children, grown_node}
 use Rattle.rope_tree.proofs.ChildLaws.{Finds, found_at, read, part, child_fits, may, small, still_narrow, fields_after, all_grown}
 use Rattle.rope_tree.proofs.node.+splitting.Goals.{Children::insert_splitting-After-info-old, Node::insert_splitting-Joined-self, Node::insert_splitting-in-Inner+in-Some, Node::insert_splitting-in-Inner+in-None, Node::insert_splitting-in_default}

@@ -2,9 +2,9 @@ use Rattle.std.proofs.Common.{[], refl, ap, sym, ◌∙◌, arith}
 use Rattle.std.proofs.lemmas.Str.{scalars-chars}
 use Rattle.std.specs.Str.{chars}
 use Rattle.rope_text.proofs.Walks.{byte_len-chars}
-use Rattle.rope_tree.specs.Tree.{leaf_tree, IsTree}
+use Rattle.rope_leaf.specs.Tree.{leaf_tree, IsTree}
 use Rattle.rope_tree.proofs.FormLaws.{no_text}
-use Rattle.rope_tree.proofs.GrownLaws.{leaf_is_tree}
+use Rattle.rope_leaf.proofs.GrownLaws.{leaf_is_tree}
 use Rattle.rope_tree.proofs.node.leaf_node.Goals.{Start, in-Some+in_ok-leaf-in-Some, in-None+in_ok-leaf-in-None}
 use Rattle.rope_tree.proofs.node.leaf_node.Goals as goal
 

@@ -2,9 +2,9 @@
 use Rattle.std.proofs.Common.{◌≡◌, ◌<◌, ◌^◌, ap, ◌∙◌, arith}
 use Rattle.rope_text.specs.Text.{byte_len}
 use Rattle.rope_text.specs.Edit.{inserted}
-use Rattle.rope_tree.specs.Tree.{text}
+use Rattle.rope_leaf.specs.Tree.{text}
 use Rattle.rope_tree.proofs.InsertRoots.{root_children, root_text, root_breaks, root_tree}
-use Rattle.rope_tree.proofs.InsertTrees.{byte_len-inserted}
+use Rattle.rope_leaf.proofs.InsertTrees.{byte_len-inserted}
 use Rattle.rope_tree.proofs.short_edits.insert_or_rebuild.Goals.{In_ok-nodes}
 use Rattle.rope_tree.proofs.short_edits.insert_or_rebuild.Goals as goal
 

@@ -8,9 +8,9 @@ use Rattle.std.proofs.lemmas.Str.{length-le-encodes}
 use Rattle.rope_text.proofs.InfoLaws.{break_count-le-length}
 use Rattle.rope_text.proofs.LineSeams.{break_count-front}
 use Rattle.rope_text.proofs.Measures.{IsMeasure-byte_len, size_le_all}
-use Rattle.rope_tree.specs.Tree.{text}
-use Rattle.rope_tree.specs.Search.{IsSmall}
-use Rattle.rope_tree.proofs.Infos.{small_info, small_sum}
+use Rattle.rope_leaf.specs.Tree.{text}
+use Rattle.rope_leaf.specs.Search.{IsSmall}
+use Rattle.rope_leaf.proofs.Infos.{small_info, small_sum}
 use Rattle.rope_slice.specs.Excerpt.{text_of, breaks_of}
 use Rattle.rope_slice.proofs.LeafLines.{line_in_leaf}
 use Rattle.rope_slice.proofs.Measured.{measured}

@@ -1,7 +1,7 @@
 use Rattle.std.proofs.Common.{◌∙◌, ap, arith}
 use Rattle.rope_text.specs.Text.{byte_len}
 use Rattle.rope_text.proofs.Measures.{IsMeasure-byte_len, size_le}
-use Rattle.rope_tree.specs.Tree.{text}
+use Rattle.rope_leaf.specs.Tree.{text}
 use Rattle.rope_slice.proofs.Measured.{measured}
 use Rattle.rope_slice.proofs.ExcerptLines.{up_to, counts_up_to, counts_of_all}
 use Rattle.rope_slice.proofs.excerpt.Excerpt.counts_to.Goals as goal

@@ -5,8 +5,8 @@ use Rattle.rope_text.specs.TextInfo.{info_of}
 use Rattle.rope_text.specs.Cutting.{parts_crlf}
 use Rattle.rope_text.proofs.ChunkLaws.{before}
 use Rattle.rope_text.proofs.Measures.{IsMeasure-byte_len, size_le_all}
-use Rattle.rope_tree.proofs.Infos.{small_info, sum_of_small}
-use Rattle.rope_tree.proofs.Descents.{small_found}
+use Rattle.rope_leaf.proofs.Infos.{small_info, sum_of_small}
+use Rattle.rope_leaf.proofs.Descents.{small_found}
 use Rattle.rope_tree.proofs.FoundLaws.{found_char}
 use Rattle.rope_slice.proofs.Edges.{seam_before, end_found}
 use Rattle.rope_slice.proofs.excerpt.Excerpt.end_at.Goals.{After-of_front-front}

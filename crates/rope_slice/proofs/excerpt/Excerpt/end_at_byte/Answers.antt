@@ -4,7 +4,7 @@ use Rattle.rope_text.specs.Conversions.{byte_to_char}
 use Rattle.rope_text.specs.Text.{byte_len}
 use Rattle.rope_text.proofs.ByteSlices.{end_is_boundary}
 use Rattle.rope_text.proofs.ConversionLaws.{byte_to_char-byte_len}
-use Rattle.rope_tree.specs.Tree.{text}
+use Rattle.rope_leaf.specs.Tree.{text}
 use Rattle.rope_slice.specs.Edge.{end_info}
 use Rattle.rope_slice.specs.Excerpt.{text_of}
 use Rattle.rope_slice.proofs.Measured.{measured}

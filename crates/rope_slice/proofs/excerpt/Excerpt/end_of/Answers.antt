@@ -1,5 +1,5 @@
 use Rattle.std.proofs.Common.{◌≡◌, ◌+◌, ◌∙◌, sym, ap, arith}
-use Rattle.rope_tree.specs.Tree.{text}
+use Rattle.rope_leaf.specs.Tree.{text}
 use Rattle.rope_slice.specs.Edge.{end_info}
 use Rattle.rope_slice.proofs.Measured.{measured}
 use Rattle.rope_slice.proofs.excerpt.Excerpt.end_of.Goals as goal

@@ -2,8 +2,8 @@ use Rattle.std.proofs.Common.{◌≡◌, ◌+◌, ◌-◌, ◌∙◌, ℕ, List,
 use Rattle.std.specs.Str.{chars, IsCharBoundary}
 use Rattle.rope_text.specs.Text.{byte_len}
 use Rattle.rope_text.proofs.TextParts.{chars_back, byte_len_boundary}
-use Rattle.rope_tree.specs.Tree.{text}
-use Rattle.rope_tree.specs.declared.search.Unit.TheVariants.{Byte}
+use Rattle.rope_leaf.specs.Tree.{text}
+use Rattle.rope_leaf.specs.declared.search.Unit.TheVariants.{Byte}
 use Rattle.rope_slice.proofs.InChunks.{in_found, in_clip}
 use Rattle.rope_slice.proofs.LeafParts.{StartsIn, starts_in}
 use Rattle.rope_slice.proofs.Measured.{measured}

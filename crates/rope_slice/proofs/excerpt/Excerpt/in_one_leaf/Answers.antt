@@ -4,8 +4,8 @@ use Rattle.std.proofs.lemmas.List.{length-drop}
 use Rattle.rope_text.specs.Cutting.{single_chunk}
 use Rattle.rope_text.specs.Text.{byte_len}
 use Rattle.rope_text.proofs.TextParts.{chars_front, chars_back}
-use Rattle.rope_tree.specs.Tree.{text}
-use Rattle.rope_tree.specs.declared.search.Unit.TheVariants.{Char}
+use Rattle.rope_leaf.specs.Tree.{text}
+use Rattle.rope_leaf.specs.declared.search.Unit.TheVariants.{Char}
 use Rattle.rope_tree.proofs.FoundLaws.{found_char}
 use Rattle.rope_slice.specs.Excerpt.{text_of, chunks_of}
 use Rattle.rope_slice.specs.InChunk.{IsInChunk}

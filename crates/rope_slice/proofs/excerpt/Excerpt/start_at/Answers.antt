@@ -8,7 +8,7 @@ use Rattle.rope_text.specs.Text.{byte_len, surrogate_count}
 use Rattle.rope_text.specs.Conversions.{char_to_line, char_to_byte, byte_to_char, byte_to_line}
 use Rattle.rope_text.proofs.ConversionLaws.{byte_to_char-char_to_byte, byte_to_line-byte_to_char}
 use Rattle.rope_text.proofs.Measures.{IsMeasure-byte_len, size_le_all}
-use Rattle.rope_tree.proofs.Descents.{small_found}
+use Rattle.rope_leaf.proofs.Descents.{small_found}
 use Rattle.rope_tree.proofs.FoundLaws.{char_to_line-le, found_char}
 use Rattle.rope_slice.proofs.Edges.{start_found}
 use Rattle.rope_slice.proofs.excerpt.Excerpt.start_at.Goals.{After-byte_to_line_of-lines, After-byte_to_surrogates_of-pairs}

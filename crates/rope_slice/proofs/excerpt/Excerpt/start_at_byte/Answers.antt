@@ -3,7 +3,7 @@ use Rattle.rope_text.specs.Conversions.{byte_to_char}
 use Rattle.rope_text.specs.Edit.{is_char_boundary}
 use Rattle.rope_text.proofs.ByteSlices.{start_is_boundary}
 use Rattle.rope_text.proofs.ConversionLaws.{byte_to_char-char_to_byte}
-use Rattle.rope_tree.specs.Tree.{text}
+use Rattle.rope_leaf.specs.Tree.{text}
 use Rattle.rope_slice.specs.Edge.{start_info}
 use Rattle.rope_slice.specs.Excerpt.{text_of}
 use Rattle.rope_slice.proofs.excerpt.Excerpt.start_at_byte.Goals as goal

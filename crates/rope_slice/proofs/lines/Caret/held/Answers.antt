@@ -2,7 +2,7 @@ use Rattle.std.proofs.Common.{◌∙◌, ap, sym}
 use Rattle.std.specs.Str.{chars}
 use Rattle.rope_text.specs.Conversions.{byte_to_char}
 use Rattle.rope_text.specs.LineParts.{after_byte}
-use Rattle.rope_tree.proofs.NodeTexts.{boundary_at}
+use Rattle.rope_leaf.proofs.NodeTexts.{boundary_at}
 use Rattle.rope_slice.proofs.Carets.{between_after}
 use Rattle.rope_slice.proofs.CaretSteps.{holds_ahead}
 use Rattle.rope_slice.proofs.lines.Caret.held.Goals as goal

@@ -3,11 +3,11 @@ use Rattle.std.specs.Str.{chars}
 use Rattle.rope_text.specs.Conversions.{byte_to_char}
 use Rattle.rope_text.specs.TextInfo.{info_of, info_sum, HasSum}
 use Rattle.rope_text.specs.LineParts.{first_line, after_byte}
-use Rattle.rope_tree.proofs.NodeTexts.{boundary_at}
+use Rattle.rope_leaf.proofs.NodeTexts.{boundary_at}
 use Rattle.rope_slice.proofs.Carets.{between_after, start_of_chunk}
 use Rattle.rope_slice.proofs.CaretSteps.{info_small, place_fits, pass_inside, more_small, pass_over}
 use Rattle.rope_slice.proofs.lines.Caret.pass_line.Goals.{After-of_first_line-first}
-use Rattle.rope_tree.proofs.Infos.{sum_of_small}
+use Rattle.rope_leaf.proofs.Infos.{sum_of_small}
 use Rattle.rope_slice.proofs.lines.Caret.pass_line.Goals as goal
 
 pub range_from-held-requires : goal.range_from-held-requires

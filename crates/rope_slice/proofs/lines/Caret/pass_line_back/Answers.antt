@@ -1,7 +1,7 @@
 use Rattle.std.proofs.Common.{◌<◌, refl, sym, ◌∙◌, ap}
 use Rattle.std.specs.Str.{chars}
 use Rattle.rope_text.specs.TextInfo.{info_sum}
-use Rattle.rope_tree.proofs.Infos.{sum_of_small}
+use Rattle.rope_leaf.proofs.Infos.{sum_of_small}
 use Rattle.rope_slice.specs.Caret.{halves_at, PassesBack}
 use Rattle.rope_slice.proofs.Carets.{start_of_chunk}
 use Rattle.rope_slice.proofs.CaretsBack.{caret_apart, caret_found, caret_left, caret_small, other_small, caret_composed}

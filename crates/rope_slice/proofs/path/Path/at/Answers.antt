@@ -2,15 +2,15 @@ use Rattle.std.proofs.Common.{◌≡◌, refl, sym, ap, ap₂, ◌∙◌, arith}
 use Rattle.std.specs.Str.{chars}
 use Rattle.rope_text.specs.TextInfo.{info_of, info_sum}
 use Rattle.rope_text.proofs.InfoLaws.{part_of_sum}
-use Rattle.rope_tree.specs.Search.{IsSmall}
-use Rattle.rope_tree.specs.Tree.{breaks_of, leaf_tree}
-use Rattle.rope_tree.proofs.NodeLaws.{small_totals}
-use Rattle.rope_tree.proofs.Descents.{Descends, child_counts, child_total, descends}
+use Rattle.rope_leaf.specs.Search.{IsSmall}
+use Rattle.rope_leaf.specs.Tree.{breaks_of, leaf_tree}
+use Rattle.rope_leaf.proofs.NodeLaws.{small_totals}
+use Rattle.rope_leaf.proofs.Descents.{Descends, child_counts, child_total, descends}
 use Rattle.rope_tree.proofs.LookupDescent.{at_end, small_more}
 use Rattle.rope_slice.proofs.PathLaws.{first_counts, path_start, path_down, path_end, path_holds, leaves_descent}
 use Rattle.rope_slice.proofs.path.Path.at.Goals.{After-total_before-front, After-as_str-leaf}
-use Rattle.rope_tree.proofs.Infos.{small_sum}
-use Rattle.rope_tree.proofs.InsertLeaves.{text_of_leaf}
+use Rattle.rope_leaf.proofs.Infos.{small_sum}
+use Rattle.rope_leaf.proofs.InsertLeaves.{text_of_leaf}
 use Rattle.rope_slice.proofs.path.Path.at.Goals as goal
 
 -- the index is in the child that the search returns

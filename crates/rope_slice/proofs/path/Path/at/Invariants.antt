@@ -1,6 +1,6 @@
 use Rattle.std.proofs.Common.{◌≡◌, ◌<◌, length}
 use Rattle.rope_text.specs.TextInfo.{info_of}
-use Rattle.rope_tree.specs.Tree.{text}
+use Rattle.rope_leaf.specs.Tree.{text}
 use Rattle.rope_slice.specs.Descent.{AreListed}
 use Rattle.rope_slice.proofs.PathLaws.{IsOnPath}
 use Rattle.rope_slice.proofs.path.Path.at.Given as goal

@@ -1,5 +1,5 @@
 use Rattle.std.proofs.Common.{◌+◌, ◌-◌, arith}
-use Rattle.rope_tree.specs.declared.search.Unit.TheVariants.{LineBreak}
+use Rattle.rope_leaf.specs.declared.search.Unit.TheVariants.{LineBreak}
 use Rattle.rope_slice.specs.Path.{HoldsPlace}
 use Rattle.rope_slice.proofs.BreakStarts.{break_within, span_at_break, is_at_break}
 use Rattle.rope_slice.proofs.path.TreeSpan.at_break.Goals.{After-at-path}

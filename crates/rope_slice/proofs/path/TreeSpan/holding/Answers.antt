@@ -1,5 +1,5 @@
 use Rattle.std.proofs.Common.{◌≡◌, min, ◌+◌, ◌-◌, arith}
-use Rattle.rope_tree.specs.Search.{count_of}
+use Rattle.rope_leaf.specs.Search.{count_of}
 use Rattle.rope_slice.proofs.Places.{small_end}
 use Rattle.rope_slice.proofs.LeafStarts.{some_in, place_in, span_here, holds_here}
 use Rattle.rope_slice.proofs.path.TreeSpan.holding.Goals.{After-min-place}

@@ -9,8 +9,8 @@ use Rattle.rope_text.proofs.LineLaws.{line_start-le-length}
 use Rattle.rope_text.proofs.LineSeams.{first_line-drop}
 use Rattle.rope_text.proofs.TextParts.{chars_back, byte_len_boundary}
 use Rattle.rope_text.proofs.Measures.{IsMeasure-byte_len, size_le_all}
-use Rattle.rope_tree.specs.Search.{IsSmall}
-use Rattle.rope_tree.proofs.Infos.{small_info, small_sum}
+use Rattle.rope_leaf.specs.Search.{IsSmall}
+use Rattle.rope_leaf.proofs.Infos.{small_info, small_sum}
 use Rattle.rope_slice.specs.Edge.{line_info}
 use Rattle.rope_slice.specs.Plain.{text_of}
 use Rattle.rope_slice.proofs.LeafLines.{next_counts}

@@ -3,7 +3,7 @@ use Rattle.rope_text.specs.Cutting.{single_chunk}
 use Rattle.rope_text.specs.TextInfo.{info_sum, HasSum}
 use Rattle.rope_text.proofs.ClipLaws.{slice_range_empty}
 use Rattle.rope_text.specs.LineParts.{part_between}
-use Rattle.rope_tree.specs.Tree.{text}
+use Rattle.rope_leaf.specs.Tree.{text}
 use Rattle.rope_slice.specs.declared.excerpt.Excerpt.{Excerpt}
 use Rattle.rope_slice.specs.Edge.{IsExcerpt}
 use Rattle.rope_slice.specs.Excerpt as of_excerpt

@@ -13,7 +13,7 @@ use Rattle.rope_text.specs.LineParts.{part_between}
 use Rattle.rope_text.proofs.ByteSlices.{boundary_is, byte_to_char-mono}
 use Rattle.rope_text.proofs.ClipLaws.{slice_range_empty, clip_empty}
 use Rattle.rope_text.proofs.ConversionLaws.{byte_to_char-le-length}
-use Rattle.rope_tree.specs.Tree.{text}
+use Rattle.rope_leaf.specs.Tree.{text}
 use Rattle.rope_slice.specs.Edge.{IsExcerpt, start_info, end_info}
 use Rattle.rope_slice.specs.Slice.{content_of, text_of, chunks_of}
 use Rattle.rope_slice.specs.Excerpt as of_excerpt

@@ -7,7 +7,7 @@ use Rattle.rope_slice.specs.Plain.{text_of}
 use Rattle.rope_slice.proofs.slice.RopeSlice.char.Goals.{After-range_from}
 use Rattle.std.specs.List.{slice_range}
 use Rattle.std.proofs.lemmas.List.{get_or-take}
-use Rattle.rope_tree.specs.Tree.{text}
+use Rattle.rope_leaf.specs.Tree.{text}
 use Rattle.rope_slice.specs.Excerpt as tree
 use Rattle.rope_slice.proofs.Excerpts.{length_part}
 use Rattle.rope_slice.proofs.Measured.{measured}

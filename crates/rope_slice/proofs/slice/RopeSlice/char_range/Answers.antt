@@ -6,7 +6,7 @@ use Rattle.std.proofs.lemmas.Str.{chars-nil}
 use Rattle.rope_text.specs.Cutting.{single_chunk}
 use Rattle.rope_text.proofs.ClipLaws.{slice_range_empty, clip_empty}
 use Rattle.rope_text.proofs.TextParts.{chars_front, chars_back}
-use Rattle.rope_tree.specs.Tree.{text}
+use Rattle.rope_leaf.specs.Tree.{text}
 use Rattle.rope_slice.specs.Slice.{text_of, chunks_of}
 use Rattle.rope_slice.specs.Edge.{start_info, end_info}
 use Rattle.rope_slice.specs.Plain as plain

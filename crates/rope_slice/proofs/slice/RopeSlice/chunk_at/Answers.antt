@@ -3,7 +3,7 @@ use Rattle.std.specs.Str.{chars}
 use Rattle.rope_text.specs.Text.{byte_len}
 use Rattle.rope_text.proofs.Measures.{IsMeasure-byte_len, size_le}
 use Rattle.rope_text.proofs.Walks.{byte_len-chars}
-use Rattle.rope_tree.specs.Search.{count_of}
+use Rattle.rope_leaf.specs.Search.{count_of}
 use Rattle.rope_slice.proofs.ChunkParts.{chars_of_part, boundary_of}
 use Rattle.rope_slice.proofs.LeafParts.{LeafIn, leaf_in}
 use Rattle.rope_slice.proofs.FoundChunks.{found_single}

@@ -1,6 +1,6 @@
 use Rattle.std.proofs.Common.{◌≡◌, ◌==◌, true, false, arith}
 use Rattle.std.proofs.lemmas.Bool.Decides.{nat_tests}
-use Rattle.rope_tree.proofs.Infos.{small_info}
+use Rattle.rope_leaf.proofs.Infos.{small_info}
 use Rattle.rope_slice.specs.Slice.{text_of, chunks_of, breaks_of}
 use Rattle.rope_slice.proofs.ChunkStarts.{size_is, starts_before, starts_past}
 use Rattle.rope_slice.proofs.slice.RopeSlice.chunks_from.Goals as goal

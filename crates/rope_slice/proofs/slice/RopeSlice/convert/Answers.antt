@@ -1,7 +1,7 @@
 use Rattle.std.proofs.Common.{◌≡◌, ◌+◌, ◌<◌, min, sym, ap, ◌∙◌, arith}
-use Rattle.rope_tree.specs.Search.{count_of}
+use Rattle.rope_leaf.specs.Search.{count_of}
 use Rattle.rope_tree.specs.Conversions.{first_sought, converted}
-use Rattle.rope_tree.specs.Tree.{text}
+use Rattle.rope_leaf.specs.Tree.{text}
 use Rattle.rope_tree.proofs.ConvertedLaws.{converted_first}
 use Rattle.rope_slice.specs.Excerpt.{text_of, breaks_of}
 use Rattle.rope_slice.proofs.Places.{small_start, small_end}

@@ -1,5 +1,5 @@
 use Rattle.std.proofs.Common.{ap, arith}
-use Rattle.rope_tree.proofs.Infos.{small_info}
+use Rattle.rope_leaf.proofs.Infos.{small_info}
 use Rattle.rope_slice.specs.Slice.{text_of, breaks_of}
 use Rattle.rope_slice.proofs.slice.RopeSlice.len_utf16_cu.Goals as goal
 

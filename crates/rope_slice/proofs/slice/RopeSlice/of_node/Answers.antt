@@ -3,9 +3,9 @@ use Rattle.std.proofs.lemmas.Str.{chars-nil}
 use Rattle.std.proofs.lemmas.List.{nil_from_length}
 use Rattle.rope_text.specs.Cutting.{single_chunk}
 use Rattle.rope_text.specs.Text.{byte_len}
-use Rattle.rope_tree.specs.Tree.{text}
+use Rattle.rope_leaf.specs.Tree.{text}
 use Rattle.rope_tree.proofs.EmptyTrees.{no_leaves_of}
-use Rattle.rope_tree.proofs.LeafLaws.{nonempty_leaves}
+use Rattle.rope_leaf.proofs.LeafLaws.{nonempty_leaves}
 use Rattle.rope_slice.proofs.Clips.{whole_part, whole_clip}
 use Rattle.rope_slice.proofs.Measured.{whole_excerpt}
 use Rattle.rope_slice.proofs.slice.RopeSlice.of_node.Goals as goal

@@ -1,7 +1,7 @@
 use Rattle.std.proofs.Common.{arith}
 use Rattle.std.specs.Str.{chars}
 use Rattle.rope_text.proofs.InfoLaws.{break_count-le-length}
-use Rattle.rope_tree.specs.declared.search.Unit.TheVariants.{Char}
+use Rattle.rope_leaf.specs.declared.search.Unit.TheVariants.{Char}
 use Rattle.rope_slice.proofs.FoundChunks.{break_index_single}
 use Rattle.rope_slice.proofs.LeafStarts.{holds_alone}
 use Rattle.rope_slice.proofs.span.Span.at_break.Goals as goal

@@ -8,9 +8,9 @@ use Rattle.std.specs.Str.{chars}
 use Rattle.rope_text.specs.Text.{byte_len}
 use Rattle.rope_text.proofs.Measures.{IsMeasure-byte_len}
 use Rattle.rope_text.proofs.Walks.{byte_len-chars}
-use Rattle.rope_tree.specs.Tree.{joined}
+use Rattle.rope_leaf.specs.Tree.{joined}
 use Rattle.rope_tree.specs.Fronts.{AreFrontNodes, Building}
-use Rattle.rope_tree.proofs.BuildLaws.{no_chars}
+use Rattle.rope_leaf.proofs.LeafTexts.{no_chars}
 use Rattle.rope_tree.proofs.builder.Builder.append.Goals.{then-len-text-le-MAX_BYTES, else-len-text-le-MAX_BYTES+in_default}
 use Rattle.rope_tree.proofs.builder.Builder.append.Goals as goal
 

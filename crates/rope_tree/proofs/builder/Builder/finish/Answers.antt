@@ -6,13 +6,13 @@ use Rattle.std.proofs.lemmas.List.{length-append, append-nil}
 use Rattle.std.proofs.lemmas.Result.{IfOk-weaker}
 use Rattle.std.specs.List.{concat}
 use Rattle.rope_text.specs.Text.{byte_len}
-use Rattle.rope_tree.specs.Tree.{Tree, leaf_tree, joined, leaves_of}
+use Rattle.rope_leaf.specs.Tree.{Tree, leaf_tree, joined, leaves_of}
 use Rattle.rope_tree.specs.declared.builder.Builder.TheInside.{Inside}
 use Rattle.rope_tree.specs.Fronts.{AreFrontNodes, Building, IsBuilding}
-use Rattle.rope_tree.specs.Siblings.{AreSiblings}
-use Rattle.rope_tree.proofs.TreeLaws.{breaks_of_is}
-use Rattle.rope_tree.proofs.InsertTrees.{siblings_of_first}
-use Rattle.rope_tree.proofs.LeafLaws.{seam-nil}
+use Rattle.rope_leaf.specs.Siblings.{AreSiblings}
+use Rattle.rope_leaf.proofs.TreeLaws.{breaks_of_is}
+use Rattle.rope_leaf.proofs.InsertTrees.{siblings_of_first}
+use Rattle.rope_leaf.proofs.LeafLaws.{seam-nil}
 use Rattle.rope_tree.proofs.BuildLaws.{nodes_front, nodes_whole, siblings_whole, nodes_le, leaf_few}
 use Rattle.rope_tree.proofs.builder.Builder.finish.Goals.{In_ok-push}
 use Rattle.rope_tree.proofs.builder.Builder.finish.Goals as goal

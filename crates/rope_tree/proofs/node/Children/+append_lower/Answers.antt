@@ -3,9 +3,9 @@ use Rattle.std.specs.List.{All, concat}
 use Rattle.std.proofs.lemmas.List.{append-nil, length-append}
 use Rattle.std.proofs.lemmas.List.Elements.{All-nil, All-cons}
 use Rattle.rope_text.specs.Text.{byte_len}
-use Rattle.rope_tree.specs.Leaves.{AreLeaves}
-use Rattle.rope_tree.specs.Tree.{Tree, joined, leaves_of, height_of, breaks_of, tree_over, IsChild, AreFamily}
-use Rattle.rope_tree.specs.Siblings.{AreLevel}
+use Rattle.rope_leaf.specs.Leaves.{AreLeaves}
+use Rattle.rope_leaf.specs.Tree.{Tree, joined, leaves_of, height_of, breaks_of, tree_over, IsChild, AreFamily}
+use Rattle.rope_leaf.specs.Siblings.{AreLevel}
 use Rattle.rope_tree.specs.Split.{AreSettled}
 use Rattle.rope_tree.proofs.MoveLaws.{AreMovable}
 use Rattle.rope_tree.proofs.SettledLaws.{settled_some, settled_few}

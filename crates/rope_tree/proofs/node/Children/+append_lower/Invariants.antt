@@ -1,4 +1,4 @@
-use Rattle.rope_tree.specs.Tree.{height_of}
+use Rattle.rope_leaf.specs.Tree.{height_of}
 use Rattle.rope_tree.proofs.node.Children.+append_lower.Given as goal
 
 abbrev pub decreases-append_lower : goal.decreases-append_lower

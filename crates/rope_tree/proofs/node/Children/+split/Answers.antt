@@ -3,10 +3,10 @@ use Rattle.std.proofs.lemmas.List.{append_assoc, length-append, length-take-le, 
 use Rattle.std.proofs.lemmas.Result.{IfOk-weaker}
 use Rattle.std.proofs.Math.Seq.{get_or-append_seam, take-append_seam}
 use Rattle.rope_text.specs.Text.{byte_len}
-use Rattle.rope_tree.specs.Tree.{Tree, text, joined, height_of, tree_over, AreFamily}
-use Rattle.rope_tree.specs.Siblings.{AreLevel}
+use Rattle.rope_leaf.specs.Tree.{Tree, text, joined, height_of, tree_over, AreFamily}
+use Rattle.rope_leaf.specs.Siblings.{AreLevel}
 use Rattle.rope_tree.specs.Split.{AreSettled, IsFrontOf, IsBackOf, MayFollow, EndsAs, AreSides}
-use Rattle.rope_tree.specs.Searched.{HasSearched}
+use Rattle.rope_leaf.specs.Searched.{HasSearched}
 use Rattle.rope_tree.proofs.MoveLaws.{AreMovable, movable_left, movable_right, movable_of, movable_after, both_parts}
 use Rattle.rope_tree.proofs.FrontSides.{front_movable, front_enough, front_all, front_side, front_following}
 use Rattle.rope_tree.proofs.BackSides.{back_movable, back_enough, back_all, back_side, back_ahead}

@@ -1,5 +1,5 @@
 use Rattle.std.proofs.Common.{◌+◌, ◌*◌, ◌++◌}
-use Rattle.rope_tree.specs.Tree.{height_of}
+use Rattle.rope_leaf.specs.Tree.{height_of}
 use Rattle.rope_tree.proofs.node.Children.+split.Given as goal
 
 abbrev pub decreases-split : goal.decreases-split

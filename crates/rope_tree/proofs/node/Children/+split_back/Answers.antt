@@ -3,13 +3,13 @@ use Rattle.std.proofs.lemmas.List.{append_assoc, length-append, append-nil, take
 use Rattle.std.proofs.lemmas.Result.{IfOk-weaker}
 use Rattle.std.proofs.Math.Seq.{take-append_seam}
 use Rattle.rope_text.specs.Text.{byte_len}
-use Rattle.rope_tree.specs.Tree.{Tree, text, joined, height_of, breaks_of, tree_over, AreFamily}
-use Rattle.rope_tree.specs.Siblings.{AreLevel}
-use Rattle.rope_tree.specs.Searched.{HasSearched}
+use Rattle.rope_leaf.specs.Tree.{Tree, text, joined, height_of, breaks_of, tree_over, AreFamily}
+use Rattle.rope_leaf.specs.Siblings.{AreLevel}
+use Rattle.rope_leaf.specs.Searched.{HasSearched}
 use Rattle.rope_tree.specs.Split.{AreSettled, IsFrontOf, MayFollow, IsWhole}
-use Rattle.rope_tree.specs.Totals.{HasTotals}
-use Rattle.rope_tree.proofs.Descents.{front_is}
-use Rattle.rope_tree.proofs.NodeLaws.{joined_more}
+use Rattle.rope_leaf.specs.Totals.{HasTotals}
+use Rattle.rope_leaf.proofs.Descents.{front_is}
+use Rattle.rope_leaf.proofs.NodeLaws.{joined_more}
 use Rattle.rope_tree.proofs.MoveLaws.{AreMovable, movable_of}
 use Rattle.rope_tree.proofs.FrontSides.{front_movable, front_enough, front_all, front_side, front_following}
 use Rattle.rope_tree.proofs.SplitLaws.{deeper, joined_two, end_height, end_text, end_few, end_back, whole_back}

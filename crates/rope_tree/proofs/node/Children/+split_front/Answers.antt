@@ -2,11 +2,11 @@ use Rattle.std.proofs.Common.{rules, ◌≡◌, ℕ, ◌+◌, ◌*◌, ◌^◌, 
 use Rattle.std.proofs.lemmas.List.{append_assoc, length-append, length-take-le, take-append-drop}
 use Rattle.std.proofs.lemmas.Result.{IfOk-weaker}
 use Rattle.rope_text.specs.Text.{byte_len}
-use Rattle.rope_tree.specs.Tree.{Tree, joined, height_of, breaks_of, tree_over, AreFamily}
-use Rattle.rope_tree.specs.Siblings.{AreLevel}
-use Rattle.rope_tree.specs.Searched.{HasSearched}
+use Rattle.rope_leaf.specs.Tree.{Tree, joined, height_of, breaks_of, tree_over, AreFamily}
+use Rattle.rope_leaf.specs.Siblings.{AreLevel}
+use Rattle.rope_leaf.specs.Searched.{HasSearched}
 use Rattle.rope_tree.specs.Split.{AreSettled, IsBackOf, EndsAs, IsWhole}
-use Rattle.rope_tree.proofs.NodeLaws.{joined_one}
+use Rattle.rope_leaf.proofs.NodeLaws.{joined_one}
 use Rattle.rope_tree.proofs.MoveLaws.{AreMovable, movable_left, movable_right, movable_of, movable_after}
 use Rattle.rope_tree.proofs.BackSides.{back_movable, back_enough, back_all, back_side, back_ahead}
 use Rattle.rope_tree.proofs.SplitLaws.{deeper, none_of, end_height, end_few, end_front, whole_front}

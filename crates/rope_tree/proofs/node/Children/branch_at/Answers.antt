@@ -1,14 +1,14 @@
 use Rattle.std.proofs.Common.{◌-◌, ◌≤◌, [], length, get_or, ap, refl, arith, sym}
 use Rattle.std.proofs.lemmas.List.{get_or_default}
-use Rattle.rope_tree.specs.declared.search.Unit.TheVariants.{Char}
-use Rattle.rope_tree.specs.Tree.{Tree, text, joined, height_of, breaks_of}
-use Rattle.rope_tree.specs.Totals.{HasTotals}
+use Rattle.rope_leaf.specs.declared.search.Unit.TheVariants.{Char}
+use Rattle.rope_leaf.specs.Tree.{Tree, text, joined, height_of, breaks_of}
+use Rattle.rope_leaf.specs.Totals.{HasTotals}
 use Rattle.rope_tree.specs.Listed.{listed}
-use Rattle.rope_tree.specs.Insert.{GoesIn}
-use Rattle.rope_tree.proofs.NodeLaws.{small_totals}
-use Rattle.rope_tree.proofs.Descents.{Descends, descends}
-use Rattle.rope_tree.proofs.InsertDescents.{last_total, inner_some, holds_within, goes_in}
-use Rattle.rope_tree.proofs.GrownLaws.{totals_seen}
+use Rattle.rope_leaf.specs.Insert.{GoesIn}
+use Rattle.rope_leaf.proofs.NodeLaws.{small_totals}
+use Rattle.rope_leaf.proofs.Descents.{Descends, descends}
+use Rattle.rope_leaf.proofs.InsertDescents.{last_total, inner_some, holds_within, goes_in}
+use Rattle.rope_leaf.proofs.GrownLaws.{totals_seen}
 use Rattle.rope_tree.proofs.node.Children.branch_at.Goals.{After-total_before-before, After-self}
 use Rattle.rope_tree.proofs.node.Children.branch_at.Goals as goal
 

@@ -1,7 +1,7 @@
 use Rattle.rope_text.specs.TextInfo.{HasPart}
 use Rattle.rope_text.specs.Edit.{inserted}
-use Rattle.rope_tree.specs.Tree.{joined}
-use Rattle.rope_tree.specs.Insert.{AreGrown}
+use Rattle.rope_leaf.specs.Tree.{joined}
+use Rattle.rope_leaf.specs.Insert.{AreGrown}
 use Rattle.rope_tree.proofs.ChildLaws.{list_has, list_grown}
 use Rattle.rope_tree.proofs.node.Children.cut_child.Goals.{After-total}
 use Rattle.rope_tree.proofs.node.Children.cut_child.Goals as goal

@@ -1,7 +1,7 @@
 use Rattle.std.proofs.Common.{◌≤◌, length, subst, ap, ◌∙◌, arith}
 use Rattle.std.specs.List.{All}
-use Rattle.rope_tree.specs.Tree.{breaks_of, IsChild}
-use Rattle.rope_tree.specs.Totals.{HasTotals}
+use Rattle.rope_leaf.specs.Tree.{breaks_of, IsChild}
+use Rattle.rope_leaf.specs.Totals.{HasTotals}
 use Rattle.rope_tree.proofs.LeafSplits.{first_near}
 use Rattle.rope_tree.proofs.node.Children.first_leaf_len.Goals as goal
 

@@ -1,6 +1,6 @@
 use Rattle.std.proofs.Common.{◌≡◌, ◌+◌, ◌-◌, ◌<◌, ◌≤◌, ◌⊎◌, inl, inr, Bool, true, false, List, [], ◌∷◌, ◌++◌, length, get_or, take, drop, refl, sym, ap, ap₂, subst, ◌∙◌, arith}
 use Rattle.std.proofs.lemmas.List.{append_assoc, length-append, length-take-le, take_all, take-append-le, take-append-drop, get_or_push}
-use Rattle.rope_tree.specs.Tree.{Tree, text}
+use Rattle.rope_leaf.specs.Tree.{Tree, text}
 use Rattle.rope_tree.proofs.LeafMerges.{HasTakenEnd, own_right, move_led, led_back, led_ahead}
 use Rattle.rope_tree.proofs.LeafSplits.{HasLeaf, IsStart, level_before, own_leaf, move_first, leaf_front, leaf_following}
 use Rattle.rope_tree.proofs.MoveLaws.{AreMovable, level_of, movable_of, movable_after, movable_left, movable_right}

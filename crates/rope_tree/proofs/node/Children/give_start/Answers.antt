@@ -1,6 +1,6 @@
 use Rattle.std.proofs.Common.{◌≡◌, ◌+◌, ◌-◌, ◌<◌, List, [], ◌∷◌, ◌++◌, length, get_or, take, sym, ap, ap₂, subst, ◌∙◌, arith}
 use Rattle.std.proofs.lemmas.List.{append_assoc, length-append, take_all, take-append-le, get_or_push}
-use Rattle.rope_tree.specs.Tree.{Tree, text}
+use Rattle.rope_leaf.specs.Tree.{Tree, text}
 use Rattle.rope_tree.proofs.LeafMerges.{HasTaken, own_left, move_grown, grown_front, grown_following}
 use Rattle.rope_tree.proofs.LeafSplits.{HasLeaf, IsEnd, flat_height, level_after, own_leaf, move_second, leaf_back, leaf_ahead}
 use Rattle.rope_tree.proofs.MoveLaws.{AreMovable, level_of, movable_of, movable_left}

@@ -2,10 +2,10 @@ use Rattle.std.proofs.Common.{◌≡◌, ◌-◌, length, take, subst, ap, ◌�
 use Rattle.std.specs.List.{All}
 use Rattle.std.proofs.lemmas.List.{take_all}
 use Rattle.rope_text.specs.Text.{byte_len}
-use Rattle.rope_tree.specs.Tree.{joined, breaks_of, IsChild}
-use Rattle.rope_tree.specs.Totals.{HasTotals}
-use Rattle.rope_tree.proofs.Descents.{front_is}
-use Rattle.rope_tree.proofs.NodeLaws.{byte_len-joined}
+use Rattle.rope_leaf.specs.Tree.{joined, breaks_of, IsChild}
+use Rattle.rope_leaf.specs.Totals.{HasTotals}
+use Rattle.rope_leaf.proofs.Descents.{front_is}
+use Rattle.rope_leaf.proofs.NodeLaws.{byte_len-joined}
 use Rattle.rope_tree.proofs.LeafSplits.{last_size}
 use Rattle.rope_tree.proofs.node.Children.last_leaf_len.Goals.{After-total_before-2}
 use Rattle.rope_tree.proofs.node.Children.last_leaf_len.Goals as goal

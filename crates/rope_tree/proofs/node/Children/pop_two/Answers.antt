@@ -1,5 +1,5 @@
 use Rattle.std.proofs.Common.{[], ◌∷◌, subst}
-use Rattle.rope_tree.specs.Tree.{tree_over}
+use Rattle.rope_leaf.specs.Tree.{tree_over}
 use Rattle.rope_tree.proofs.MoveLaws.{AreMovable, movable, movable_left}
 use Rattle.rope_tree.proofs.node.Children.pop_two.Goals.{In_ok-second}
 use Rattle.rope_tree.proofs.node.Children.pop_two.Goals as goal

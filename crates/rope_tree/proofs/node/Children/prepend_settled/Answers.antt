@@ -1,6 +1,6 @@
 use Rattle.std.proofs.Common.{◌≡◌, List, ◌++◌, sym, ap, ap₂, subst, ◌∙◌}
 use Rattle.std.proofs.lemmas.List.{append_assoc}
-use Rattle.rope_tree.specs.Tree.{Tree}
+use Rattle.rope_leaf.specs.Tree.{Tree}
 use Rattle.rope_tree.specs.Split.{nodes_over, AreSettled}
 use Rattle.rope_tree.proofs.MoveLaws.{AreMovable, movable, movable_right}
 use Rattle.rope_tree.proofs.SettledLaws.{settled, family_first, family_second}

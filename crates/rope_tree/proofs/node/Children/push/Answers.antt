@@ -2,10 +2,10 @@ use Rattle.std.proofs.Common.{◌≡◌, ◌+◌, [], ◌∷◌, ◌++◌, lengt
 use Rattle.std.proofs.lemmas.List.{length-append, get_or_append_left}
 use Rattle.std.proofs.Math.Seq.{get_or-append_seam}
 use Rattle.rope_text.specs.TextInfo.{info_of}
-use Rattle.rope_tree.specs.Tree.{joined, breaks_of}
+use Rattle.rope_leaf.specs.Tree.{joined, breaks_of}
 use Rattle.rope_tree.specs.NewList.{new_list}
-use Rattle.rope_tree.specs.Totals.{IsTotalOf}
-use Rattle.rope_tree.proofs.Infos.{info_within, sum_of_small}
+use Rattle.rope_leaf.specs.Totals.{IsTotalOf}
+use Rattle.rope_leaf.proofs.Infos.{info_within, sum_of_small}
 use Rattle.rope_tree.proofs.RowLaws.{AddsTree, adds_tree, last_counts_all}
 use Rattle.rope_tree.proofs.MoveLaws.{push_listed}
 use Rattle.rope_tree.proofs.node.Children.push.Goals.{After-info, After-plus-total}

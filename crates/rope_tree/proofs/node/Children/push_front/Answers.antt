@@ -1,7 +1,7 @@
 use Rattle.std.proofs.Common.{◌+◌, ◌∷◌, refl, ap, arith}
 use Rattle.rope_text.specs.Text.{byte_len}
-use Rattle.rope_tree.specs.Tree.{text}
-use Rattle.rope_tree.proofs.NodeLaws.{joined_one, byte_len-joined}
+use Rattle.rope_leaf.specs.Tree.{text}
+use Rattle.rope_leaf.proofs.NodeLaws.{joined_one, byte_len-joined}
 use Rattle.rope_tree.proofs.FirstLaws.{narrow_info, small_before, few_with, first_seen, first_listed}
 use Rattle.rope_tree.proofs.node.Children.push_front.Goals as goal
 

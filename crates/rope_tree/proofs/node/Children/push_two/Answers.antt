@@ -1,6 +1,6 @@
 use Rattle.std.proofs.Common.{[], ◌∷◌, ◌++◌, sym, subst}
 use Rattle.std.proofs.lemmas.List.{append_assoc}
-use Rattle.rope_tree.specs.Tree.{tree_over}
+use Rattle.rope_leaf.specs.Tree.{tree_over}
 use Rattle.rope_tree.proofs.MoveLaws.{AreMovable, movable, movable_left}
 use Rattle.rope_tree.proofs.node.Children.push_two.Goals.{After-over}
 use Rattle.rope_tree.proofs.node.Children.push_two.Goals as goal

@@ -4,22 +4,22 @@ use Rattle.rope_text.specs.Text.{byte_len}
 use Rattle.rope_text.specs.TextInfo.{info_of}
 use Rattle.rope_text.specs.declared.text_info.TextInfo.{TextInfo}
 use Rattle.rope_text.specs.declared.line_breaks.LineBreaks.{LineBreaks}
-use Rattle.rope_tree.specs.Leaves.{IsEnoughAfter, IsEnoughAhead}
-use Rattle.rope_tree.specs.Tree.{Tree, text, joined, leaves_of, height_of, breaks_of, AreChildren, AreFamily}
+use Rattle.rope_leaf.specs.Leaves.{IsEnoughAfter, IsEnoughAhead}
+use Rattle.rope_leaf.specs.Tree.{Tree, text, joined, leaves_of, height_of, breaks_of, AreChildren, AreFamily}
 use Rattle.rope_tree.specs.Listed.{listed, IsListed}
-use Rattle.rope_tree.specs.Totals.{HasTotals, AreBelow}
-use Rattle.rope_tree.specs.Change.{no_counts, IsChange}
-use Rattle.rope_tree.specs.Removal.{AreRemoved, AreShortened}
+use Rattle.rope_leaf.specs.Totals.{HasTotals, AreBelow}
+use Rattle.rope_leaf.specs.Change.{no_counts, IsChange}
+use Rattle.rope_leaf.specs.Removal.{AreRemoved, AreShortened}
 use Rattle.rope_tree.specs.declared.node.Children.TheInside.{Inside}
-use Rattle.rope_tree.proofs.ChangeLaws.{change_to}
-use Rattle.rope_tree.proofs.CountLaws.{counts_fall}
-use Rattle.rope_tree.proofs.GrownLaws.{totals_seen}
+use Rattle.rope_leaf.proofs.ChangeLaws.{change_to}
+use Rattle.rope_leaf.proofs.CountLaws.{counts_fall}
+use Rattle.rope_leaf.proofs.GrownLaws.{totals_seen}
 use Rattle.rope_tree.proofs.ListedLaws.{seen_at, set_seen, set_listed}
 use Rattle.rope_tree.proofs.LossLaws.{lost, lost_part, lost_fits, lost_totals, lost_twice, enough_after, enough_before, both_set}
-use Rattle.rope_tree.proofs.NodeLaws.{small_totals, children_of_first, more_at, joined_more, joined_parts}
-use Rattle.rope_tree.proofs.BesideLaws.{some_next}
-use Rattle.rope_tree.proofs.RemovalLaws.{Holds, byte_len-removed}
-use Rattle.rope_tree.proofs.TreeLaws.{breaks_of_is, height_of_is}
+use Rattle.rope_leaf.proofs.NodeLaws.{small_totals, children_of_first, more_at, joined_more, joined_parts}
+use Rattle.rope_leaf.proofs.BesideLaws.{some_next}
+use Rattle.rope_leaf.proofs.RemovalLaws.{Holds, byte_len-removed}
+use Rattle.rope_leaf.proofs.TreeLaws.{breaks_of_is, height_of_is}
 use Rattle.rope_tree.proofs.node.Children.remove_across.Goals.{After-index-back-0, In-Some, After-new-2, After-retotal-2}
 use Rattle.rope_tree.proofs.node.Children.remove_across.Goals as goal
 

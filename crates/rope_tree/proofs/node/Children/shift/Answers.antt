@@ -1,8 +1,8 @@
 use Rattle.std.proofs.Common.{◌≡◌, ◌+◌, ◌^◌, ◌<◌, ◌≤◌, List, [], ◌∷◌, ◌++◌, length, drop, sym, ap, ap₂, subst, ◌∙◌, arith}
 use Rattle.std.proofs.lemmas.List.{append_assoc, length-append, length-take-le, take-append-drop}
 use Rattle.rope_text.specs.Text.{byte_len}
-use Rattle.rope_tree.specs.Tree.{Tree, joined, tree_over, AreFamily}
-use Rattle.rope_tree.specs.Siblings.{AreLevel}
+use Rattle.rope_leaf.specs.Tree.{Tree, joined, tree_over, AreFamily}
+use Rattle.rope_leaf.specs.Siblings.{AreLevel}
 use Rattle.rope_tree.proofs.MoveLaws.{AreMovable, movable_left, movable_right, movable_of, movable_after}
 use Rattle.rope_tree.proofs.PaddingLaws.{wide_a, wide_x, pair_movable, family_b, family_y, moved_family, moved_same, moved_few}
 use Rattle.rope_tree.proofs.node.Children.shift.Goals.{After-take_from, In-Some, After-lend}

@@ -7,18 +7,18 @@ use Rattle.rope_text.specs.declared.text_info.TextInfo.{TextInfo}
 use Rattle.rope_text.specs.Text.{byte_len}
 use Rattle.rope_text.specs.TextInfo.{info_of, info_sum}
 use Rattle.rope_text.specs.Edit.{inserted}
-use Rattle.rope_tree.specs.Search.{IsSmall}
-use Rattle.rope_tree.specs.Tree.{Tree, text, joined, height_of, breaks_of, AreChildren}
-use Rattle.rope_tree.specs.Totals.{HasTotals}
+use Rattle.rope_leaf.specs.Search.{IsSmall}
+use Rattle.rope_leaf.specs.Tree.{Tree, text, joined, height_of, breaks_of, AreChildren}
+use Rattle.rope_leaf.specs.Totals.{HasTotals}
 use Rattle.rope_tree.specs.Listed.{listed}
-use Rattle.rope_tree.specs.Insert.{IsInserted, AreGrown}
-use Rattle.rope_tree.proofs.Infos.{small_info, small_below, sum_of_small}
-use Rattle.rope_tree.proofs.TreeLaws.{breaks_of_is}
-use Rattle.rope_tree.proofs.NodeLaws.{byte_len-joined, small_totals}
-use Rattle.rope_tree.proofs.Descents.{front_is}
-use Rattle.rope_tree.proofs.InsertDescents.{last_total}
-use Rattle.rope_tree.proofs.InsertTrees.{byte_len-inserted}
-use Rattle.rope_tree.proofs.GrownLaws.{totals_seen, children_grown, grown_by_one}
+use Rattle.rope_leaf.specs.Insert.{IsInserted, AreGrown}
+use Rattle.rope_leaf.proofs.Infos.{small_info, small_below, sum_of_small}
+use Rattle.rope_leaf.proofs.TreeLaws.{breaks_of_is}
+use Rattle.rope_leaf.proofs.NodeLaws.{byte_len-joined, small_totals}
+use Rattle.rope_leaf.proofs.Descents.{front_is}
+use Rattle.rope_leaf.proofs.InsertDescents.{last_total}
+use Rattle.rope_leaf.proofs.InsertTrees.{byte_len-inserted}
+use Rattle.rope_leaf.proofs.GrownLaws.{totals_seen, children_grown, grown_by_one}
 use Rattle.rope_tree.proofs.ListedLaws.{put_in_place, more_seen, more_listed}
 use Rattle.rope_tree.proofs.ChildLaws.{Finds, found_at, read, part, child_fits, may, small, still_narrow, fields_after, all_grown}
 use Rattle.rope_tree.proofs.CutLaws.{Cuts, own_first, own_second, small_both, cut_fits, few_bytes, first_narrow, totals_cut}

@@ -1,6 +1,6 @@
 use Rattle.std.proofs.Common.{◌≡◌, ◌+◌, ◌-◌, ◌<◌, ◌⊎◌, inl, inr, [], ◌∷◌, ◌++◌, length, get_or, take, sym, ap, subst, ◌∙◌, arith}
 use Rattle.std.proofs.lemmas.List.{append_assoc, length-append, take_all, take-append-le, get_or_push}
-use Rattle.rope_tree.specs.Tree.{text}
+use Rattle.rope_leaf.specs.Tree.{text}
 use Rattle.rope_tree.proofs.MoveLaws.{AreMovable, level_of, movable_of, movable_left}
 use Rattle.rope_tree.proofs.LeafSplits.{HasLeaf, IsStart, IsEnd, flat_height, cut_or_kept, level_before, level_after, own_leaf, move_first, move_second, leaf_front, leaf_back, leaf_following, leaf_ahead}
 use Rattle.rope_tree.proofs.node.Children.split_leaf_anew.Goals.{After-pop-leaf, After-split_leaf-found, In-Some}

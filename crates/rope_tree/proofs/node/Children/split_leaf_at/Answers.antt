@@ -1,7 +1,7 @@
 use Rattle.std.proofs.Common.{rules, ◌≡◌, ◌+◌, ◌-◌, ◌<◌, true, false, Ok, List, ◌++◌, length, get_or, take, sym, ap, ap₂, subst, ◌∙◌, arith}
 use Rattle.std.proofs.lemmas.List.{length-take-le, get_or-take, take-take}
-use Rattle.rope_tree.specs.Tree.{Tree, text, joined}
-use Rattle.rope_tree.specs.Siblings.{AreLevel}
+use Rattle.rope_leaf.specs.Tree.{Tree, text, joined}
+use Rattle.rope_leaf.specs.Siblings.{AreLevel}
 use Rattle.rope_tree.proofs.MoveLaws.{AreMovable, movable_of, movable_right, movable_after, both_parts}
 use Rattle.rope_tree.proofs.SplitLaws.{not_done}
 use Rattle.rope_tree.proofs.node.Children.split_leaf_at.Goals.{After-take_from, After-split_leaf-did, Joined-matches, in-Ok-true, in_default, in_default-2}

@@ -3,17 +3,17 @@ use Rattle.std.specs.List.{All}
 use Rattle.std.proofs.lemmas.List.{take_all, length-append, length-take, length-drop, drop-take}
 use Rattle.std.proofs.lemmas.List.Elements.{All-take, All-drop}
 use Rattle.rope_text.specs.TextInfo.{info_of}
-use Rattle.rope_tree.specs.Tree.{Tree, joined, height_of, breaks_of, IsChild}
-use Rattle.rope_tree.specs.Flat.{IsFlat}
+use Rattle.rope_leaf.specs.Tree.{Tree, joined, height_of, breaks_of, IsChild}
+use Rattle.rope_leaf.specs.Flat.{IsFlat}
 use Rattle.rope_tree.specs.NewList.{new_list, nodes_in, IsNewList}
 use Rattle.rope_tree.specs.Rows.{IsPart}
-use Rattle.rope_tree.specs.Totals.{IsTotalOf}
-use Rattle.rope_tree.proofs.Descents.{front_is}
+use Rattle.rope_leaf.specs.Totals.{IsTotalOf}
+use Rattle.rope_leaf.proofs.Descents.{front_is}
 use Rattle.rope_tree.proofs.PartLaws.{has_base, part_few, part_in, is_new_list_part}
 use Rattle.rope_tree.proofs.RowLaws.{last_counts_all}
-use Rattle.rope_tree.proofs.SiblingLaws.{siblings_right}
+use Rattle.rope_leaf.proofs.SiblingLaws.{siblings_right}
 use Rattle.rope_tree.proofs.MoveLaws.{first_height, first_breaks, kept_listed}
-use Rattle.rope_tree.proofs.TreeLaws.{height_of_is, breaks_of_is}
+use Rattle.rope_leaf.proofs.TreeLaws.{height_of_is, breaks_of_is}
 use Rattle.rope_tree.proofs.node.Children.take_from.Goals.{After-total_before-before, After-exchange}
 use Rattle.rope_tree.proofs.node.Children.take_from.Goals as goal
 

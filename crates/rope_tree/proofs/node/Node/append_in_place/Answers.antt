@@ -3,10 +3,10 @@ use Rattle.std.specs.List.{concat}
 use Rattle.std.proofs.lemmas.List.{length-append}
 use Rattle.rope_text.specs.Text.{byte_len}
 use Rattle.rope_text.specs.Dense.{IsDenseAfter, last_bytes}
-use Rattle.rope_tree.specs.Leaves.{IsSeam}
-use Rattle.rope_tree.specs.Tree.{Tree, text, joined, leaves_of, tree_over, IsTree, AreFamily}
-use Rattle.rope_tree.specs.Siblings.{AreLevel}
-use Rattle.rope_tree.proofs.TreeLaws.{is_tree_over}
+use Rattle.rope_leaf.specs.Leaves.{IsSeam}
+use Rattle.rope_leaf.specs.Tree.{Tree, text, joined, leaves_of, tree_over, IsTree, AreFamily}
+use Rattle.rope_leaf.specs.Siblings.{AreLevel}
+use Rattle.rope_leaf.proofs.TreeLaws.{is_tree_over}
 use Rattle.rope_tree.proofs.MoveLaws.{AreMovable, movable_left}
 use Rattle.rope_tree.proofs.AppendLaws.{AreAppendable, appended_movable, appended_family, appended_text, first_family, second_family, root_movable, root_family, root_leaves}
 use Rattle.rope_tree.proofs.node.Node.append_in_place.Goals.{In-Some, After-count-2, After-settle, After-over-2, After-over-3}

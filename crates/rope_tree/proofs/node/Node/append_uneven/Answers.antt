@@ -3,10 +3,10 @@ use Rattle.std.specs.List.{concat}
 use Rattle.rope_text.specs.Dense.{IsDenseAfter, last_bytes}
 use Rattle.rope_text.proofs.DenseLaws.{dense-append}
 use Rattle.rope_text.proofs.CuttingLaws.{concat-append}
-use Rattle.rope_tree.specs.Leaves.{AreLeaves, IsSeam}
-use Rattle.rope_tree.specs.Tree.{Tree, text, joined, leaves_of}
-use Rattle.rope_tree.proofs.LeafLaws.{leaves-append}
-use Rattle.rope_tree.proofs.TreeLaws.{is_tree_over}
+use Rattle.rope_leaf.specs.Leaves.{AreLeaves, IsSeam}
+use Rattle.rope_leaf.specs.Tree.{Tree, text, joined, leaves_of}
+use Rattle.rope_leaf.proofs.LeafLaws.{leaves-append}
+use Rattle.rope_leaf.proofs.TreeLaws.{is_tree_over}
 use Rattle.rope_tree.proofs.node.Node.append_uneven.Goals.{In-Some}
 use Rattle.rope_tree.proofs.node.Node.append_uneven.Goals as goal
 

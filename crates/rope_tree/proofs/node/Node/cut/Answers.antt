@@ -1,5 +1,6 @@
 use Rattle.std.proofs.Common.{subst}
-use Rattle.rope_tree.specs.Shape.{IsLeafNode, IsForm}
+use Rattle.rope_leaf.specs.LeafTree.{IsLeafNode}
+use Rattle.rope_tree.specs.Shape.{IsForm}
 use Rattle.rope_tree.proofs.FormLaws.{cut_leaf}
 use Rattle.rope_tree.proofs.node.Node.cut.Goals as goal
 
@@ -10,5 +11,6 @@ invariant_of-self-2 c =
     rw (c.in-Some.ensures.value, c.own_leaf.ensures.same) old in
     record {
       form =
-          cut_leaf c.cut.result _ _ _ own c.cut.ensures.cut c.cut.ensures.kept c.cut.ensures.err;
+          cut_leaf c.cut.result (λ back. back.value) _ _ _ own c.cut.ensures.cut
+          c.cut.ensures.kept c.cut.ensures.err;
     }

@@ -1,6 +1,6 @@
 use Rattle.std.proofs.Common.{◌≡◌, [], sym, ap, ◌∙◌, arith, refl}
 use Rattle.std.proofs.lemmas.Str.{chars-nil}
-use Rattle.rope_tree.specs.Tree.{leaf_tree}
+use Rattle.rope_leaf.specs.Tree.{leaf_tree}
 use Rattle.rope_tree.specs.Shape.{form_tree}
 use Rattle.rope_tree.proofs.node.Node.known_view.Goals as goal
 

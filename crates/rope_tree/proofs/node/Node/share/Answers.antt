@@ -1,6 +1,6 @@
 -- A reference to the node has the value of the node.
 use Rattle.std.proofs.Common.{◌≡◌, sym, ap, ◌∙◌, subst}
-use Rattle.rope_tree.specs.Tree.{IsTree, tree_over}
+use Rattle.rope_leaf.specs.Tree.{IsTree, tree_over}
 use Rattle.rope_tree.specs.Shape.{form_tree}
 use Rattle.rope_tree.proofs.FormLaws.{node_tree}
 use Rattle.rope_tree.proofs.node.Node.share.Goals.{in-Empty, in-Leaf+in_ok-clone-in-Leaf, in-Inner+in_ok-clone-in-Inner}

@@ -1,5 +1,5 @@
 use Rattle.std.proofs.Common.{◌≡◌, List, take, drop, sym, ap, subst, ◌∙◌}
-use Rattle.rope_tree.specs.Tree.{Tree, joined, breaks_of}
+use Rattle.rope_leaf.specs.Tree.{Tree, joined, breaks_of}
 use Rattle.rope_tree.specs.Split.{IsWhole}
 use Rattle.rope_tree.proofs.MoveLaws.{level_of}
 use Rattle.rope_tree.proofs.SplitLaws.{whole_breaks, whole_tree}

@@ -1,6 +1,7 @@
 use Rattle.std.proofs.Common.{◌≡◌, Some, None, Option, IfSome, IfNone, subst}
-use Rattle.rope_tree.specs.Tree.{Tree}
-use Rattle.rope_tree.specs.Shape.{IsLeafNode, IsForm}
+use Rattle.rope_leaf.specs.Tree.{Tree}
+use Rattle.rope_leaf.specs.LeafTree.{IsLeafNode}
+use Rattle.rope_tree.specs.Shape.{IsForm}
 use Rattle.rope_tree.proofs.node.Node.split_leaf.Goals.{Joined-branch-2}
 use Rattle.rope_tree.proofs.node.Node.split_leaf.Goals as goal
 

@@ -1,17 +1,17 @@
 use Rattle.std.proofs.Common.{◌≡◌, ℕ, ◌+◌, ◌-◌, ◌<◌, ◌≤◌, ◌^◌, List, ◌++◌, length, take, drop, ap, arith}
 use Rattle.rope_text.specs.Text.{byte_len}
 use Rattle.rope_text.proofs.Measures.{IsMeasure-byte_len}
-use Rattle.rope_tree.specs.declared.search.Unit.TheVariants.{Char}
+use Rattle.rope_leaf.specs.declared.search.Unit.TheVariants.{Char}
 use Rattle.rope_text.specs.Edit.{inserted}
-use Rattle.rope_tree.specs.Siblings.{AreLevel, AreOver}
-use Rattle.rope_tree.specs.Tree.{Tree, text, joined, leaves_of, height_of, breaks_of}
+use Rattle.rope_leaf.specs.Siblings.{AreLevel, AreOver}
+use Rattle.rope_leaf.specs.Tree.{Tree, text, joined, leaves_of, height_of, breaks_of}
 use Rattle.rope_tree.specs.View.{trees_in}
-use Rattle.rope_tree.specs.Insert.{MayInsert, GoesIn, IsInserted, IsReplaced}
+use Rattle.rope_leaf.specs.Insert.{MayInsert, GoesIn, IsInserted, IsReplaced}
 use Rattle.rope_tree.proofs.LastCalls.{both_ok}
-use Rattle.rope_tree.proofs.NodeLaws.{small_totals}
-use Rattle.rope_tree.proofs.Descents.{Descends, descends}
-use Rattle.rope_tree.proofs.InsertDescents.{last_total, inner_some, held_within, goes_in}
-use Rattle.rope_tree.proofs.InsertTrees.{siblings_of_first, text_around, child_may, replaced, new_siblings, new_length, new_node}
+use Rattle.rope_leaf.proofs.NodeLaws.{small_totals}
+use Rattle.rope_leaf.proofs.Descents.{Descends, descends}
+use Rattle.rope_leaf.proofs.InsertDescents.{last_total, inner_some, held_within, goes_in}
+use Rattle.rope_leaf.proofs.InsertTrees.{siblings_of_first, text_around, child_may, replaced, new_siblings, new_length, new_node}
 use Rattle.rope_tree.proofs.node.anew.+insert.Goals.{After-index-children-place, else-len-gt-MAX_SHORT_BYTES-via-then-len-gt-MAX_SHORT_BYTES+else-height-eq0, else-len-gt-MAX_SHORT_BYTES-via-else-len-gt-MAX_SHORT_BYTES}
 use Rattle.rope_tree.proofs.node.anew.+insert.Goals as goal
 

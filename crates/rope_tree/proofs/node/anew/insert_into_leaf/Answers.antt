@@ -3,11 +3,11 @@ use Rattle.std.specs.Str.{chars}
 use Rattle.rope_text.specs.Edit.{inserted}
 use Rattle.rope_text.specs.TextInfo.{info_of}
 use Rattle.rope_text.proofs.InfoLaws.{part_of_sum}
-use Rattle.rope_tree.specs.Tree.{leaf_tree}
-use Rattle.rope_tree.specs.Insert.{IsInserted}
-use Rattle.rope_tree.proofs.HalfLaws.{half_some, half_least, half_counts}
-use Rattle.rope_tree.proofs.InsertTrees.{length-inserted, byte_len-inserted}
-use Rattle.rope_tree.proofs.InsertLeaves.{one_inserted, two_inserted}
+use Rattle.rope_leaf.specs.Tree.{leaf_tree}
+use Rattle.rope_leaf.specs.Insert.{IsInserted}
+use Rattle.rope_leaf.proofs.HalfLaws.{half_some, half_least, half_counts}
+use Rattle.rope_leaf.proofs.InsertTrees.{length-inserted, byte_len-inserted}
+use Rattle.rope_leaf.proofs.InsertLeaves.{one_inserted, two_inserted}
 use Rattle.rope_tree.proofs.node.anew.insert_into_leaf.Goals.{After-as_str-text}
 use Rattle.rope_tree.proofs.node.anew.insert_into_leaf.Goals as goal
 

@@ -2,9 +2,9 @@ use Rattle.std.proofs.Common.{◌≡◌, ◌++◌, take, drop, ap, ap₂, sym, �
 use Rattle.std.proofs.lemmas.Str.{chars-append}
 use Rattle.std.specs.Str.{chars}
 use Rattle.rope_text.specs.Edit.{inserted}
-use Rattle.rope_tree.specs.Tree.{text}
-use Rattle.rope_tree.proofs.InsertLeaves.{text_of_leaf}
-use Rattle.rope_tree.proofs.InsertTrees.{inserted_is}
+use Rattle.rope_leaf.specs.Tree.{text}
+use Rattle.rope_leaf.proofs.InsertLeaves.{text_of_leaf}
+use Rattle.rope_leaf.proofs.InsertTrees.{inserted_is}
 use Rattle.rope_tree.proofs.LastCalls.{both_ok}
 use Rattle.rope_tree.proofs.PieceLaws.{pieces_stand}
 use Rattle.rope_tree.proofs.node.pieces.fill_with.Goals.{After-as_str-2}

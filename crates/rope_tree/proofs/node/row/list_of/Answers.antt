@@ -1,7 +1,7 @@
 use Rattle.std.proofs.Common.{rules, ◌++◌, ◌≡◌, ◌+◌, ◌≤◌, true, List, [], ◌∷◌, length, get_or, take, Result, Ok, Err, is_ok, OnOk, refl, sym, ap, ◌∙◌, arith}
 use Rattle.std.proofs.lemmas.List.{append-nil, append_assoc, length-append}
 use Rattle.rope_text.specs.declared.text_info.TextInfo.{TextInfo}
-use Rattle.rope_tree.specs.Tree.{Tree, height_of, breaks_of}
+use Rattle.rope_leaf.specs.Tree.{Tree, height_of, breaks_of}
 use Rattle.rope_tree.specs.NewList.{new_list, nodes_in}
 use Rattle.rope_tree.proofs.RowLaws.{part_siblings, siblings_of}
 use Rattle.rope_tree.proofs.node.row.list_of.Goals.{Then-is_ok, Then-is_ok-2, Then-is_ok-3}

@@ -1,7 +1,7 @@
 use Rattle.std.proofs.Common.{◌≡◌, ◌+◌, ◌/◌, ◌<◌, List, ◌++◌, length, take, drop, refl, ap, ◌∙◌, arith}
 use Rattle.std.proofs.lemmas.List.{length-append}
-use Rattle.rope_tree.specs.Tree.{Tree, tree_over}
-use Rattle.rope_tree.proofs.SiblingLaws.{one_part, first_half, second_half, two_parts, two_leaves}
+use Rattle.rope_leaf.specs.Tree.{Tree, tree_over}
+use Rattle.rope_leaf.proofs.SiblingLaws.{one_part, first_half, second_half, two_parts, two_leaves}
 use Rattle.rope_tree.proofs.RowLaws.{front_row, back_row, children_seen}
 use Rattle.rope_tree.proofs.node.row.pack_over.Goals.{After-first-3, After-rest-3}
 use Rattle.rope_tree.proofs.node.row.pack_over.Goals as goal

@@ -1,13 +1,13 @@
 use Rattle.std.proofs.Common.{◌≡◌, ◌+◌, ◌<◌, ◌++◌, ◌∙◌, [], ◌∷◌, length, get_or, take, add-one, sym, ap, refl, arith}
 use Rattle.std.proofs.lemmas.List.{append-nil, append_assoc, length-append, length-take-le}
 use Rattle.std.proofs.Math.Seq.{take-suc}
-use Rattle.rope_tree.specs.Tree.{breaks_of, height_of}
-use Rattle.rope_tree.specs.Siblings.{AreSiblings}
+use Rattle.rope_leaf.specs.Tree.{breaks_of, height_of}
+use Rattle.rope_leaf.specs.Siblings.{AreSiblings}
 use Rattle.rope_tree.specs.NewList.{NewList, new_list, nodes_in}
-use Rattle.rope_tree.proofs.NodeLaws.{same_at}
+use Rattle.rope_leaf.proofs.NodeLaws.{same_at}
 use Rattle.rope_tree.proofs.RowLaws.{last_counts_all, AddsTree, adds_tree, total_more, more_in, is_new_list_more, next_siblings}
 use Rattle.rope_tree.proofs.node.row.push_all.Goals.{After-info}
-use Rattle.rope_tree.proofs.Infos.{small_sum}
+use Rattle.rope_leaf.proofs.Infos.{small_sum}
 use Rattle.rope_tree.proofs.node.row.push_all.Goals as goal
 
 -- the list so far

@@ -1,5 +1,5 @@
 use Rattle.std.proofs.Common.{◌≡◌, ◌++◌, take}
-use Rattle.rope_tree.specs.Totals.{IsTotalOf}
+use Rattle.rope_leaf.specs.Totals.{IsTotalOf}
 use Rattle.rope_tree.specs.NewList.{new_list, nodes_in, IsNewList}
 use Rattle.rope_tree.proofs.node.row.push_all.Given as goal
 

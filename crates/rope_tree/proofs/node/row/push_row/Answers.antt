@@ -3,13 +3,13 @@ use Rattle.std.proofs.lemmas.List.{take_all, drop-drop}
 use borrow.Rule.Slice.PartMut.{put_mid}
 use Rattle.std.proofs.lemmas.Grind.{common_steps}
 use Rattle.rope_text.specs.TextInfo.{info_of}
-use Rattle.rope_tree.specs.Tree.{Tree, joined, breaks_of}
+use Rattle.rope_leaf.specs.Tree.{Tree, joined, breaks_of}
 use Rattle.rope_tree.specs.NewList.{new_list, nodes_in}
 use Rattle.rope_tree.specs.Rows.{IsPart}
-use Rattle.rope_tree.specs.Totals.{IsTotalOf}
-use Rattle.rope_tree.proofs.NodeLaws.{small_totals}
-use Rattle.rope_tree.proofs.SiblingLaws.{byte_len-append}
-use Rattle.rope_tree.proofs.Descents.{front_is}
+use Rattle.rope_leaf.specs.Totals.{IsTotalOf}
+use Rattle.rope_leaf.proofs.NodeLaws.{small_totals}
+use Rattle.rope_leaf.proofs.SiblingLaws.{byte_len-append}
+use Rattle.rope_leaf.proofs.Descents.{front_is}
 use Rattle.rope_tree.proofs.PartLaws.{small_before, small_part, has_base, part_fits, part_in, is_new_list_part}
 use Rattle.rope_tree.proofs.RowLaws.{last_counts_all}
 use Rattle.rope_tree.proofs.node.row.push_row.Goals.{After-total_before-before}

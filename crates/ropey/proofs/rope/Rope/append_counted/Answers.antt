@@ -2,7 +2,7 @@
 use Rattle.std.proofs.Common.{rules, ◌≡◌, ℕ, ◌<◌, List, ◌++◌, length, sym, ap, ap₂, subst, ◌∙◌, arith}
 use Rattle.std.proofs.lemmas.List.{append-nil, nil_from_length}
 use Rattle.rope_text.specs.Text.{byte_len}
-use Rattle.rope_tree.specs.Tree.{text, IsTree}
+use Rattle.rope_leaf.specs.Tree.{text, IsTree}
 use Rattle.ropey.specs.View.{RopeView}
 use Rattle.rope_tree.proofs.FormLaws.{no_text}
 use Rattle.ropey.proofs.Ropes.{rope_of}

@@ -1,5 +1,5 @@
 -- A tree is at most 18 high.
-use Rattle.rope_tree.proofs.TreeLaws.{low_tree}
+use Rattle.rope_leaf.proofs.TreeLaws.{low_tree}
 use Rattle.ropey.proofs.rope.Rope.begin.Goals as goal
 
 pub returns-clause-low : goal.returns-clause-low

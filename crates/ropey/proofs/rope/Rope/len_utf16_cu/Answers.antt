@@ -1,7 +1,7 @@
 -- A text has no more pairs than characters, and no more characters than bytes.
 use Rattle.std.proofs.Common.{arith, ap}
-use Rattle.rope_tree.specs.Tree.{text}
-use Rattle.rope_tree.proofs.Infos.{small_info}
+use Rattle.rope_leaf.specs.Tree.{text}
+use Rattle.rope_leaf.proofs.Infos.{small_info}
 use Rattle.ropey.proofs.rope.Rope.len_utf16_cu.Goals as goal
 
 pub overflow_add-result : goal.overflow_add-result

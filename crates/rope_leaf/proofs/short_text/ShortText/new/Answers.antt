@@ -1,0 +1,15 @@
+-- A borrowed text as a list of characters.
+use Rattle.std.proofs.Common.{arith}
+use Rattle.std.proofs.lemmas.Str.{is_utf8-from_IsUtf8}
+use Rattle.rope_text.proofs.Walks.{byte_len-chars}
+use Rattle.rope_leaf.proofs.short_text.ShortText.new.Goals as goal
+
+pub invariant_of-result : goal.invariant_of-result
+invariant_of-result c = record {
+  utf8 = is_utf8-from_IsUtf8 _ c.utf8.text;
+  fits = c.requires;
+  counted = λ few. absurd (omega (arith, c.requires));
+}
+
+pub returns-clause-len : goal.returns-clause-len
+returns-clause-len c = byte_len-chars c.args.text.now c.utf8.text

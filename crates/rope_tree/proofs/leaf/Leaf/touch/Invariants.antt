@@ -1,5 +1,0 @@
-use Rattle.std.proofs.Common.{◌-◌}
-use Rattle.rope_tree.proofs.leaf.Leaf.touch.Given as goal
-
-abbrev pub decreases-loop-at : goal.decreases-loop-at
-decreases-loop-at l = l.len - l.at

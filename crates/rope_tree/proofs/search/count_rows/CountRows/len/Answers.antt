@@ -1,5 +1,0 @@
-use Rattle.rope_tree.proofs.CountsKept.{many}
-use Rattle.rope_tree.proofs.search.count_rows.CountRows.len.Goals as goal
-
-pub returns : goal.returns
-returns c = many c.self.inside c.args.self.now c.self.view_is
