@@ -40,16 +40,23 @@ returns-in_err-read_texts-clause-answer g c =
     let start = ap g.S.Source.remaining c.clear.ensures
     ∙ g.met.S.Source.cleared_remaining c.args.source.now in
     let a = c.in_err-read_texts.ensures.answer in
-    rw (← start) (a.0, a.1, same_answers {R = Unit}
-    (λ _. c.read_texts.new.builder.text) _ a.0 _ _ c.in_err-read_texts.field-0.0
-    c.from_residual.result c.from_residual.ensures.1 a.2)
+    rw (← start) (
+      a.0,
+      a.1,
+      same_answers {R = Unit}
+          (λ _. c.read_texts.new.builder.text) _ a.0 _ _ c.in_err-read_texts.field-0.0
+          c.from_residual.result c.from_residual.ensures.1 a.2,
+    )
 
 pub returns-in_err-read_texts-clause-failure : goal.returns-in_err-read_texts-clause-failure
 returns-in_err-read_texts-clause-failure g c =
     let count = ap g.S.Mark.failures c.clear.ensures
     ∙ g.met.S.Mark.cleared_failures c.args.source.now in
-    rw (← count, ← same_failure Unit c.in_err-read_texts.field-0.0 c.from_residual.result
-    c.from_residual.ensures.1) c.in_err-read_texts.ensures.failure
+    rw (
+      ← count,
+      ← same_failure Unit c.in_err-read_texts.field-0.0 c.from_residual.result
+          c.from_residual.ensures.1,
+    ) c.in_err-read_texts.ensures.failure
 
 -- out of memory for the tree
 pub returns-in_err-finish-clause-answer : goal.returns-in_err-finish-clause-answer
@@ -57,16 +64,23 @@ returns-in_err-finish-clause-answer g c =
     let start = ap g.S.Source.remaining c.clear.ensures
     ∙ g.met.S.Source.cleared_remaining c.args.source.now in
     let a = c.in_ok-read_texts.ensures.answer in
-    rw (← start) (a.0, a.1, refusal_answers _ a.0 _ _ c.from_residual-in_err-finish.result
-    OutOfMemory c.from_residual-in_err-finish.ensures.1 (
-      no_memory a.0 (omega (arith, ap length a.2.0, c.in_ok-read_texts.ensures.fits)),
-      omega (arith, ap length a.2.0, c.in_ok-read_texts.ensures.fits),
-      a.2.3,
-    ))
+    rw (← start) (
+      a.0,
+      a.1,
+      refusal_answers _ a.0 _ _ c.from_residual-in_err-finish.result
+          OutOfMemory c.from_residual-in_err-finish.ensures.1 (
+            no_memory a.0 (omega (arith, ap length a.2.0, c.in_ok-read_texts.ensures.fits)),
+            omega (arith, ap length a.2.0, c.in_ok-read_texts.ensures.fits),
+            a.2.3,
+          ),
+    )
 
 pub returns-in_err-finish-clause-failure : goal.returns-in_err-finish-clause-failure
 returns-in_err-finish-clause-failure g c =
     let count = ap g.S.Mark.failures c.clear.ensures
     ∙ g.met.S.Mark.cleared_failures c.args.source.now in
-    rw (← count, ← same_failure Unit (Rope OutOfMemory) c.from_residual-in_err-finish.result
-    c.from_residual-in_err-finish.ensures.1) c.in_ok-read_texts.ensures.failure
+    rw (
+      ← count,
+      ← same_failure Unit (Rope OutOfMemory) c.from_residual-in_err-finish.result
+          c.from_residual-in_err-finish.ensures.1,
+    ) c.in_ok-read_texts.ensures.failure
