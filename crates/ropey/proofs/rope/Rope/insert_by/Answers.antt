@@ -8,7 +8,7 @@ use Rattle.rope_text.specs.Edit.{inserted, insert_error, IsRefusal}
 use Rattle.ropey.specs.View.{RopeView}
 use Rattle.rope_text.proofs.Apart.{has_chars}
 use Rattle.rope_text.proofs.Walks.{byte_len-chars}
-use Rattle.rope_tree.proofs.BuildLaws.{no_chars}
+use Rattle.rope_leaf.proofs.LeafTexts.{no_chars}
 use Rattle.ropey.proofs.Refusals.{insert_error-none, insert_error-long, inserted_none}
 use Rattle.ropey.proofs.Ropes.{rope_of}
 use Rattle.ropey.proofs.TextsGiven.{passed_on}
