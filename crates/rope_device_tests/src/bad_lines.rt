@@ -6,8 +6,7 @@ use std::alloc::Global;
 
 /// Fails unless nothing is written for a line alone, and it is reported as bad.
 fn expect_refused(alloc: Global, line: &[u8]) -> Result<(), Failure> {
-    let mut input = Vec::from_slice(alloc, line)?;
-    input.push(b'\n')?;
+    let input = [line, b"\n".as_slice()].concat(alloc)?;
     expect_served(alloc, &input, 4096, Ended::BadLine(1), "")
 }
 

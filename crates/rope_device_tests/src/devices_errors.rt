@@ -1,7 +1,8 @@
 //! The errors of devices, which are passed on with their message and their number, and the number
 //! of calls of a device.
-use rope_plain::failure::{Failure, within};
+use rope_plain::failure::{Failure, expect_same, within};
 use rope_plain::sums::plus;
+use rope_plain::texts::expect_shown;
 use rope_plain::{holds, same};
 use ropey::Rope;
 use ropey::io::{Mark, ReadError, Sink, Source, Watched};
@@ -94,18 +95,14 @@ fn known_errors() -> [Known; 4] {
 
 /// Fails unless an error is the known one.
 fn expect_error(alloc: Global, found: io::Error, known: &Known) -> Result<(), Failure> {
-    let text = format!(in alloc; "{found}")?;
-    same!(text.as_str(), known.text);
+    expect_shown(format!(in alloc; "{found}"), known.text)?;
     same!(found.raw_os_error(), known.code);
-    same!(found.kind(), known.error.kind());
-    Ok(())
+    expect_same("found.kind()", &found.kind(), &known.error.kind())
 }
 
 /// Fails unless a call moved one byte.
 fn expect_moved(answer: io::Result<usize>) -> Result<(), Failure> {
-    let count = answer?;
-    same!(count, 1);
-    Ok(())
+    expect_same("the number of bytes moved", &answer?, &1)
 }
 
 /// Fails unless a call failed with the known error.
@@ -173,8 +170,7 @@ fn expect_reading(alloc: Global, good: usize, known: &Known) -> Result<(), Failu
     let calls = Cell::new(0usize);
     let mut source = Watched::new(Broken::new(good, known.error, &calls));
     expect_read_error(alloc, Rope::from_watched(alloc, &mut source), known)?;
-    same!(calls.get(), plus(good, 1));
-    Ok(())
+    expect_same("calls.get()", &calls.get(), &plus(good, 1))
 }
 
 /// Fails unless a write of five bytes returns the writer's error, and doesn't call the writer
@@ -187,8 +183,7 @@ fn expect_writing(alloc: Global, rope: &Rope, good: usize, known: &Known) -> Res
     let calls = Cell::new(0usize);
     let mut sink = Watched::new(Broken::new(good, known.error, &calls));
     expect_refused(alloc, rope.write_watched(&mut sink), known)?;
-    same!(calls.get(), plus(good, 1));
-    Ok(())
+    expect_same("calls.get()", &calls.get(), &plus(good, 1))
 }
 
 /// Fails unless the error is passed on by a watched device, a read and a write.

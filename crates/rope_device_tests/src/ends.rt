@@ -1,6 +1,5 @@
 //! The outcomes of runs, as their program reports them.
-use rope_plain::failure::{Failure, within};
-use rope_plain::same;
+use rope_plain::failure::{Failure, expect_same, within};
 use rope_plain::texts::expect_shown;
 use rope_protocol::Ended;
 use std::alloc::Global;
@@ -18,16 +17,15 @@ const TOLD: [(Ended, u8, &str); 6] = [
 /// Fails unless an outcome has this status, and this text.
 fn expect_told(alloc: Global, ended: Ended, status: u8, wanted: &str) -> Result<(), Failure> {
     expect_shown(format!(in alloc; "{ended}"), wanted)?;
-    same!(ended.status(), status);
-    Ok(())
+    expect_same("ended.status()", &ended.status(), &status)
 }
 
 #[test]
 fn each_end_has_a_status_and_a_text(rt: HostRuntime) -> Result<(), Failure> {
-    for (ended, status, text) in TOLD {
+    for (ended, status, text) in &TOLD {
         within(
             format_args!("{ended:?}"),
-            expect_told(rt.alloc(), ended, status, text),
+            expect_told(rt.alloc(), *ended, *status, text),
         )?;
     }
     Ok(())

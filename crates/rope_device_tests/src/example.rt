@@ -4,7 +4,7 @@ ghost use Rattle.rope_text.specs.declared.line_breaks.LineBreaks.TheVariants.{Un
 ghost use Rattle.rope_text.specs.Edit.{char_range_error};
 ghost use Rattle.rope_text.specs.Lines.{line_count};
 
-use rope_plain::failure::Failure;
+use rope_plain::failure::{Failure, expect_same};
 use rope_plain::same;
 use ropey::Rope;
 use std::alloc::Global;
@@ -14,8 +14,8 @@ fn expect_lines(rope: &Rope) -> Result<(), Failure>
     requires { 2 < line_count rope.now.breaks rope.now.text }
 {
     same!(rope.line(1).as_str(), Some("two\n"));
-    same!([rope.line_to_char(1), rope.line_to_char(2)], [4, 8]);
-    Ok(())
+    let starts = [rope.line_to_char(1), rope.line_to_char(2)];
+    expect_same("the starts of lines", &starts, &[4, 8])
 }
 
 /// Replaces line 1 of the text that was read.
@@ -32,16 +32,16 @@ fn replace_line(rope: &mut Rope) -> ropey::Result<()>
 fn expect_first_lines(rope: &Rope) -> Result<(), Failure>
     requires { char_range_error (Some 0) (Some 12) (length rope.now.text) ≡ None }
 {
-    same!(rope.slice(0..12).as_str(), Some("one\nflowers\n"));
-    Ok(())
+    let found = rope.slice(0..12).as_str();
+    expect_same("the first lines", &found, &Some("one\nflowers\n"))
 }
 
 /// Fails unless the text after the edits is written.
 fn expect_written(alloc: Global, rope: &Rope) -> Result<(), Failure> {
     let mut written = Vec::new(alloc);
     rope.write_to(&mut written)?;
-    same!(written.as_slice(), b"one\nflowers\nthree\n".as_slice());
-    Ok(())
+    let text = b"one\nflowers\nthree\n".as_slice();
+    expect_same("written", &written.as_slice(), &text)
 }
 
 /// Fails unless the text that was read has its lines, is edited, and is written.

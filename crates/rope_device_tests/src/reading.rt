@@ -1,9 +1,10 @@
 //! Bytes in several reads, bytes that are not UTF-8, and readers that fail.
 use crate::devices::{Endless, NEVER, Parts, SINGLY};
+use crate::rows::at;
 use crate::stumbles::read_kind;
 use rope_plain::compare::expect_few_chunks;
-use rope_plain::failure::{Failure, within};
-use rope_plain::texts::repeated;
+use rope_plain::failure::{Failure, expect_same};
+use rope_plain::texts::{expect_shown, repeated};
 use rope_plain::{holds, same, some};
 use ropey::io::{Mark, ReadError, Watched};
 use ropey::{Error, LineBreaks, Rope};
@@ -14,8 +15,7 @@ use std::io::{self, ErrorKind};
 fn expect_bytes(alloc: Global, rope: &Rope, bytes: &[u8]) -> Result<(), Failure> {
     let mut written = Vec::new(alloc);
     rope.write_to(&mut written)?;
-    same!(written.as_slice(), bytes);
-    Ok(())
+    expect_same("written", &written.as_slice(), &bytes)
 }
 
 /// Fails unless a read returns this text.
@@ -65,10 +65,8 @@ fn one_byte_a_read_makes_the_same_rope(rt: HostRuntime) -> Result<(), Failure> {
 #[test]
 fn a_text_is_read_however_it_is_cut(rt: HostRuntime) -> Result<(), Failure> {
     for ends in 0..2048u64 {
-        within(
-            format_args!("ends {ends}"),
-            expect_read(rt.alloc(), TEXT.as_bytes(), ends, TEXT),
-        )?;
+        let outcome = expect_read(rt.alloc(), TEXT.as_bytes(), ends, TEXT);
+        at("ends", ends as usize, outcome)?;
     }
     Ok(())
 }
@@ -87,7 +85,7 @@ fn expect_cut_off(alloc: Global, len: usize) -> Result<(), Failure> {
 #[test]
 fn a_text_cut_off_within_a_character_is_no_utf8(rt: HostRuntime) -> Result<(), Failure> {
     for len in 0..13usize {
-        within(format_args!("len {len}"), expect_cut_off(rt.alloc(), len))?;
+        at("len", len, expect_cut_off(rt.alloc(), len))?;
     }
     Ok(())
 }
@@ -111,8 +109,7 @@ fn expect_refused_after(alloc: Global, before: usize, read: usize) -> Result<(),
     let is_marked = source.failed();
     let device = source.into_inner();
     holds!(!is_marked);
-    same!(device.given, read);
-    Ok(())
+    expect_same("device.given", &device.given, &read)
 }
 
 /// Fails unless a failure among the bytes still to read is returned.
@@ -167,8 +164,8 @@ fn expect_copied_in_parts(alloc: Global, bytes: &[u8], ends: u64) -> Result<(), 
 /// Fails unless a rope of the long text was read.
 fn expect_long(answer: Result<Rope, ReadError>) -> Result<(), Failure> {
     let rope = answer?;
-    same!([rope.len_bytes(), rope.len_lines()], [11_000, 1_001]);
-    Ok(())
+    let lens = [rope.len_bytes(), rope.len_lines()];
+    expect_same("bytes and lines", &lens, &[11_000, 1_001])
 }
 
 fn expect_all_copied(alloc: Global, bytes: &[u8]) -> Result<(), Failure> {
@@ -186,9 +183,8 @@ fn long_texts_are_read_in_few_chunks(rt: HostRuntime) -> Result<(), Failure> {
 /// Fails unless a rope of two lines was read, with LF alone as line breaks.
 fn expect_lf_lines(answer: Result<Rope, ReadError>) -> Result<(), Failure> {
     let rope = answer?;
-    same!(rope.len_lines(), 2);
-    same!(rope.line_breaks(), LineBreaks::Lf);
-    Ok(())
+    let found = (rope.len_lines(), rope.line_breaks());
+    expect_same("lines and their breaks", &found, &(2, LineBreaks::Lf))
 }
 
 fn expect_read_by_lf(alloc: Global) -> Result<(), Failure> {
@@ -205,25 +201,21 @@ fn a_rope_is_read_by_its_set(rt: HostRuntime) -> Result<(), Failure> {
 }
 
 /// Fails unless an error is displayed as this text.
-fn expect_shown(alloc: Global, error: ReadError, text: &str) -> Result<(), Failure> {
-    let shown = format!(in alloc; "{error}")?;
-    same!(shown.as_str(), text);
-    Ok(())
+fn expect_displayed(alloc: Global, error: ReadError, text: &str) -> Result<(), Failure> {
+    expect_shown(format!(in alloc; "{error}"), text)
 }
 
-/// Fails unless it is displayed and printed for debugging as this text.
+/// Fails unless an error is displayed and printed for debugging as this text.
 fn expect_shown_twice(alloc: Global, error: ReadError, text: &str) -> Result<(), Failure> {
-    let shown = format!(in alloc; "{error} {error:?}")?;
-    same!(shown.as_str(), text);
-    Ok(())
+    expect_shown(format!(in alloc; "{error} {error:?}"), text)
 }
 
 #[test]
 fn errors_of_reading_are_shown(rt: HostRuntime) -> Result<(), Failure> {
     let failed = ReadError::Read(io::Error::from(ErrorKind::Other));
-    expect_shown(rt.alloc(), failed, "Read failed")?;
+    expect_displayed(rt.alloc(), failed, "Read failed")?;
     let text = "stream did not contain valid UTF-8";
-    expect_shown(rt.alloc(), ReadError::InvalidData, text)?;
+    expect_displayed(rt.alloc(), ReadError::InvalidData, text)?;
     let text =
         "Text would be longer than isize::MAX bytes Text would be longer than isize::MAX bytes";
     expect_shown_twice(rt.alloc(), ReadError::from(Error::TooLong), text)

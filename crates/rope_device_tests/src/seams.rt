@@ -1,10 +1,10 @@
 //! Texts with long characters and breaks at the cut of a leaf, read and written one byte at a time.
 use crate::devices::{NEVER, Narrow, Parts, SINGLY};
+use crate::rows::at;
 use rope_plain::compare::{expect_few_chunks, expect_plain_unicode};
-use rope_plain::failure::{Failure, within};
+use rope_plain::failure::{Failure, expect_same};
 use rope_plain::sums::plus;
 use rope_plain::texts::{chars_of, repeated};
-use rope_plain::{holds, same};
 use ropey::Rope;
 use ropey::io::ReadError;
 use std::alloc::{AllocError, Global};
@@ -19,7 +19,7 @@ fn text_between(
     letter: &str,
     back: &str,
 ) -> Result<String, AllocError> {
-    format!(in alloc; "{front}{letter}{letter}{back}")
+    [front, letter, letter, back].concat(alloc)
 }
 
 /// Returns a number of letters before a letter twice, and letters that fill a leaf.
@@ -36,31 +36,33 @@ fn expect_text_in_few_chunks(alloc: Global, rope: &Rope, text: &str) -> Result<(
     expect_few_chunks(rope)
 }
 
-/// Fails unless a read of the first bytes ends as it must.
+/// Returns the number of bytes of the text that a read returned, or none for `InvalidData`.
+fn len_read(answer: Result<Rope, ReadError>) -> Result<Option<usize>, ReadError> {
+    match answer {
+        Ok(rope) => Ok(Some(rope.len_bytes())),
+        Err(ReadError::InvalidData) => Ok(None),
+        Err(error) => Err(error),
+    }
+}
+
+/// Fails unless a read of the first bytes returns them if they are complete characters, and is
+/// `InvalidData` elsewhere.
 fn expect_front_read(alloc: Global, text: &str, len: usize) -> Result<(), Failure> {
     let (front, _) = text.as_bytes().split_at(len.min(text.len()));
-    match Rope::from_reader(alloc, Parts::new(front, SINGLY, NEVER)) {
-        Ok(rope) => {
-            holds!(text.is_char_boundary(len));
-            same!(rope.len_bytes(), len);
-            Ok(())
-        }
-        Err(ReadError::InvalidData) => {
-            holds!(!text.is_char_boundary(len));
-            Ok(())
-        }
-        Err(error) => Err(error.into()),
-    }
+    let found = len_read(Rope::from_reader(alloc, Parts::new(front, SINGLY, NEVER)))?;
+    let wanted = if text.is_char_boundary(len) {
+        Some(len)
+    } else {
+        None
+    };
+    expect_same("the number of bytes read", &found, &wanted)
 }
 
 /// Fails unless reads end correctly after each of the bytes from one on.
 fn expect_ends(alloc: Global, text: &str, before: usize) -> Result<(), Failure> {
     for more in 0..10usize {
         let len = plus(before, more);
-        within(
-            format_args!("byte {len}"),
-            expect_front_read(alloc, text, len),
-        )?;
+        at("byte", len, expect_front_read(alloc, text, len))?;
     }
     Ok(())
 }
@@ -69,39 +71,29 @@ fn expect_ends(alloc: Global, text: &str, before: usize) -> Result<(), Failure> 
 fn expect_written(rt: &HostRuntime, rope: &Rope, text: &str) -> Result<(), Failure> {
     let mut writer = Narrow::new(rt, 1, text.len());
     rope.write_to(&mut writer)?;
-    same!(writer.kept.as_slice(), text.as_bytes());
-    Ok(())
+    expect_same("writer.kept", &writer.kept.as_slice(), &text.as_bytes())
 }
 
-/// Fails unless a text read one byte a read is complete, and its fronts are read and it is written.
-fn expect_read_and_written(
-    rt: &HostRuntime,
-    answer: Result<Rope, ReadError>,
-    text: &str,
-    before: usize,
-) -> Result<(), Failure> {
-    let rope = answer?;
+/// Fails unless a text read one byte a read is complete, and is written.
+fn expect_read_and_written(rt: &HostRuntime, text: &str) -> Result<(), Failure> {
+    let parts = Parts::new(text.as_bytes(), SINGLY, NEVER);
+    let rope = Rope::from_reader(rt.alloc(), parts)?;
     expect_text_in_few_chunks(rt.alloc(), &rope, text)?;
-    expect_ends(rt.alloc(), text, before)?;
     expect_written(rt, &rope, text)
 }
 
 /// Fails unless a text with a letter after `before` others is read and written correctly.
 fn expect_copied(rt: &HostRuntime, before: usize, letter: &str) -> Result<(), Failure> {
     let text = text_around(rt.alloc(), before, letter)?;
-    let parts = Parts::new(text.as_str().as_bytes(), SINGLY, NEVER);
-    let answer = Rope::from_reader(rt.alloc(), parts);
-    expect_read_and_written(rt, answer, text.as_str(), before)
+    expect_ends(rt.alloc(), text.as_str(), before)?;
+    expect_read_and_written(rt, text.as_str())
 }
 
 /// Fails unless such texts are read and written correctly for each position of the letter near the
 /// end of a leaf.
 fn expect_copied_near_a_seam(rt: &HostRuntime, letter: &str) -> Result<(), Failure> {
     for before in 976..=986usize {
-        within(
-            format_args!("before {before}"),
-            expect_copied(rt, before, letter),
-        )?;
+        at("before", before, expect_copied(rt, before, letter))?;
     }
     Ok(())
 }
@@ -109,10 +101,7 @@ fn expect_copied_near_a_seam(rt: &HostRuntime, letter: &str) -> Result<(), Failu
 #[test]
 fn texts_cut_at_a_seam_are_read_and_written_by_one_byte(rt: HostRuntime) -> Result<(), Failure> {
     for (row, letter) in LETTERS.iter().enumerate() {
-        within(
-            format_args!("row {row}"),
-            expect_copied_near_a_seam(&rt, letter),
-        )?;
+        at("row", row, expect_copied_near_a_seam(&rt, letter))?;
     }
     Ok(())
 }

@@ -1,7 +1,8 @@
 //! Lines that come in several reads, devices that fail, and outcomes of runs.
+use crate::rows::at;
 use crate::served::expect_served;
 use crate::talks::{Asking, Halting, Narrow, Stumbling, Telling};
-use rope_plain::failure::{Failure, within};
+use rope_plain::failure::{Failure, expect_same};
 use rope_plain::same;
 use rope_plain::sums::plus;
 use rope_plain::texts::repeated;
@@ -78,38 +79,30 @@ fn expect_row(alloc: Global, row: &(&[u8], Ended, &str)) -> Result<(), Failure> 
 #[test]
 fn a_run_ends_as_its_input_does(rt: HostRuntime) -> Result<(), Failure> {
     for (number, row) in ENDS.iter().enumerate() {
-        within(format_args!("row {number}"), expect_row(rt.alloc(), row))?;
+        at("row", number, expect_row(rt.alloc(), row))?;
     }
     Ok(())
 }
 
-/// Returns good lines, and then a bad one.
-fn bad_after(alloc: Global, count: usize) -> Result<String, AllocError> {
-    let good = repeated(alloc, "len 0\n", count)?;
-    format!(in alloc; "{}frob\nlen 0\n", good.as_str())
+/// Fails unless a bad line after good ones is reported by its number, from 1.
+fn expect_bad(alloc: Global, number: u64, good: &str, replies: &str) -> Result<(), Failure> {
+    let input = [good, "frob\nlen 0\n"].concat(alloc)?;
+    let bytes = input.as_str().as_bytes();
+    expect_served(alloc, bytes, 4096, Ended::BadLine(number), replies)
 }
 
-/// Fails unless a bad line after `count` good ones is reported by its number, from 1.
+/// Fails unless a bad line after `count` good ones is reported by its number.
 fn expect_bad_after(alloc: Global, count: u16) -> Result<(), Failure> {
-    let input = bad_after(alloc, usize::from(count))?;
+    let good = repeated(alloc, "len 0\n", usize::from(count))?;
     let replies = repeated(alloc, "no rope\n", usize::from(count))?;
-    let ended = Ended::BadLine(u64::from(count) + 1);
-    expect_served(
-        alloc,
-        input.as_str().as_bytes(),
-        4096,
-        ended,
-        replies.as_str(),
-    )
+    expect_bad(alloc, u64::from(count) + 1, good.as_str(), replies.as_str())
 }
 
 #[test]
 fn a_bad_line_is_reported_by_its_number(rt: HostRuntime) -> Result<(), Failure> {
     for count in &[0u16, 1, 2, 3, 9, 10, 99, 255, 256, 4095] {
-        within(
-            format_args!("after {count} lines"),
-            expect_bad_after(rt.alloc(), *count),
-        )?;
+        let outcome = expect_bad_after(rt.alloc(), *count);
+        at("good lines", usize::from(*count), outcome)?;
     }
     Ok(())
 }
@@ -124,8 +117,7 @@ fn expect_stopped_by(
     let mut reader = input;
     let mut writer = device;
     same!(serve(alloc, &mut reader, &mut writer), Ended::Failed);
-    same!(writer.kept.as_slice(), kept);
-    Ok(())
+    expect_same("writer.kept", &writer.kept.as_slice(), &kept)
 }
 
 /// Fails unless a run with room for three bytes fails, and one whose writer can't be flushed.
@@ -142,22 +134,17 @@ fn a_failed_write_ends_the_run(rt: HostRuntime) -> Result<(), Failure> {
     expect_stopped(rt.alloc(), b"text \nfrob\n")
 }
 
-/// Returns a line of 5,000 digits.
-fn long_line(alloc: Global) -> Result<String, AllocError> {
-    let digits = repeated(alloc, "0", 5000)?;
-    format!(in alloc; "len {}\n", digits.as_str())
+/// Returns a line with these digits three times, and then other lines.
+fn thrice_before(alloc: Global, digits: &str, short: &str) -> Result<String, AllocError> {
+    let (next, last) = ("\nlen ", "\n");
+    ["len ", digits, next, digits, next, digits, last, short].concat(alloc)
 }
 
-/// Returns a text three times, and then another.
-fn thrice_before(alloc: Global, line: &str, short: &str) -> Result<String, AllocError> {
-    format!(in alloc; "{line}{line}{line}{short}")
-}
-
-/// Returns three long lines, and 2,000 short ones.
+/// Returns three lines of 5,000 digits, and 2,000 short ones.
 fn long_lines(alloc: Global) -> Result<String, AllocError> {
-    let line = long_line(alloc)?;
+    let digits = repeated(alloc, "0", 5000)?;
     let short = repeated(alloc, "len 1\n", 2000)?;
-    thrice_before(alloc, line.as_str(), short.as_str())
+    thrice_before(alloc, digits.as_str(), short.as_str())
 }
 
 /// Returns the outcome of the run over an input with `room` bytes for replies, and the number of
@@ -173,9 +160,9 @@ fn written(alloc: Global, input: &[u8], room: usize) -> (Ended, usize) {
 /// not.
 fn expect_all_served(alloc: Global, input: &[u8]) -> Result<(), Failure> {
     let (ended, _) = written(alloc, input, 9000);
-    same!(written(alloc, input, 20000), (Ended::Done, 2003 * 8));
     same!(ended, Ended::Failed);
-    Ok(())
+    let all = written(alloc, input, 20000);
+    expect_same("with room for all it", &all, &(Ended::Done, 2003 * 8))
 }
 
 #[test]
@@ -204,17 +191,13 @@ fn expect_flushed(alloc: Global, parts: &[&str], seen: &[usize]) -> Result<(), F
     let mut reader = Asking::new(alloc, parts, &flushed);
     let mut writer = Telling::new(&flushed);
     serve(alloc, &mut reader, &mut writer);
-    same!(reader.seen.as_slice(), seen);
-    Ok(())
+    expect_same("reader.seen", &reader.seen.as_slice(), &seen)
 }
 
 #[test]
 fn replies_come_before_the_next_read(rt: HostRuntime) -> Result<(), Failure> {
     for (row, (parts, seen)) in SEEN.iter().enumerate() {
-        within(
-            format_args!("row {row}"),
-            expect_flushed(rt.alloc(), parts, seen),
-        )?;
+        at("row", row, expect_flushed(rt.alloc(), parts, seen))?;
     }
     Ok(())
 }
@@ -225,10 +208,9 @@ fn expect_stopped_once(alloc: Global, fails_at: usize, replies: &[u8]) -> Result
     let parts = ["text a\n", "len 0\nsh", "ow 0\n"];
     let mut reader = Stumbling::new(&parts, fails_at);
     let mut writer = Narrow::new(alloc, 1000);
-    same!(serve(alloc, &mut reader, &mut writer), Ended::Failed);
-    same!(reader.reads, plus(fails_at, 1));
-    same!(writer.kept.as_slice(), replies);
-    Ok(())
+    let ended = serve(alloc, &mut reader, &mut writer);
+    same!((ended, reader.reads), (Ended::Failed, plus(fails_at, 1)));
+    expect_same("writer.kept", &writer.kept.as_slice(), &replies)
 }
 
 #[test]
@@ -250,8 +232,7 @@ fn expect_halted(
     let mut reader = b"text a\nlen 0\nfrob\n".as_slice();
     let mut writer = device;
     same!(serve(alloc, &mut reader, &mut writer), ended);
-    same!(writer.kept.as_slice(), replies);
-    Ok(())
+    expect_same("writer.kept", &writer.kept.as_slice(), &replies)
 }
 
 /// Fails unless a write that takes none after a number of bytes ends the run, and one that is
@@ -271,10 +252,7 @@ fn expect_write_stopped(alloc: Global, room: usize) -> Result<(), Failure> {
 #[test]
 fn a_write_of_no_bytes_ends_the_run(rt: HostRuntime) -> Result<(), Failure> {
     for room in 0..15usize {
-        within(
-            format_args!("room {room}"),
-            expect_write_stopped(rt.alloc(), room),
-        )?;
+        at("room", room, expect_write_stopped(rt.alloc(), room))?;
     }
     Ok(())
 }

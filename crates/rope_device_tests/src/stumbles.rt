@@ -1,7 +1,8 @@
 //! Devices that fail once, or move no byte once, and would then continue: they are not called
 //! again.
 use crate::devices::{Halting, Stumble, Stumbling};
-use rope_plain::failure::{Failure, within};
+use crate::rows::at;
+use rope_plain::failure::{Failure, expect_same};
 use rope_plain::sums::plus;
 use rope_plain::texts::repeated;
 use rope_plain::{holds, same};
@@ -44,8 +45,7 @@ fn expect_failed(alloc: Global, before: usize, kind: ErrorKind) -> Result<(), Fa
     let reader = Stumbling::new(TEXT.as_bytes(), before, Stumble::Fails(kind), &calls);
     let answer = read_kind(Rope::from_reader(alloc, reader));
     same!(answer, Some(kind));
-    same!(calls.get(), plus(before, 1));
-    Ok(())
+    expect_same("calls.get()", &calls.get(), &plus(before, 1))
 }
 
 /// Fails unless a read from a watched device does so too, and sets the mark.
@@ -56,20 +56,13 @@ fn expect_marked(alloc: Global, before: usize, kind: ErrorKind) -> Result<(), Fa
     let answer = read_kind(Rope::from_watched(alloc, &mut source));
     same!(answer, Some(kind));
     holds!(source.failed());
-    same!(calls.get(), plus(before, 1));
-    Ok(())
+    expect_same("calls.get()", &calls.get(), &plus(before, 1))
 }
 
 fn expect_failed_at_each_byte(alloc: Global, kind: ErrorKind) -> Result<(), Failure> {
     for before in 0..13usize {
-        within(
-            format_args!("before {before}"),
-            expect_failed(alloc, before, kind),
-        )?;
-        within(
-            format_args!("before {before}"),
-            expect_marked(alloc, before, kind),
-        )?;
+        at("before", before, expect_failed(alloc, before, kind))?;
+        at("before", before, expect_marked(alloc, before, kind))?;
     }
     Ok(())
 }
@@ -77,10 +70,7 @@ fn expect_failed_at_each_byte(alloc: Global, kind: ErrorKind) -> Result<(), Fail
 #[test]
 fn a_read_fails_once(rt: HostRuntime) -> Result<(), Failure> {
     for (row, kind) in KINDS.iter().enumerate() {
-        within(
-            format_args!("row {row}"),
-            expect_failed_at_each_byte(rt.alloc(), *kind),
-        )?;
+        at("row", row, expect_failed_at_each_byte(rt.alloc(), *kind))?;
     }
     Ok(())
 }
@@ -90,8 +80,7 @@ fn expect_front(alloc: Global, rope: &Rope, len: usize) -> Result<(), Failure> {
     let mut written = Vec::new(alloc);
     let (front, _) = TEXT.as_bytes().split_at(len.min(TEXT.len()));
     rope.write_to(&mut written)?;
-    same!(written.as_slice(), front);
-    Ok(())
+    expect_same("written", &written.as_slice(), &front)
 }
 
 /// Fails unless a read returns the text up to an end after a number of bytes, or `InvalidData`.
@@ -120,17 +109,13 @@ fn expect_ended(alloc: Global, before: usize) -> Result<(), Failure> {
     let calls = Cell::new(0usize);
     let reader = Stumbling::new(TEXT.as_bytes(), before, Stumble::MovesNone, &calls);
     expect_end_read(alloc, Rope::from_reader(alloc, reader), before)?;
-    same!(calls.get(), plus(before, 1));
-    Ok(())
+    expect_same("calls.get()", &calls.get(), &plus(before, 1))
 }
 
 #[test]
 fn an_end_is_reported_once(rt: HostRuntime) -> Result<(), Failure> {
     for before in 0..13usize {
-        within(
-            format_args!("before {before}"),
-            expect_ended(rt.alloc(), before),
-        )?;
+        at("before", before, expect_ended(rt.alloc(), before))?;
     }
     Ok(())
 }
@@ -143,17 +128,30 @@ fn kind_of(stumble: Stumble) -> ErrorKind {
     }
 }
 
+/// Returns the first bytes of the text.
+fn front_of(room: usize) -> &'static [u8] {
+    TEXT.as_bytes().split_at(room.min(TEXT.len())).0
+}
+
+/// Fails unless this error comes of such a failure after a number of calls.
+fn expect_stopped(
+    stumble: Stumble,
+    room: usize,
+    answer: Option<ErrorKind>,
+    calls: usize,
+) -> Result<(), Failure> {
+    same!(answer, Some(kind_of(stumble)));
+    expect_same("calls.get()", &calls, &plus(room, 1))
+}
+
 /// Fails unless a write stops at the single failure after a number of bytes, with these kept, and
 /// doesn't write again.
 fn expect_halted(alloc: Global, rope: &Rope, room: usize, stumble: Stumble) -> Result<(), Failure> {
     let calls = Cell::new(0usize);
     let mut writer = Halting::new(alloc, 1, room, stumble, &calls);
     let answer = write_kind(rope.write_to(&mut writer));
-    let (front, _) = TEXT.as_bytes().split_at(room.min(TEXT.len()));
-    same!(answer, Some(kind_of(stumble)));
-    same!(calls.get(), plus(room, 1));
-    same!(writer.kept.as_slice(), front);
-    Ok(())
+    expect_stopped(stumble, room, answer, calls.get())?;
+    expect_same("writer.kept", &writer.kept.as_slice(), &front_of(room))
 }
 
 /// Fails unless a write to a watched device does so too, and sets the mark.
@@ -168,33 +166,23 @@ fn expect_halted_and_marked(
     let answer = write_kind(rope.write_watched(&mut sink));
     holds!(sink.failed());
     let writer = sink.into_inner();
-    let (front, _) = TEXT.as_bytes().split_at(room.min(TEXT.len()));
-    same!(answer, Some(kind_of(stumble)));
-    same!(calls.get(), plus(room, 1));
-    same!(writer.kept.as_slice(), front);
-    Ok(())
+    expect_stopped(stumble, room, answer, calls.get())?;
+    expect_same("writer.kept", &writer.kept.as_slice(), &front_of(room))
 }
 
 fn expect_halted_at_each_byte(alloc: Global, rope: &Rope, stumble: Stumble) -> Result<(), Failure> {
     for room in 0..12usize {
-        within(
-            format_args!("room {room}"),
-            expect_halted(alloc, rope, room, stumble),
-        )?;
-        within(
-            format_args!("room {room}"),
-            expect_halted_and_marked(alloc, rope, room, stumble),
-        )?;
+        at("room", room, expect_halted(alloc, rope, room, stumble))?;
+        let marked = expect_halted_and_marked(alloc, rope, room, stumble);
+        at("room", room, marked)?;
     }
     Ok(())
 }
 
 fn expect_halted_by_each_failure(alloc: Global, rope: &Rope) -> Result<(), Failure> {
     for (row, kind) in KINDS.iter().enumerate() {
-        within(
-            format_args!("row {row}"),
-            expect_halted_at_each_byte(alloc, rope, Stumble::Fails(*kind)),
-        )?;
+        let outcome = expect_halted_at_each_byte(alloc, rope, Stumble::Fails(*kind));
+        at("row", row, outcome)?;
     }
     Ok(())
 }
@@ -225,8 +213,7 @@ fn expect_halted_within(
     let answer = write_kind(rope.write_to(&mut writer));
     let (front, _) = text.as_bytes().split_at(room.min(text.len()));
     same!(answer, Some(kind_of(stumble)));
-    same!(writer.kept.as_slice(), front);
-    Ok(())
+    expect_same("writer.kept", &writer.kept.as_slice(), &front)
 }
 
 fn expect_halted_within_chunks(alloc: Global, rope: &Rope, text: &str) -> Result<(), Failure> {
@@ -235,8 +222,7 @@ fn expect_halted_within_chunks(alloc: Global, rope: &Rope, text: &str) -> Result
         expect_halted_within(alloc, rope, text, *room, fails)?;
         expect_halted_within(alloc, rope, text, *room, Stumble::MovesNone)?;
     }
-    same!(text.len(), 3000);
-    Ok(())
+    expect_same("text.len()", &text.len(), &3000)
 }
 
 #[test]

@@ -1,4 +1,5 @@
 //! Readers that give a few bytes at once, writers with little room, and both ends of a dialogue.
+use crate::rows::at;
 use rope_plain::failure::{Failure, expect_same, within};
 use std::alloc::Global;
 use std::cell::Cell;
@@ -23,10 +24,7 @@ impl Read for Dripping<'_> {
 
 /// Fails unless the reply with a number, from 1, is the expected one.
 fn expect_reply(number: usize, found: Option<&str>, wanted: &str) -> Result<(), Failure> {
-    within(
-        format_args!("reply {number}"),
-        expect_same("it", &found, &Some(wanted)),
-    )
+    at("reply", number, expect_same("it", &found, &Some(wanted)))
 }
 
 /// Fails unless there is no reply.

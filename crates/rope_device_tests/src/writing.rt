@@ -1,7 +1,8 @@
 //! Writers that take few bytes, fail, or take none.
 use crate::devices::Narrow;
+use crate::rows::at;
 use crate::stumbles::write_kind;
-use rope_plain::failure::{Failure, within};
+use rope_plain::failure::{Failure, expect_same};
 use rope_plain::texts::repeated;
 use rope_plain::{holds, same};
 use ropey::Rope;
@@ -22,8 +23,7 @@ fn expect_written_and_marked(
     let is_marked = sink.failed();
     let writer = sink.into_inner();
     same!(is_marked, kind.is_some());
-    same!(writer.kept.as_slice(), bytes);
-    Ok(())
+    expect_same("writer.kept", &writer.kept.as_slice(), &bytes)
 }
 
 /// Fails unless a rope is written without a mark, and once more after its bytes.
@@ -33,8 +33,7 @@ fn expect_written_twice(alloc: Global, rope: &Rope) -> Result<(), Failure> {
     holds!(!sink.failed());
     let mut bytes = sink.into_inner();
     rope.write_to(&mut bytes)?;
-    same!(bytes.as_slice(), b"Hello!Hello!".as_slice());
-    Ok(())
+    expect_same("bytes", &bytes.as_slice(), &b"Hello!Hello!".as_slice())
 }
 
 #[test]
@@ -63,13 +62,9 @@ fn expect_stopped(rt: &HostRuntime, rope: &Rope, bytes: &[u8], room: usize) -> R
 
 fn expect_stopped_at_each_byte(rt: &HostRuntime, rope: &Rope, bytes: &[u8]) -> Result<(), Failure> {
     for room in 0..3001usize {
-        within(
-            format_args!("room {room}"),
-            expect_stopped(rt, rope, bytes, room),
-        )?;
+        at("room", room, expect_stopped(rt, rope, bytes, room))?;
     }
-    same!(bytes.len(), 3000);
-    Ok(())
+    expect_same("bytes.len()", &bytes.len(), &3000)
 }
 
 #[test]

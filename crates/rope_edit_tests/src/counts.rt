@@ -5,9 +5,9 @@
 //! children for the eleventh takes five comparisons. An edit first tries the child of the previous
 //! edit, the first one of a fresh list, by two comparisons.
 use crate::texts::chunk_count;
-use rope_plain::failure::Failure;
+use rope_plain::failure::{Failure, expect_same};
+use rope_plain::holds;
 use rope_plain::texts::{repeated, rope_of};
-use rope_plain::{holds, same};
 use ropey::{LineBreaks, Rope, Steps};
 use std::alloc::Global;
 
@@ -22,14 +22,18 @@ fn counts(steps: Steps) -> [u64; 3] {
     [steps.nodes, steps.compares, steps.made]
 }
 
+/// Fails unless a call had these counts.
+fn expect_counts(steps: Steps, expected: [u64; 3]) -> Result<(), Failure> {
+    expect_same("the counts", &counts(steps), &expected)
+}
+
 /// The root and the leaf are entered. The child is found twice, since its leaf is full and is
 /// split.
 fn expect_counts_of_a_split_leaf(rope: &mut Rope) -> Result<(), Failure> {
     let mut steps = LEFT_OVER;
     holds!(rope.len_chars() == 20_000);
     rope.insert_char_counted(10_000, 'x', &mut steps)?;
-    same!(counts(steps), [3, 12, 1]);
-    Ok(())
+    expect_counts(steps, [3, 12, 1])
 }
 
 #[test]
@@ -43,8 +47,7 @@ fn expect_counts_of_copies(rope: &mut Rope) -> Result<(), Failure> {
     let mut steps = LEFT_OVER;
     holds!(rope.len_chars() == 20_000);
     rope.insert_counted(20_000, "x", &mut steps)?;
-    same!(counts(steps), [2, 4, 2]);
-    Ok(())
+    expect_counts(steps, [2, 4, 2])
 }
 
 #[test]
@@ -64,18 +67,23 @@ fn expect_counts_of_a_medium_text(
     let mut steps = LEFT_OVER;
     holds!(rope.len_chars() == 20_000);
     rope.insert_counted(10_000, text, &mut steps)?;
-    same!(counts(steps), expected);
-    Ok(())
+    expect_counts(steps, expected)
+}
+
+fn expect_counts_of_letters(
+    alloc: Global,
+    letters: usize,
+    expected: [u64; 3],
+) -> Result<(), Failure> {
+    let text = repeated(alloc, "z", letters)?;
+    let mut rope = rope_of(alloc, "a", 20_000)?;
+    expect_counts_of_a_medium_text(&mut rope, text.as_str(), expected)
 }
 
 #[test]
 fn a_medium_insert_counts_its_leaves_and_their_lists(rt: HostRuntime) -> Result<(), Failure> {
-    for (letters, expected) in [(2_000, [2, 5, 5]), (4_096, [2, 5, 9])] {
-        let mut rope = rope_of(rt.alloc(), "a", 20_000)?;
-        let text = repeated(rt.alloc(), "z", letters)?;
-        expect_counts_of_a_medium_text(&mut rope, text.as_str(), expected)?;
-    }
-    Ok(())
+    expect_counts_of_letters(rt.alloc(), 2_000, [2, 5, 5])?;
+    expect_counts_of_letters(rt.alloc(), 4_096, [2, 5, 9])
 }
 
 /// A leaf of 6,500 bytes becomes seven, the last of 596 bytes, with a list over them.
@@ -84,8 +92,7 @@ fn expect_counts_of_a_long_text(alloc: Global, rope: &mut Rope) -> Result<(), Fa
     let mut steps = LEFT_OVER;
     holds!(rope.len_chars() == 500);
     rope.insert_counted(250, text.as_str(), &mut steps)?;
-    same!(counts(steps), [1, 0, 8]);
-    Ok(())
+    expect_counts(steps, [1, 0, 8])
 }
 
 #[test]
@@ -98,8 +105,7 @@ fn expect_counts_of_a_short_removal(rope: &mut Rope) -> Result<(), Failure> {
     let mut steps = LEFT_OVER;
     holds!(rope.len_chars() == 20_000);
     rope.remove_counted(10_000..10_010, &mut steps)?;
-    same!(counts(steps), [2, 7, 0]);
-    Ok(())
+    expect_counts(steps, [2, 7, 0])
 }
 
 #[test]
@@ -117,9 +123,10 @@ fn expect_counts_of_a_split_and_its_append(rope: &mut Rope) -> Result<(), Failur
     holds!(rope.len_chars() == 20_000);
     let back = rope.split_off_counted(10_000, &mut split)?;
     rope.append_counted(back, &mut joined)?;
-    same!([counts(split), counts(joined)], [[2, 5, 2], [3, 2, 0]]);
-    same!([chunk_count(rope), rope.depth()], [22, 1]);
-    Ok(())
+    expect_counts(split, [2, 5, 2])?;
+    expect_counts(joined, [3, 2, 0])?;
+    let shape = [chunk_count(rope), rope.depth()];
+    expect_same("chunks and depth", &shape, &[22, 1])
 }
 
 #[test]
@@ -138,10 +145,8 @@ fn expect_no_counts(alloc: Global, rope: &mut Rope) -> Result<(), Failure> {
     holds!(rope.len_chars() == 20_000);
     rope.remove_counted(7..7, &mut steps[1])?;
     let other = Rope::from_str_with(alloc, "b", LineBreaks::Lf)?;
-    let refused = rope.append_counted(other, &mut steps[2]).is_err();
-    same!(refused, true);
-    same!(steps, [Steps::new(); 3]);
-    Ok(())
+    holds!(rope.append_counted(other, &mut steps[2]).is_err());
+    expect_same("steps", &steps, &[Steps::new(); 3])
 }
 
 #[test]

@@ -1,7 +1,8 @@
 //! Inserts into ropes, against rows worked by hand.
+use crate::rows::at;
 use crate::texts::chunk_count;
 use rope_plain::compare::{expect_together, lens};
-use rope_plain::failure::{Failure, within};
+use rope_plain::failure::Failure;
 use rope_plain::texts::rope_of;
 use rope_plain::{holds, same};
 use ropey::Rope;
@@ -97,7 +98,7 @@ fn expect_row(alloc: Global, row: &Row<'_>) -> Result<(), Failure> {
 #[test]
 fn inserts_keep_make_and_split_pairs(rt: HostRuntime) -> Result<(), Failure> {
     for (number, row) in ROWS.iter().enumerate() {
-        within(format_args!("row {number}"), expect_row(rt.alloc(), row))?;
+        at("row", number, expect_row(rt.alloc(), row))?;
     }
     Ok(())
 }

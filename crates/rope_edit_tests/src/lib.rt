@@ -24,6 +24,8 @@ mod random_edits;
 #[cfg(test)]
 mod removals;
 #[cfg(test)]
+mod rows;
+#[cfg(test)]
 mod short_chunks;
 #[cfg(test)]
 mod shrinking;

@@ -1,5 +1,5 @@
 //! A long text inserted into one of 2^62 bytes. crates/rope/stdin has its other edits.
-use rope_plain::failure::Failure;
+use rope_plain::failure::{Failure, expect_same};
 use rope_plain::same;
 use rope_plain::texts::{doubled, repeated};
 use ropey::Rope;
@@ -18,8 +18,8 @@ fn expect_long_text_inserted(rope: &mut Rope, text: &str) -> Result<(), Failure>
         rope.get_char(HALF + 6_000),
     ];
     same!(rope.len_bytes(), WHOLE + 6_000);
-    same!(found, [Some('a'), Some('z'), Some('z'), Some('a')]);
-    Ok(())
+    let expected = [Some('a'), Some('z'), Some('z'), Some('a')];
+    expect_same("the characters found", &found, &expected)
 }
 
 #[test]

@@ -1,7 +1,8 @@
 //! Long texts of CR and LF alone, against rows worked by hand and plain lists of characters.
+use crate::rows::at;
 use crate::texts::add_letters;
 use rope_plain::compare::{expect_text, lens};
-use rope_plain::failure::{Failure, within};
+use rope_plain::failure::{Failure, expect_same};
 use rope_plain::texts::{repeated, rope_of};
 use rope_plain::{holds, same};
 use ropey::Rope;
@@ -54,10 +55,8 @@ fn expect_taken_apart(alloc: Global, rope: &mut Rope) -> Result<(), Failure> {
         let len = 3_999 - i;
         same!(lens(rope), [len, len, 2_001, len]);
         if i % BETWEEN == 0 {
-            within(
-                format_args!("edit {i}"),
-                expect_text_of(alloc, rope, "\r", i + 1, "\r\n", 1_999 - i),
-            )?;
+            let outcome = expect_text_of(alloc, rope, "\r", i + 1, "\r\n", 1_999 - i);
+            at("edit", i, outcome)?;
         }
     }
     Ok(())
@@ -70,10 +69,8 @@ fn expect_put_together(alloc: Global, rope: &mut Rope) -> Result<(), Failure> {
         let len = 2_001 + i;
         same!(lens(rope), [len, len, 2_001, len]);
         if i % BETWEEN == 0 {
-            within(
-                format_args!("edit {i}"),
-                expect_text_of(alloc, rope, "\r\n", i + 1, "\r", 1_999 - i),
-            )?;
+            let outcome = expect_text_of(alloc, rope, "\r\n", i + 1, "\r", 1_999 - i);
+            at("edit", i, outcome)?;
         }
     }
     Ok(())
@@ -83,8 +80,7 @@ fn expect_put_together(alloc: Global, rope: &mut Rope) -> Result<(), Failure> {
 fn expect_crs_alone(alloc: Global, rope: &Rope) -> Result<(), Failure> {
     let crs = repeated(alloc, "\r", 2_000)?;
     holds!(rope.eq_str(crs.as_str()));
-    same!(lens(rope), [2_000, 2_000, 2_001, 2_000]);
-    Ok(())
+    expect_same("lens(rope)", &lens(rope), &[2_000, 2_000, 2_001, 2_000])
 }
 
 fn expect_pairs_again(alloc: Global, rope: &mut Rope, first: &Rope) -> Result<(), Failure> {
@@ -92,8 +88,7 @@ fn expect_pairs_again(alloc: Global, rope: &mut Rope, first: &Rope) -> Result<()
     expect_crs_alone(alloc, rope)?;
     expect_put_together(alloc, rope)?;
     same!(*rope, *first);
-    same!(lens(rope), [4_000, 4_000, 2_001, 4_000]);
-    Ok(())
+    expect_same("lens(rope)", &lens(rope), &[4_000, 4_000, 2_001, 4_000])
 }
 
 /// Fails unless the pairs of a clone are split and restored, and it has the text of the rope again.

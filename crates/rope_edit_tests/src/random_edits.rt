@@ -1,4 +1,5 @@
 //! Random edits of ropes and their clones, against plain lists of characters.
+use crate::rows::at;
 use rope_plain::compare::expect_few_chunks;
 use rope_plain::failure::{Failure, within};
 use rope_plain::numbers::Numbers;
@@ -208,7 +209,7 @@ fn add_copies(all: &mut Vec<Pair>, pairs: &[Pair]) -> Result<(), Error> {
 /// Fails unless all ropes are right; `which` names them.
 fn expect_all(pairs: &[Pair], breaks: LineBreaks, which: &str) -> Result<(), Failure> {
     for (i, pair) in pairs.iter().enumerate() {
-        within(format_args!("{which} {i}"), pair.expect_same(breaks))?;
+        at(which, i, pair.expect_same(breaks))?;
     }
     Ok(())
 }
@@ -222,7 +223,7 @@ fn expect_shrunk(pair: &mut Pair, breaks: LineBreaks) -> Result<(), Failure> {
 
 fn expect_all_shrunk(pairs: &mut [Pair], breaks: LineBreaks) -> Result<(), Failure> {
     for (i, pair) in pairs.iter_mut().enumerate() {
-        within(format_args!("shrunk rope {i}"), expect_shrunk(pair, breaks))?;
+        at("shrunk rope", i, expect_shrunk(pair, breaks))?;
     }
     Ok(())
 }
@@ -251,19 +252,31 @@ fn expect_round(
 /// The start of all random sequences.
 const SEED: u64 = 0x9E37_79B9_7F4A_7C15;
 
+/// Fails unless rounds of edits succeed on ropes, after an empty one is added.
+fn expect_rounds_of(
+    pairs: &mut Vec<Pair>,
+    alloc: Global,
+    breaks: LineBreaks,
+    rounds: usize,
+) -> Result<(), Failure> {
+    let mut numbers = Numbers::new(SEED);
+    keep(pairs, Pair::new(alloc, "", breaks)?)?;
+    for round in 1..=rounds {
+        let outcome = expect_round(pairs, alloc, &mut numbers, breaks, round);
+        at("round", round, outcome)?;
+    }
+    Ok(())
+}
+
 /// Fails unless rounds of edits succeed on ropes of one set of line breaks, the first of which is
 /// empty.
 fn expect_rounds(alloc: Global, breaks: LineBreaks, rounds: usize) -> Result<(), Failure> {
     let mut pairs = Vec::new(alloc);
-    keep(&mut pairs, Pair::new(alloc, "", breaks)?)?;
-    let mut numbers = Numbers::new(SEED);
-    for round in 1..=rounds {
-        within(
-            format_args!("line breaks {breaks:?}, seed {SEED:#x}, round {round}"),
-            expect_round(&mut pairs, alloc, &mut numbers, breaks, round),
-        )?;
-    }
-    Ok(())
+    let outcome = expect_rounds_of(&mut pairs, alloc, breaks, rounds);
+    within(
+        format_args!("line breaks {breaks:?}, seed {SEED:#x}"),
+        outcome,
+    )
 }
 
 #[test]

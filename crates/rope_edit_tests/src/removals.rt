@@ -1,7 +1,7 @@
 //! Ropes with a range removed, split and joined again, against rows worked by hand.
 use crate::texts::{add_letters, chunk_count};
 use rope_plain::compare::{expect_plain_unicode, expect_text, expect_together, lens};
-use rope_plain::failure::{Failure, within};
+use rope_plain::failure::{Failure, expect_same, within};
 use rope_plain::texts::{padded, rope_of};
 use rope_plain::{holds, same};
 use ropey::Rope;
@@ -17,8 +17,7 @@ fn expect_ends_left(rope: &mut Rope) -> Result<(), Failure> {
         rope.capacity(),
     ];
     expect_plain_unicode(rope, &['\r', '\n'])?;
-    same!(counts, [2, 1, 0, 984]);
-    Ok(())
+    expect_same("lines, chunks, depth, capacity", &counts, &[2, 1, 0, 984])
 }
 
 #[test]
@@ -50,8 +49,8 @@ const STEPS: [Step; 8] = [
 fn expect_one_left(rope: &mut Rope) -> Result<(), Failure> {
     rope.try_remove(0..999_999)?;
     expect_plain_unicode(rope, &['a'])?;
-    same!([chunk_count(rope), rope.depth()], [1, 0]);
-    Ok(())
+    let shape = [chunk_count(rope), rope.depth()];
+    expect_same("chunks and depth", &shape, &[1, 0])
 }
 
 fn expect_twenty_left(rope: &mut Rope) -> Result<(), Failure> {
@@ -90,8 +89,8 @@ fn expect_clone_done(whole: &Rope, step: Step) -> Result<(), Failure> {
 fn expect_done(whole: &Rope, step: Step) -> Result<(), Failure> {
     expect_clone_done(whole, step)?;
     same!([whole.len_bytes(), whole.depth()], [1_000_000, 3]);
-    same!(whole.get_char(500_000), Some('a'));
-    Ok(())
+    let middle = whole.get_char(500_000);
+    expect_same("the middle", &middle, &Some('a'))
 }
 
 fn expect_all_done(whole: &Rope) -> Result<(), Failure> {
@@ -111,8 +110,8 @@ fn a_million_letters_are_cut_and_split(rt: HostRuntime) -> Result<(), Failure> {
 }
 
 fn add_split_pair(text: &mut String) -> Result<(), AllocError> {
-    for (letter, count) in [("a", 983), ("\r", 1), ("x", 984), ("\n", 1), ("b", 984)] {
-        add_letters(text, letter, count)?;
+    for (letter, count) in &[("a", 983), ("\r", 1), ("x", 984), ("\n", 1), ("b", 984)] {
+        add_letters(text, letter, *count)?;
     }
     Ok(())
 }

@@ -1,7 +1,8 @@
 //! Removals that leave little of each chunk: the rest is in few chunks.
+use crate::rows::at;
 use crate::texts::chunk_count;
 use rope_plain::compare::{expect_no_short_chunks, expect_text};
-use rope_plain::failure::{Failure, within};
+use rope_plain::failure::{Failure, expect_same, within};
 use rope_plain::numbers::Numbers;
 use rope_plain::same;
 use rope_plain::sums::{minus, plus};
@@ -51,10 +52,7 @@ fn expect_all_emptied(rope: &mut Rope) -> Result<(), Failure> {
     let mut lens = [FULL; CHUNKS];
     for turn in 0..CHUNKS {
         let chunk = turn.saturating_mul(173) % CHUNKS;
-        within(
-            format_args!("turn {turn}"),
-            expect_emptied_after(rope, &mut lens, chunk),
-        )?;
+        at("turn", turn, expect_emptied_after(rope, &mut lens, chunk))?;
     }
     Ok(())
 }
@@ -86,17 +84,15 @@ fn expect_thousand_removed(rope: &mut Rope, numbers: &mut Numbers) -> Result<(),
 fn expect_million_removed(rope: &mut Rope) -> Result<(), Failure> {
     let mut numbers = Numbers::new(SEED);
     for round in 0..1_000usize {
-        within(
-            format_args!("seed {SEED:#x}, round {round}"),
-            expect_thousand_removed(rope, &mut numbers),
-        )?;
+        at("round", round, expect_thousand_removed(rope, &mut numbers))?;
     }
-    same!([rope.len_bytes(), chunk_count(rope)], [0, 0]);
-    Ok(())
+    let left = [rope.len_bytes(), chunk_count(rope)];
+    expect_same("bytes and chunks left", &left, &[0, 0])
 }
 
 #[test]
 fn a_million_letters_removed_at_random_leave_none(rt: HostRuntime) -> Result<(), Failure> {
     let mut rope = rope_of(rt.alloc(), "a", 1_000_000)?;
-    expect_million_removed(&mut rope)
+    let outcome = expect_million_removed(&mut rope);
+    within(format_args!("seed {SEED:#x}"), outcome)
 }

@@ -1,5 +1,5 @@
 //! Cursors over short ropes and slices.
-use rope_plain::failure::Failure;
+use rope_plain::failure::{Failure, expect_same};
 use rope_plain::{same, some};
 use ropey::Rope;
 use ropey::iter::Chars;
@@ -10,8 +10,8 @@ fn expect_chars_back(from_third: Option<Chars<'_>>) -> Result<(), Failure> {
     same!(chars.size_hint(), (2, Some(2)));
     same!(chars.len(), 2);
     let steps = [chars.next(), chars.next(), chars.next(), chars.prev()];
-    same!(steps, [Some('b'), Some('a'), None, Some('a')]);
-    Ok(())
+    let expected = [Some('b'), Some('a'), None, Some('a')];
+    expect_same("steps", &steps, &expected)
 }
 
 #[test]
@@ -23,11 +23,9 @@ fn characters_are_returned_backward_by_a_reversed_cursor(rt: HostRuntime) -> Res
 fn expect_clone_steps(rope: &Rope) -> Result<(), Failure> {
     let mut chars = rope.chars();
     let mut copied = chars.clone()?;
-    same!(
-        [chars.next(), chars.next(), copied.next(), chars.next()],
-        [Some('a'), Some('b'), Some('a'), Some('\n')]
-    );
-    Ok(())
+    let steps = [chars.next(), chars.next(), copied.next(), chars.next()];
+    let expected = [Some('a'), Some('b'), Some('a'), Some('\n')];
+    expect_same("steps", &steps, &expected)
 }
 
 #[test]

@@ -1,5 +1,5 @@
 //! Ranges with bounds at the ends of a text, past them, reversed, and at the greatest index.
-use rope_plain::failure::{Failure, within};
+use rope_plain::failure::{Failure, expect_same, within};
 use rope_plain::sums::minus;
 use rope_plain::{holds, same};
 use ropey::{Error, IndexRange, Rope, RopeSlice};
@@ -164,8 +164,7 @@ fn expect_sliced(rope: &Rope, range: Told) -> Result<(), Failure> {
         rope.get_byte_slice(range).is_some(),
         slice.get_byte_slice(range).is_some(),
     ];
-    same!(are_some, [bytes.is_ok(); 2]);
-    Ok(())
+    expect_same("are_some", &are_some, &[bytes.is_ok(); 2])
 }
 
 fn expect_range(alloc: Global, rope: &Rope, range: Told) -> Result<(), Failure> {

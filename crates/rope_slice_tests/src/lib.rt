@@ -28,6 +28,8 @@ mod random_ropes;
 #[cfg(test)]
 mod random_slices;
 #[cfg(test)]
+mod rows;
+#[cfg(test)]
 mod slice_model;
 #[cfg(test)]
 mod walker;

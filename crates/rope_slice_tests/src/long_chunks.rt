@@ -1,6 +1,7 @@
 //! Chunks of texts of 2^62 bytes, at both ends and in the middle. crates/rope/stdin has their other
 //! lookups.
-use rope_plain::failure::{Failure, within};
+use crate::rows::at;
+use rope_plain::failure::{Failure, expect_same, within};
 use rope_plain::sums::{minus, plus};
 use rope_plain::texts::doubled;
 use rope_plain::{holds, same, some};
@@ -90,12 +91,14 @@ fn expect_cut_at_its_end(rope: &Rope) -> Result<(), Failure> {
         rope.get_byte_slice(..=WHOLE).is_some(),
         rope.get_byte_slice(..=usize::MAX).is_some(),
     ];
-    same!(are_cut, [true, true, false, false, false]);
-    Ok(())
+    let expected = [true, true, false, false, false];
+    expect_same("the ranges that are cut", &are_cut, &expected)
 }
 
-/// Fails unless the chunks at both ends and in the middle are right.
+/// Fails unless ranges up to the end are cut, and the chunks at both ends and in the middle are
+/// right.
 fn expect_chunks(rope: &Rope, row: &Row) -> Result<(), Failure> {
+    expect_cut_at_its_end(rope)?;
     let end = rope.len_chars();
     let middle = end / 2;
     let places = [
@@ -108,15 +111,12 @@ fn expect_chunks(rope: &Rope, row: &Row) -> Result<(), Failure> {
         minus(end, 1),
         end,
     ];
-    for char_idx in places {
-        within(
-            format_args!("character {char_idx}"),
-            expect_chunk(rope, row, char_idx),
-        )?;
+    for char_idx in &places {
+        at("character", *char_idx, expect_chunk(rope, row, *char_idx))?;
     }
     let last = minus(rope.len_lines(), 1);
-    for line_break in [0, 1.min(last), last / 2, last] {
-        expect_chunk_at_break(rope, line_break)?;
+    for line_break in &[0, 1.min(last), last / 2, last] {
+        expect_chunk_at_break(rope, *line_break)?;
     }
     Ok(())
 }
@@ -125,7 +125,6 @@ fn expect_chunks(rope: &Rope, row: &Row) -> Result<(), Failure> {
 fn chunks_of_2_to_the_62_bytes_are_found(rt: HostRuntime) -> Result<(), Failure> {
     for row in &ROWS {
         let rope = doubled(rt.alloc(), row.text, row.times)?;
-        expect_cut_at_its_end(&rope)?;
         within(row.text, expect_chunks(&rope, row))?;
     }
     Ok(())

@@ -1,8 +1,9 @@
 //! The lookups of a rope at one index, compared with those of a list of characters, and the
 //! conversions that the tests of slices share.
+use crate::rows::at;
 use crate::{conversions_at, conversions_inside};
 use rope_plain::compare::chunk_of;
-use rope_plain::failure::{Failure, expect_same, within};
+use rope_plain::failure::{Failure, expect_same};
 use rope_plain::plain_text::{Place, place_of};
 use rope_plain::sums::{minus, plus};
 use rope_plain::{holds, same, some};
@@ -106,7 +107,7 @@ pub fn first_byte(c: char) -> Option<u8> {
 /// Fails unless all lookups at a character or at the end are right.
 pub fn expect_lookups_at(rope: &Rope, text: &[char], char_idx: usize) -> Result<(), Failure> {
     let outcome = expect_all_lookups_at(rope, text, char_idx);
-    within(format_args!("at character {char_idx}"), outcome)
+    at("at character", char_idx, outcome)
 }
 
 fn expect_all_lookups_at(rope: &Rope, text: &[char], char_idx: usize) -> Result<(), Failure> {
@@ -131,8 +132,8 @@ fn expect_char(rope: &Rope, char_idx: usize, place: Place, c: char) -> Result<()
     same!(rope.get_byte(place.byte), first_byte(c));
     let (last_byte, last_unit) = last_indices(place, c);
     let inside = conversions_inside!(rope, last_byte, last_unit);
-    same!(inside, [Ok(char_idx), Ok(place.line), Ok(char_idx)]);
-    Ok(())
+    let expected = [Ok(char_idx), Ok(place.line), Ok(char_idx)];
+    expect_same("conversions inside", &inside, &expected)
 }
 
 /// Fails unless the chunk at a character and at its first byte is right.
@@ -149,8 +150,7 @@ fn expect_chunks_at(
         rope.get_chunk_at_char(char_idx),
         rope.get_chunk_at_byte(byte),
     ];
-    same!(found, [chunk; 2]);
-    Ok(())
+    expect_same("the chunks found", &found, &[chunk; 2])
 }
 
 /// Fails unless the chunk at a line break is right: the first that ends after `line` breaks, or the

@@ -1,7 +1,8 @@
 //! Ropes of random texts by each set of line breaks, against plain lists of characters.
 use crate::places::expect_lookups_at;
+use crate::rows::at_turn;
 use rope_plain::compare::{SETS, expect_few_chunks, expect_plain};
-use rope_plain::failure::{Failure, within};
+use rope_plain::failure::Failure;
 use rope_plain::numbers::Numbers;
 use rope_plain::texts::{chars_of, random_text};
 use ropey::{LineBreaks, Rope};
@@ -51,25 +52,12 @@ fn expect_random_text(
 /// The start of the random sequence.
 const SEED: u64 = 0x9E37_79B9_7F4A_7C15;
 
-/// Fails unless ropes of random texts are right, by each set of line breaks.
-fn expect_random_text_by_each_set(alloc: Global, numbers: &mut Numbers) -> Result<(), Failure> {
-    for breaks in SETS {
-        within(
-            format_args!("line breaks {breaks:?}"),
-            expect_random_text(alloc, numbers, breaks),
-        )?;
-    }
-    Ok(())
-}
-
 #[test]
 fn ropes_of_random_texts_equal_their_lists(rt: HostRuntime) -> Result<(), Failure> {
     let mut numbers = Numbers::new(SEED);
-    for round in 0..50usize {
-        within(
-            format_args!("seed {SEED:#x}, round {round}"),
-            expect_random_text_by_each_set(rt.alloc(), &mut numbers),
-        )?;
+    for turn in 0..3 * 50usize {
+        let outcome = expect_random_text(rt.alloc(), &mut numbers, SETS[turn % 3]);
+        at_turn(SEED, turn, outcome)?;
     }
     Ok(())
 }

@@ -1,9 +1,10 @@
 //! Random slices of slices, of ropes and of plain texts, against the model.
 use crate::cuts::{between, byte_between, byte_part, part};
 use crate::plain_slice::PlainSlice;
+use crate::rows::{at, at_turn};
 use crate::slice_model::{expect_lookups_at, expect_whole};
 use rope_plain::compare::SETS;
-use rope_plain::failure::{Failure, within};
+use rope_plain::failure::Failure;
 use rope_plain::numbers::Numbers;
 use rope_plain::pair::Pair;
 use rope_plain::plain_text::char_to_byte;
@@ -121,10 +122,8 @@ fn expect_nested<'a>(
     let mut slice = whole;
     let mut plain = all;
     for depth in 0..DEPTH {
-        within(
-            format_args!("depth {depth}, from character {}", plain.before),
-            expect_slice(numbers, &slice, &plain),
-        )?;
+        let outcome = expect_slice(numbers, &slice, &plain);
+        at("depth", depth, at("from character", plain.before, outcome))?;
         let (start, end) = random_range(numbers, plain.text.len());
         slice = some!(part_of(numbers, &slice, &plain, start, end));
         plain = plain.part(start, end);
@@ -190,37 +189,13 @@ fn expect_str_sliced(
     expect_text_sliced(numbers, text.as_str(), &plain, breaks)
 }
 
-/// Fails unless slices of random ropes are right, by each set of line breaks.
-fn expect_rope_sliced_by_each_set(alloc: Global, numbers: &mut Numbers) -> Result<(), Failure> {
-    for breaks in SETS {
-        within(
-            format_args!("line breaks {breaks:?}"),
-            expect_rope_sliced(alloc, numbers, breaks),
-        )?;
-    }
-    Ok(())
-}
-
 #[test]
 fn slices_of_random_ropes_equal_their_lists(rt: HostRuntime) -> Result<(), Failure> {
     let seed = 0x9E37_79B9_7F4A_7C15;
     let mut numbers = Numbers::new(seed);
-    for round in 0..40usize {
-        within(
-            format_args!("seed {seed:#x}, round {round}"),
-            expect_rope_sliced_by_each_set(rt.alloc(), &mut numbers),
-        )?;
-    }
-    Ok(())
-}
-
-/// Fails unless slices of random plain texts are right, by each set of line breaks.
-fn expect_str_sliced_by_each_set(alloc: Global, numbers: &mut Numbers) -> Result<(), Failure> {
-    for breaks in SETS {
-        within(
-            format_args!("line breaks {breaks:?}"),
-            expect_str_sliced(alloc, numbers, breaks),
-        )?;
+    for turn in 0..3 * 40usize {
+        let outcome = expect_rope_sliced(rt.alloc(), &mut numbers, SETS[turn % 3]);
+        at_turn(seed, turn, outcome)?;
     }
     Ok(())
 }
@@ -229,11 +204,9 @@ fn expect_str_sliced_by_each_set(alloc: Global, numbers: &mut Numbers) -> Result
 fn slices_of_random_plain_texts_equal_their_lists(rt: HostRuntime) -> Result<(), Failure> {
     let seed = 0xD1B5_4A32_D192_ED03;
     let mut numbers = Numbers::new(seed);
-    for round in 0..100usize {
-        within(
-            format_args!("seed {seed:#x}, round {round}"),
-            expect_str_sliced_by_each_set(rt.alloc(), &mut numbers),
-        )?;
+    for turn in 0..3 * 100usize {
+        let outcome = expect_str_sliced(rt.alloc(), &mut numbers, SETS[turn % 3]);
+        at_turn(seed, turn, outcome)?;
     }
     Ok(())
 }

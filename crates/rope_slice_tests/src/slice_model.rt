@@ -4,8 +4,9 @@ use crate::places::{
     conversion_errors, expect_same_conversions, expected_conversions, first_byte, last_indices,
 };
 use crate::plain_slice::PlainSlice;
+use crate::rows::at;
 use crate::{conversions_at, conversions_inside};
-use rope_plain::failure::{Failure, within};
+use rope_plain::failure::{Failure, expect_same};
 use rope_plain::plain_text::{Place, place_of};
 use rope_plain::sums::{minus, plus};
 use rope_plain::texts::expect_chars;
@@ -25,8 +26,8 @@ fn expect_lengths(slice: &RopeSlice<'_>, plain: &PlainSlice<'_>) -> Result<(), F
     let chars = plain.text.len();
     let end = place_of(plain.text, chars, plain.breaks);
     let lines = plus(end.line, 1);
-    same!(lens(slice), [end.byte, chars, lines, end.unit]);
-    Ok(())
+    let expected = [end.byte, chars, lines, end.unit];
+    expect_same("lens(slice)", &lens(slice), &expected)
 }
 
 /// Fails unless `as_str` returns the text if it is one chunk or none, and else `None`.
@@ -61,7 +62,7 @@ pub fn expect_lookups_at(
     char_idx: usize,
 ) -> Result<(), Failure> {
     let outcome = expect_all_lookups_at(slice, plain, char_idx);
-    within(format_args!("at character {char_idx}"), outcome)
+    at("at character", char_idx, outcome)
 }
 
 fn expect_all_lookups_at(
@@ -96,15 +97,15 @@ fn expect_char(
     same!(slice.get_byte(place.byte), first_byte(c));
     let (last_byte, last_unit) = last_indices(place, c);
     let inside = conversions_inside!(slice, last_byte, last_unit);
-    same!(inside, [Ok(char_idx), Ok(place.line), Ok(char_idx)]);
-    Ok(())
+    let expected = [Ok(char_idx), Ok(place.line), Ok(char_idx)];
+    expect_same("conversions inside", &inside, &expected)
 }
 
 /// Fails unless there is no character and no byte at the end.
 fn expect_end(slice: &RopeSlice<'_>, char_idx: usize, place: Place) -> Result<(), Failure> {
     same!(slice.get_char(char_idx), None);
-    same!(slice.get_byte(place.byte), None);
-    Ok(())
+    let byte = slice.get_byte(place.byte);
+    expect_same("the byte at the end", &byte, &None)
 }
 
 /// A chunk, and the bytes, characters and line breaks before it.
@@ -144,8 +145,6 @@ fn expect_chunk_at_break(
     let (start, end) = plain.chunk_at_line_break(line);
     let chars = plain.part(start, end).text;
     let found = slice.get_chunk_at_line_break(line);
-    within(
-        format_args!("line break {line}"),
-        expect_chunk(found, chars, plain.counts_before(start)),
-    )
+    let outcome = expect_chunk(found, chars, plain.counts_before(start));
+    at("line break", line, outcome)
 }

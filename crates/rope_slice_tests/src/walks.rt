@@ -3,6 +3,7 @@
 use crate::plain_cursor::PlainCursor;
 use crate::plain_slice::PlainSlice;
 use crate::random_slices::{edited, random_range, slice_of};
+use crate::rows::{at, at_turn};
 use crate::slice_model::expect_whole;
 use crate::walker::{Item, Walker};
 use rope_plain::compare::SETS;
@@ -159,10 +160,8 @@ fn expect_walk<'a, W: Walker<'a>>(
 ) -> Result<(), Failure> {
     let mut plain = partner;
     for step in 0..STEPS {
-        within(
-            format_args!("step {step}"),
-            expect_random_step(numbers, walker, &mut plain, items),
-        )?;
+        let outcome = expect_random_step(numbers, walker, &mut plain, items);
+        at("step", step, outcome)?;
     }
     Ok(())
 }
@@ -225,31 +224,23 @@ fn expect_walks(
     slice: &RopeSlice<'_>,
     items: &Items<'_>,
 ) -> Result<(), Failure> {
-    let chars = items.plain.text.len();
-    let char_idx = numbers.up_to(chars);
+    let end = items.plain.text.len();
+    let char_idx = numbers.up_to(end);
     let line_idx = numbers.up_to(items.line_count());
     let from_start = PlainCursor::at(items.ends.len(), 0);
-    within(
-        format_args!("bytes from character {char_idx}"),
-        expect_walk_over_bytes(numbers, slice, items, char_idx),
-    )?;
-    within(
-        format_args!("chars from character {char_idx}"),
-        expect_walk_over_chars(numbers, slice, items, char_idx),
-    )?;
-    within(
-        format_args!("lines from line {line_idx}"),
-        expect_walk_over_lines(numbers, slice, items, line_idx),
-    )?;
+    let bytes = expect_walk_over_bytes(numbers, slice, items, char_idx);
+    at("bytes from character", char_idx, bytes)?;
+    let chars = expect_walk_over_chars(numbers, slice, items, char_idx);
+    at("chars from character", char_idx, chars)?;
+    let lines = expect_walk_over_lines(numbers, slice, items, line_idx);
+    at("lines from line", line_idx, lines)?;
     within(
         "chunks from the start",
         expect_walk(numbers, &mut slice.chunks(), from_start, items),
     )?;
-    within(
-        format_args!("chunks from character {char_idx}"),
-        expect_walk_over_chunks(numbers, slice, items, char_idx),
-    )?;
-    expect_walk_over_chunks(numbers, slice, items, chars)
+    let chunks = expect_walk_over_chunks(numbers, slice, items, char_idx);
+    at("chunks from character", char_idx, chunks)?;
+    expect_walk_over_chunks(numbers, slice, items, end)
 }
 
 /// Fails unless walks over a slice succeed, if there is one.
@@ -259,8 +250,8 @@ fn expect_walks_over_slice(
     slice: Option<RopeSlice<'_>>,
     plain: PlainSlice<'_>,
 ) -> Result<(), Failure> {
-    let items = Items::new(alloc, plain)?;
     let slice = some!(slice);
+    let items = Items::new(alloc, plain)?;
     expect_walks(numbers, &slice, &items)
 }
 
@@ -308,37 +299,13 @@ fn expect_walks_over_text(
     expect_walks_over_slice(alloc, numbers, Some(slice), all)
 }
 
-/// Fails unless walks over random ropes succeed, by each set of line breaks.
-fn expect_walks_over_ropes(alloc: Global, numbers: &mut Numbers) -> Result<(), Failure> {
-    for breaks in SETS {
-        within(
-            format_args!("line breaks {breaks:?}"),
-            expect_walks_over_rope(alloc, numbers, breaks),
-        )?;
-    }
-    Ok(())
-}
-
 #[test]
 fn cursors_over_slices_of_ropes_step_as_plain_ones(rt: HostRuntime) -> Result<(), Failure> {
     let seed = 0x2545_F491_4F6C_DD1D;
     let mut numbers = Numbers::new(seed);
-    for round in 0..115usize {
-        within(
-            format_args!("seed {seed:#x}, round {round}"),
-            expect_walks_over_ropes(rt.alloc(), &mut numbers),
-        )?;
-    }
-    Ok(())
-}
-
-/// Fails unless walks over random plain texts succeed, by each set of line breaks.
-fn expect_walks_over_texts(alloc: Global, numbers: &mut Numbers) -> Result<(), Failure> {
-    for breaks in SETS {
-        within(
-            format_args!("line breaks {breaks:?}"),
-            expect_walks_over_text(alloc, numbers, breaks),
-        )?;
+    for turn in 0..3 * 115usize {
+        let outcome = expect_walks_over_rope(rt.alloc(), &mut numbers, SETS[turn % 3]);
+        at_turn(seed, turn, outcome)?;
     }
     Ok(())
 }
@@ -347,11 +314,9 @@ fn expect_walks_over_texts(alloc: Global, numbers: &mut Numbers) -> Result<(), F
 fn cursors_over_plain_texts_step_as_plain_ones(rt: HostRuntime) -> Result<(), Failure> {
     let seed = 0x8CB9_2BA7_2F3D_8DD7;
     let mut numbers = Numbers::new(seed);
-    for round in 0..330usize {
-        within(
-            format_args!("seed {seed:#x}, round {round}"),
-            expect_walks_over_texts(rt.alloc(), &mut numbers),
-        )?;
+    for turn in 0..3 * 330usize {
+        let outcome = expect_walks_over_text(rt.alloc(), &mut numbers, SETS[turn % 3]);
+        at_turn(seed, turn, outcome)?;
     }
     Ok(())
 }

@@ -1,6 +1,5 @@
 //! The numbers of nodes and levels of a tree built of a whole text.
-use rope_plain::failure::Failure;
-use rope_plain::same;
+use rope_plain::failure::{Failure, expect_same};
 use rope_text::LineBreaks;
 use rope_tree::Maker;
 use rope_tree::build::build;
@@ -28,17 +27,15 @@ fn counts_of_lines(alloc: Global, lines: usize) -> Result<(u64, [usize; 4]), All
 fn a_tree_gets_a_level_past_24_leaves_and_the_empty_text_a_leaf(
     rt: HostRuntime,
 ) -> Result<(), Failure> {
-    same!(
+    let found = [
         counts_of_lines(rt.alloc(), 2952),
-        Ok((25, [1, 23_616, 23_616, 2952]))
-    );
-    same!(
         counts_of_lines(rt.alloc(), 2953),
-        Ok((28, [2, 23_624, 23_624, 2953]))
-    );
-    same!(
         counts(rt.alloc(), "", LineBreaks::Unicode),
-        Ok((1, [0, 0, 0, 0]))
-    );
-    Ok(())
+    ];
+    let expected = [
+        Ok((25, [1, 23_616, 23_616, 2952])),
+        Ok((28, [2, 23_624, 23_624, 2953])),
+        Ok((1, [0, 0, 0, 0])),
+    ];
+    expect_same("the counts", &found, &expected)
 }

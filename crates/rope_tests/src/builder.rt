@@ -1,6 +1,7 @@
 //! Ropes that a builder makes of pieces, against rows worked by hand and plain lists of characters.
+use crate::rows::at_round;
 use rope_plain::compare::{SETS, expect_few_chunks, expect_plain, lens};
-use rope_plain::failure::{Failure, within};
+use rope_plain::failure::{Failure, expect_same, within};
 use rope_plain::numbers::Numbers;
 use rope_plain::same;
 use rope_plain::texts::random_text;
@@ -81,8 +82,7 @@ fn append_all(builder: &mut RopeBuilder) -> ropey::Result<()> {
 /// Fails unless a rope has these lengths, and begins with this chunk.
 fn expect_lens(rope: &Rope, expected: [usize; 4], chunk: Option<&str>) -> Result<(), Failure> {
     same!(lens(rope), expected);
-    same!(rope.chunks().next(), chunk);
-    Ok(())
+    expect_same("the first chunk", &rope.chunks().next(), &chunk)
 }
 
 #[test]
@@ -138,29 +138,14 @@ fn expect_built_at_random(
 /// The start of the random sequence.
 const SEED: u64 = 0x9E37_79B9_7F4A_7C15;
 
-/// Fails unless ropes of many pieces are right, by each set of line breaks.
-fn expect_built_at_random_by_each_set(
-    rt: &impl Abort,
-    alloc: Global,
-    numbers: &mut Numbers,
-) -> Result<(), Failure> {
-    for breaks in SETS {
-        within(
-            format_args!("line breaks {breaks:?}"),
-            expect_built_at_random(rt, alloc, numbers, breaks),
-        )?;
-    }
-    Ok(())
-}
-
 #[test]
 fn a_builder_makes_the_text_of_random_pieces(rt: HostRuntime) -> Result<(), Failure> {
     let mut numbers = Numbers::new(SEED);
-    for round in 0..100usize {
-        within(
-            format_args!("seed {SEED:#x}, round {round}"),
-            expect_built_at_random_by_each_set(&rt, rt.alloc(), &mut numbers),
-        )?;
+    for turn in 0..300usize {
+        let breaks = SETS[turn % 3];
+        let built = expect_built_at_random(&rt, rt.alloc(), &mut numbers, breaks);
+        let outcome = within(format_args!("line breaks {breaks:?}"), built);
+        at_round(SEED, turn / 3, outcome)?;
     }
     Ok(())
 }

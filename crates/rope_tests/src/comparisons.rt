@@ -1,6 +1,7 @@
 //! Equality and order, which depend on the text, not on its chunks.
 use crate::ropes::rope_of;
-use rope_plain::failure::{Failure, within};
+use crate::rows::at_round;
+use rope_plain::failure::{Failure, expect_same};
 use rope_plain::numbers::Numbers;
 use rope_plain::same;
 use rope_plain::texts::random_text;
@@ -26,17 +27,16 @@ fn hash_of<T: Hash>(value: &T) -> u64 {
 
 /// Fails unless the ropes are equal as the texts are, and so are slices of them and their hashes.
 fn expect_equal_as_texts((a, b): (&Rope, &Rope), (s, t): (&str, &str)) -> Result<(), Failure> {
-    let slice = RopeSlice::from(s);
+    let (slice, other) = (RopeSlice::from(s), b.slice(..));
     let are_equal = [
         a == b,
         a.eq_str(t),
         hash_of(a) == hash_of(b),
-        slice == b.slice(..),
-        b.slice(..).eq_str(s),
+        slice == other,
+        other.eq_str(s),
     ];
     same!(are_equal, [s == t; 5]);
-    same!(hash_of(&slice), hash_of(a));
-    Ok(())
+    expect_same("hash_of(&slice)", &hash_of(&slice), &hash_of(a))
 }
 
 /// Fails unless the ropes are ordered as the texts are, in both directions, and so are slices of
@@ -49,8 +49,8 @@ fn expect_ordered_as_texts((a, b): (&Rope, &Rope), (s, t): (&str, &str)) -> Resu
         Some(b.cmp(a)),
     ];
     let order = Some(s.cmp(t));
-    same!(orders, [order, order, order, Some(t.cmp(s))]);
-    Ok(())
+    let expected = [order, order, order, Some(t.cmp(s))];
+    expect_same("orders", &orders, &expected)
 }
 
 /// Fails unless the ropes compare as the texts do.
@@ -113,10 +113,8 @@ const SEED: u64 = 0x9E37_79B9_7F4A_7C15;
 fn random_ropes_compare_as_their_texts(rt: HostRuntime) -> Result<(), Failure> {
     let mut numbers = Numbers::new(SEED);
     for round in 0..6 {
-        within(
-            format_args!("seed {SEED:#x}, round {round}"),
-            expect_random_compared(&rt, rt.alloc(), &mut numbers),
-        )?;
+        let outcome = expect_random_compared(&rt, rt.alloc(), &mut numbers);
+        at_round(SEED, round, outcome)?;
     }
     Ok(())
 }

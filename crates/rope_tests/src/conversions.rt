@@ -1,5 +1,7 @@
 //! The counts and conversions of plain texts against the model.
-use rope_plain::failure::{Failure, within};
+use crate::rows::at;
+use rope_plain::compare::SETS;
+use rope_plain::failure::{Failure, expect_same};
 use rope_plain::sums::plus;
 use rope_plain::{plain_text, same};
 use rope_text::{LineBreaks, TextInfo, str_utils};
@@ -30,7 +32,7 @@ impl Sample {
     /// Adds `padding` letters `a`.
     fn add_padding(&mut self, padding: usize) -> Result<(), Failure> {
         for round in 0..padding {
-            within(format_args!("round {round}"), self.add('a'))?;
+            at("round", round, self.add('a'))?;
         }
         Ok(())
     }
@@ -39,7 +41,7 @@ impl Sample {
     fn add_text(&mut self, len: usize, number: usize) -> Result<(), Failure> {
         let mut rest = number;
         for round in 0..len {
-            within(format_args!("round {round}"), self.add(LETTERS[rest % 9]))?;
+            at("round", round, self.add(LETTERS[rest % 9]))?;
             rest /= 9;
         }
         Ok(())
@@ -58,8 +60,7 @@ fn expect_counts(text: &str, chars: &[char]) -> Result<(), Failure> {
         plain_text::char_to_utf16(chars, chars.len()),
         plain_text::surrogates_before(chars, chars.len()),
     ];
-    same!(found, expected);
-    Ok(())
+    expect_same("the counts", &found, &expected)
 }
 
 /// Fails unless a byte and a code unit convert to their characters.
@@ -76,8 +77,7 @@ fn expect_chars_at(text: &str, chars: &[char], byte: usize, unit: usize) -> Resu
         plain_text::surrogates_before(chars, place),
         plain_text::utf16_to_char(chars, unit),
     ];
-    same!(found, expected);
-    Ok(())
+    expect_same("character, pairs, character", &found, &expected)
 }
 
 /// Fails unless a character starts at its byte and its code unit, and these and the next ones
@@ -98,7 +98,7 @@ fn expect_place(text: &str, chars: &[char], i: usize) -> Result<(), Failure> {
 /// character to another.
 fn expect_places(text: &str, chars: &[char], (from, to): (usize, usize)) -> Result<(), Failure> {
     for i in from..=to {
-        within(format_args!("i {i}"), expect_place(text, chars, i))?;
+        at("i", i, expect_place(text, chars, i))?;
     }
     expect_counts(text, chars)
 }
@@ -111,8 +111,7 @@ fn expect_line(text: &str, chars: &[char], i: usize, breaks: LineBreaks) -> Resu
         str_utils::char_to_line_with(text, i, breaks),
         str_utils::byte_to_line_with(text, byte, breaks),
     ];
-    same!(found, [line, line]);
-    Ok(())
+    expect_same("the lines", &found, &[line, line])
 }
 
 /// Fails unless a line starts at its character and its byte.
@@ -127,8 +126,8 @@ fn expect_start(
         str_utils::line_to_char_with(text, line, breaks),
         str_utils::line_to_byte_with(text, line, breaks),
     ];
-    same!(found, [start, plain_text::char_to_byte(chars, start)]);
-    Ok(())
+    let expected = [start, plain_text::char_to_byte(chars, start)];
+    expect_same("the starts", &found, &expected)
 }
 
 /// Fails unless the characters from one to another are on their lines.
@@ -139,7 +138,7 @@ fn expect_lines_between(
     breaks: LineBreaks,
 ) -> Result<(), Failure> {
     for i in from..=to {
-        within(format_args!("i {i}"), expect_line(text, chars, i, breaks))?;
+        at("i", i, expect_line(text, chars, i, breaks))?;
     }
     Ok(())
 }
@@ -152,29 +151,26 @@ fn expect_info(text: &str, chars: &[char], breaks: LineBreaks) -> Result<(), Fai
         utf16_surrogates: plain_text::surrogates_before(chars, chars.len()),
         break_count: plain_text::char_to_line(chars, chars.len(), breaks),
     };
-    same!(TextInfo::from_str(text, breaks), info);
-    Ok(())
+    let found = TextInfo::from_str(text, breaks);
+    expect_same("TextInfo::from_str", &found, &info)
 }
 
 /// Fails unless all lines start where they should, and two past the last.
 fn expect_starts(text: &str, chars: &[char], breaks: LineBreaks) -> Result<(), Failure> {
     let break_count = plain_text::char_to_line(chars, chars.len(), breaks);
     for line in 0..=plus(break_count, 2) {
-        within(
-            format_args!("line {line}"),
-            expect_start(text, chars, line, breaks),
-        )?;
+        at("line", line, expect_start(text, chars, line, breaks))?;
     }
-    same!(str_utils::count_breaks(text, breaks), break_count);
-    Ok(())
+    let found = str_utils::count_breaks(text, breaks);
+    expect_same("count_breaks", &found, &break_count)
 }
 
 /// Fails unless lines are right, by each set of line breaks.
 fn expect_lines(text: &str, chars: &[char], places: (usize, usize)) -> Result<(), Failure> {
-    for breaks in [LineBreaks::Lf, LineBreaks::CrLf, LineBreaks::Unicode] {
-        expect_lines_between(text, chars, places, breaks)?;
-        expect_starts(text, chars, breaks)?;
-        expect_info(text, chars, breaks)?;
+    for breaks in &SETS {
+        expect_lines_between(text, chars, places, *breaks)?;
+        expect_starts(text, chars, *breaks)?;
+        expect_info(text, chars, *breaks)?;
     }
     Ok(())
 }
@@ -209,10 +205,7 @@ fn expect_right_of_length(
     count: usize,
 ) -> Result<(), Failure> {
     for number in 0..count {
-        within(
-            format_args!("number {number}"),
-            expect_right(alloc, padding, len, number),
-        )?;
+        at("number", number, expect_right(alloc, padding, len, number))?;
     }
     Ok(())
 }
@@ -234,10 +227,7 @@ fn expect_right_after(
 ) -> Result<(), Failure> {
     for before in first..end {
         let padding = Padding { before, after };
-        within(
-            format_args!("after {before} letters"),
-            expect_all_right(alloc, padding, counts),
-        )?;
+        at("letters", before, expect_all_right(alloc, padding, counts))?;
     }
     Ok(())
 }

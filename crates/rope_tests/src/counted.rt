@@ -1,7 +1,8 @@
 //! The counts of lookups in ropes of known depth.
-use crate::ropes::rope_of_repeated;
+use crate::ropes::{chunk_count, rope_of_repeated};
+use crate::rows::at;
 use rope_plain::compare::lens;
-use rope_plain::failure::{Failure, within};
+use rope_plain::failure::{Failure, expect_same};
 use rope_plain::{holds, same};
 use ropey::{Rope, Steps};
 
@@ -88,12 +89,12 @@ impl Lookup {
 fn expect_two_levels(rope: &Rope) -> Result<(), Failure> {
     let counts = [
         rope.len_bytes(),
-        rope.chunks().count(),
+        chunk_count(rope),
         rope.depth(),
         rope.capacity(),
     ];
-    same!(counts, [20_000, 21, 1, 20_664]);
-    Ok(())
+    let expected = [20_000, 21, 1, 20_664];
+    expect_same("bytes, chunks, depth, capacity", &counts, &expected)
 }
 
 /// Fails unless each byte is found through two nodes, and by at most five comparisons.
@@ -105,8 +106,7 @@ fn expect_bytes_found(rope: &Rope) -> Result<(), Failure> {
         same!(steps.nodes, 2);
         most = most.max(steps.compares);
     }
-    same!(most, 5);
-    Ok(())
+    expect_same("most", &most, &5)
 }
 
 fn expect_bytes_found_in_two_levels(rope: &Rope) -> Result<(), Failure> {
@@ -144,7 +144,7 @@ fn expect_all_found(rope: &Rope) -> Result<(), Failure> {
 
 fn expect_all_found_in_two_levels(rope: &Rope) -> Result<(), Failure> {
     same!(lens(rope), [20_000, 20_000, 10_001, 20_000]);
-    same!([rope.chunks().count(), rope.depth()], [21, 1]);
+    same!([chunk_count(rope), rope.depth()], [21, 1]);
     expect_all_found(rope)
 }
 
@@ -170,7 +170,7 @@ fn expect_found_in_four_levels(
 }
 
 fn expect_char_found_in_four_levels(rope: &Rope) -> Result<(), Failure> {
-    holds!((1_017..=1_020).contains(&rope.chunks().count()));
+    holds!((1_017..=1_020).contains(&chunk_count(rope)));
     same!(rope.depth(), 3);
     expect_found_in_four_levels(rope, Lookup::CharToByte, 500_000, 500_000)
 }
@@ -195,13 +195,10 @@ const IN_THE_MIDDLE: [(Lookup, usize, usize); 8] = [
 
 fn expect_converted_in_four_levels(rope: &Rope) -> Result<(), Failure> {
     for (row, (lookup, place, expected)) in IN_THE_MIDDLE.iter().enumerate() {
-        within(
-            format_args!("row {row}"),
-            expect_found_in_four_levels(rope, *lookup, *place, *expected),
-        )?;
+        let outcome = expect_found_in_four_levels(rope, *lookup, *place, *expected);
+        at("row", row, outcome)?;
     }
-    same!(rope.depth(), 3);
-    Ok(())
+    expect_same("rope.depth()", &rope.depth(), &3)
 }
 
 #[test]

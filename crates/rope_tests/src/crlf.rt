@@ -1,5 +1,5 @@
 //! Positions where a text may be cut.
-use rope_plain::failure::Failure;
+use rope_plain::failure::{Failure, expect_same};
 use rope_plain::same;
 use rope_text::crlf::{
     find_good_split, is_break, nearest_internal_break, next_break, prev_break, seam_is_break,
@@ -18,8 +18,8 @@ fn a_cut_lies_beside_a_pair() -> Result<(), Failure> {
         is_break(19, text),
     ];
     same!(breaks, [false, false, true, true, true, true, true]);
-    same!([prev_break(14, text), next_break(12, text)], [12, 14]);
-    Ok(())
+    let found = [prev_break(14, text), next_break(12, text)];
+    expect_same("the previous and the next", &found, &[12, 14])
 }
 
 #[test]
@@ -38,6 +38,5 @@ fn the_nearest_cut_is_found() -> Result<(), Failure> {
         nearest_internal_break(2, pair),
         find_good_split(1, "こ".as_bytes(), true),
     ];
-    same!(cuts, [2, 2, 2, 14, 14, 14, 2, 2, 2, 3]);
-    Ok(())
+    expect_same("cuts", &cuts, &[2, 2, 2, 14, 14, 14, 2, 2, 2, 3])
 }

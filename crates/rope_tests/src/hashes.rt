@@ -3,7 +3,7 @@ ghost use Rattle.std.specs.Prelude.{◌+◌, ◌*◌, ◌%◌, ◌^◌, length};
 ghost use Rattle.rope_tests.specs.Writes.{first_or};
 
 use crate::ropes::{rope_of, rope_of_repeated};
-use rope_plain::failure::Failure;
+use rope_plain::failure::{Failure, expect_same};
 use rope_plain::same;
 use ropey::{Rope, RopeSlice};
 use std::alloc::Global;
@@ -50,11 +50,8 @@ fn writes_of<T: Hash>(value: &T) -> (u64, u8) {
 }
 
 fn expect_hashed_as_empty(rope: &Rope) -> Result<(), Failure> {
-    same!(
-        [writes_of(rope), writes_of(&RopeSlice::from(""))],
-        [(1, 0xff); 2]
-    );
-    Ok(())
+    let found = [writes_of(rope), writes_of(&RopeSlice::from(""))];
+    expect_same("the writes", &found, &[(1, 0xff); 2])
 }
 
 #[test]
@@ -73,11 +70,8 @@ fn type_letters(rope: &mut Rope) -> Result<(), Failure> {
 fn expect_all_hashed_alike(made: &Rope, typed: &Rope) -> Result<(), Failure> {
     same!(*made, *typed);
     same!(made.cmp(typed), Ordering::Equal);
-    same!(
-        [writes_of(made), writes_of(typed)],
-        [(256_001_001, 0xff); 2]
-    );
-    Ok(())
+    let found = [writes_of(made), writes_of(typed)];
+    expect_same("the writes", &found, &[(256_001_001, 0xff); 2])
 }
 
 /// Fails unless a typed text is hashed as one that was made at once, and without its first letter
@@ -86,8 +80,7 @@ fn expect_hashed_alike(made: &Rope, typed: &mut Rope) -> Result<(), Failure> {
     type_letters(typed)?;
     expect_all_hashed_alike(made, typed)?;
     typed.try_remove(..1)?;
-    same!(writes_of(typed), (256_001, 0xff));
-    Ok(())
+    expect_same("writes_of(typed)", &writes_of(typed), &(256_001, 0xff))
 }
 
 fn expect_hashed_as_typed(rt: &impl Abort, alloc: Global, made: &Rope) -> Result<(), Failure> {

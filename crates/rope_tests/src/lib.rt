@@ -41,6 +41,8 @@ mod removal;
 #[cfg(test)]
 mod ropes;
 #[cfg(test)]
+mod rows;
+#[cfg(test)]
 mod str_utils;
 #[cfg(test)]
 mod texts_out;

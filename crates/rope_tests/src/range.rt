@@ -1,5 +1,5 @@
 //! Index ranges of each kind, and the errors of bad ones.
-use rope_plain::failure::Failure;
+use rope_plain::failure::{Failure, expect_same};
 use rope_plain::same;
 use rope_plain::texts::expect_shown;
 use rope_text::range::char_bounds;
@@ -32,8 +32,7 @@ fn each_kind_of_range_has_its_bounds() -> Result<(), Failure> {
         [Some(1), Some(usize::MAX)],
         [None, Some(usize::MAX)],
     ];
-    same!(ranges, expected);
-    Ok(())
+    expect_same("ranges", &ranges, &expected)
 }
 
 #[test]

@@ -1,5 +1,5 @@
 //! Characters removed from one leaf.
-use rope_plain::failure::Failure;
+use rope_plain::failure::{Failure, expect_same};
 use rope_plain::same;
 use rope_text::LineBreaks;
 use rope_tree::build::build;
@@ -32,16 +32,16 @@ fn expect_removed_in_place(alloc: Global, root: &mut Node) -> Result<(), Failure
     let mut editor = Editor::new(alloc);
     same!(remove(&mut editor, root, 4000, 4008), Ok(true));
     same!(editor.maker.made, 0);
-    same!([root.info().bytes, root.info().break_count], [7992, 999]);
-    Ok(())
+    let counts = [root.info().bytes, root.info().break_count];
+    expect_same("bytes and breaks", &counts, &[7992, 999])
 }
 
 fn expect_copied(alloc: Global, root: &mut Node, other: &Node) -> Result<(), Failure> {
     let mut editor = Editor::new(alloc);
     same!(remove(&mut editor, root, 4003, 4005), Ok(true));
     same!(editor.maker.made, 2);
-    same!([root.info().chars, other.info().chars], [7990, 7992]);
-    Ok(())
+    let lens = [root.info().chars, other.info().chars];
+    expect_same("the lengths", &lens, &[7990, 7992])
 }
 
 fn expect_removed_by_copies(
@@ -67,28 +67,32 @@ fn characters_are_removed_in_place_or_from_copies(rt: HostRuntime) -> Result<(),
 fn expect_two_leaves_kept(alloc: Global, root: &mut Node) -> Result<(), Failure> {
     let mut editor = Editor::new(alloc);
     same!(remove(&mut editor, root, 0, 2000), Ok(false));
-    same!(root.info().chars, 8000);
-    Ok(())
+    expect_same("root.info().chars", &root.info().chars, &8000)
 }
 
 fn expect_whole_leaf_kept(alloc: Global, leaf: &mut Node) -> Result<(), Failure> {
     let mut editor = Editor::new(alloc);
-    same!(remove(&mut editor, leaf, 0, 6), Ok(false));
-    same!(remove(&mut editor, leaf, 1, 6), Ok(true));
-    same!(leaf.info().bytes, 1);
-    Ok(())
+    let removed = [
+        remove(&mut editor, leaf, 0, 6),
+        remove(&mut editor, leaf, 1, 6),
+    ];
+    same!(removed, [Ok(false), Ok(true)]);
+    expect_same("leaf.info().bytes", &leaf.info().bytes, &1)
 }
 
 // Leaves of 984 bytes: at a leaf's ends no LF may come first and no CR last; inside they may meet.
 fn expect_pairs_kept_at_ends(alloc: Global, root: &mut Node) -> Result<(), Failure> {
     let mut editor = Editor::new(alloc);
-    same!(remove(&mut editor, root, 983, 984), Ok(false));
-    same!(remove(&mut editor, root, 984, 991), Ok(false));
-    same!(remove(&mut editor, root, 982, 984), Ok(true));
+    let removed = [
+        remove(&mut editor, root, 983, 984),
+        remove(&mut editor, root, 984, 991),
+        remove(&mut editor, root, 982, 984),
+    ];
+    same!(removed, [Ok(false), Ok(false), Ok(true)]);
     same!(root.info().break_count, 999);
     same!(remove(&mut editor, root, 7, 15), Ok(true));
-    same!([root.info().break_count, root.info().chars], [998, 7990]);
-    Ok(())
+    let counts = [root.info().break_count, root.info().chars];
+    expect_same("breaks and characters", &counts, &[998, 7990])
 }
 
 #[test]

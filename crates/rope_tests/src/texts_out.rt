@@ -1,8 +1,8 @@
 //! Texts copied, shown and borrowed from ropes and slices.
 use crate::ropes::rope_of;
-use rope_plain::failure::Failure;
+use rope_plain::failure::{Failure, expect_same};
+use rope_plain::some;
 use rope_plain::texts::{expect_shown, repeated};
-use rope_plain::{same, some};
 use ropey::{CowStr, Rope, RopeBuilder, RopeSlice};
 use std::alloc::{AllocError, Global};
 use std::process::Abort;
@@ -10,10 +10,7 @@ use std::process::Abort;
 /// Fails unless this text of a rope or slice was borrowed.
 fn expect_borrowed(lent: ropey::Result<CowStr<'_>>, text: &str) -> Result<(), Failure> {
     match lent {
-        Ok(CowStr::Borrowed(lent)) => {
-            same!(lent, text);
-            Ok(())
-        }
+        Ok(CowStr::Borrowed(lent)) => expect_same("lent", &lent, &text),
         Ok(CowStr::Owned(_)) | Err(_) => Err(Failure::new("not borrowed")),
     }
 }
@@ -21,10 +18,7 @@ fn expect_borrowed(lent: ropey::Result<CowStr<'_>>, text: &str) -> Result<(), Fa
 /// Fails unless this text of a rope or slice was copied, where it might have been borrowed.
 fn expect_owned(copied: ropey::Result<CowStr<'_>>, text: &str) -> Result<(), Failure> {
     match copied {
-        Ok(CowStr::Owned(copy)) => {
-            same!(copy.as_str(), text);
-            Ok(())
-        }
+        Ok(CowStr::Owned(copy)) => expect_same("copy", &copy.as_str(), &text),
         Ok(CowStr::Borrowed(_)) | Err(_) => Err(Failure::new("not copied")),
     }
 }
@@ -32,8 +26,7 @@ fn expect_owned(copied: ropey::Result<CowStr<'_>>, text: &str) -> Result<(), Fai
 /// Fails unless this text was copied.
 fn expect_copy(copied: ropey::Result<String>, text: &str) -> Result<(), Failure> {
     let copy = copied?;
-    same!(copy.as_str(), text);
-    Ok(())
+    expect_same("copy", &copy.as_str(), &text)
 }
 
 fn expect_part_borrowed(alloc: Global, slice: Option<RopeSlice<'_>>) -> Result<(), Failure> {

@@ -1,9 +1,10 @@
 //! UTF-8 checked at every position of a block: byte strings that Unicode's Table 3-7 classifies.
-use rope_plain::failure::{Failure, within};
+use crate::rows::at;
+use rope_plain::failure::{Failure, expect_same};
 use rope_plain::sums::plus;
 use rope_plain::{holds, same};
 use rope_text::utf8::{front, text_of, valid_len};
-use std::alloc::{AllocFailed, Global};
+use std::alloc::{AllocError, Global};
 
 /// The first and the last character of each row of Table 3-7, and its number of bytes.
 const CHARACTERS: [([u8; 4], usize); 18] = [
@@ -73,14 +74,12 @@ const WRONG: [([u8; 4], usize); 36] = [
 const FILLINGS: [&str; 4] = ["a", "é", "あ", "😀"];
 
 /// Appends `part` to the bytes until they have at least `least`.
-fn fill(bytes: &mut Vec<u8>, part: &[u8], least: usize) -> Result<(), AllocFailed<u8>> {
+fn fill(bytes: &mut Vec<u8>, part: &[u8], least: usize) -> Result<(), AllocError> {
     for _ in 0..least {
         if bytes.len() >= least {
             break;
         }
-        for byte in part {
-            bytes.push(*byte)?;
-        }
+        bytes.extend_from_slice(part)?;
     }
     Ok(())
 }
@@ -98,12 +97,23 @@ fn expect_front(bytes: &[u8], len: usize) -> Result<(), Failure> {
         }
     }
     same!(valid_len(bytes), len);
-    same!(bytes.get(..len), Some(front(bytes).as_bytes()));
-    Ok(())
+    let found = Some(front(bytes).as_bytes());
+    expect_same("front(bytes)", &found, &bytes.get(..len))
 }
 
-/// Fails unless some bytes after a number of bytes of characters are a text or not, as expected, at
-/// the end and before letters.
+/// Fails unless the bytes of a row, appended to others, are a text or not, as expected, at the end
+/// and before letters.
+fn expect_added(bytes: &mut Vec<u8>, row: &[u8], is_text: bool) -> Result<(), Failure> {
+    let before = bytes.len();
+    bytes.extend_from_slice(row)?;
+    let end = bytes.len();
+    expect_front(bytes, if is_text { end } else { before })?;
+    fill(bytes, b"z", plus(end, 40))?;
+    let all = bytes.len();
+    expect_front(bytes, if is_text { all } else { before })
+}
+
+/// Fails unless the bytes of a row are a text or not after a number of bytes of characters.
 fn expect_right(
     alloc: Global,
     filling: &str,
@@ -111,17 +121,10 @@ fn expect_right(
     (given, len): ([u8; 4], usize),
     is_text: bool,
 ) -> Result<(), Failure> {
+    let (row, _) = given.split_at(len.min(4));
     let mut bytes = Vec::new(alloc);
     fill(&mut bytes, filling.as_bytes(), least)?;
-    let before = bytes.len();
-    for byte in given.iter().take(len) {
-        bytes.push(*byte)?;
-    }
-    let end = bytes.len();
-    expect_front(&bytes, if is_text { end } else { before })?;
-    fill(&mut bytes, b"z", plus(end, 40))?;
-    let all = bytes.len();
-    expect_front(&bytes, if is_text { all } else { before })
+    expect_added(&mut bytes, row, is_text)
 }
 
 /// Fails unless all rows are right after a number of bytes.
@@ -131,7 +134,7 @@ fn expect_all_right(
     rows: &[([u8; 4], usize)],
     is_text: bool,
 ) -> Result<(), Failure> {
-    for filling in FILLINGS {
+    for filling in &FILLINGS {
         for row in rows {
             expect_right(alloc, filling, least, *row, is_text)?;
         }
@@ -142,10 +145,8 @@ fn expect_all_right(
 #[test]
 fn characters_are_accepted_at_each_offset_in_a_block(rt: HostRuntime) -> Result<(), Failure> {
     for least in 0..72 {
-        within(
-            format_args!("least {least}"),
-            expect_all_right(rt.alloc(), least, &CHARACTERS, true),
-        )?;
+        let outcome = expect_all_right(rt.alloc(), least, &CHARACTERS, true);
+        at("least", least, outcome)?;
     }
     Ok(())
 }
@@ -153,10 +154,8 @@ fn characters_are_accepted_at_each_offset_in_a_block(rt: HostRuntime) -> Result<
 #[test]
 fn wrong_bytes_are_refused_at_each_offset_in_a_block(rt: HostRuntime) -> Result<(), Failure> {
     for least in 0..72 {
-        within(
-            format_args!("least {least}"),
-            expect_all_right(rt.alloc(), least, &WRONG, false),
-        )?;
+        let outcome = expect_all_right(rt.alloc(), least, &WRONG, false);
+        at("least", least, outcome)?;
     }
     Ok(())
 }
