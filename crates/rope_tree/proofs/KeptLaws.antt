@@ -24,13 +24,13 @@ unset_parts xs front back n k u v d e front_is back_is left right =
     ∙ ap (λ l. front ++ l) (unset back 0 v e right) ∙ ap (λ l. l ++ back) front_is
     ∙ ap (λ l. take n xs ++ l) back_is ∙ take-append-drop n xs
 
-pub kept_seen : (a : Inside) (ts nodes : List Tree) → nodes ≡ a.nodes → listed a ≡ ts
+pub same_seen : (a : Inside) (ts nodes : List Tree) → nodes ≡ a.nodes → listed a ≡ ts
     → take (length a.totals) nodes ≡ ts
-kept_seen a ts nodes same view = ap (take (length a.totals)) same ∙ view
+same_seen a ts nodes same view = ap (take (length a.totals)) same ∙ view
 
-pub kept_listed : (a b : Inside) → IsListed a → b.nodes ≡ a.nodes → b.totals ≡ a.totals
+pub same_listed : (a b : Inside) → IsListed a → b.nodes ≡ a.nodes → b.totals ≡ a.totals
     → b.height ≡ a.height → b.breaks ≡ a.breaks → IsListed b
-kept_listed a b i nodes totals height breaks = record {
+same_listed a b i nodes totals height breaks = record {
   room = rw nodes i.room;
   totals_right = rw (totals, nodes) i.totals_right;
   above = rw (height, totals, nodes) i.above;

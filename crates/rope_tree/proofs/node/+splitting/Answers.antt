@@ -3,7 +3,7 @@ use Rattle.rope_tree.specs.Shape.{IsNode}
 use Rattle.rope_leaf.specs.Tree.{Tree, height_of, breaks_of, tree_over}
 use Rattle.rope_leaf.proofs.Infos.{small_below}
 use Rattle.rope_leaf.proofs.NodeLaws.{small_totals}
-use Rattle.rope_tree.proofs.KeptLaws.{unset, kept_seen, kept_listed, refused, right_within}
+use Rattle.rope_tree.proofs.KeptLaws.{unset, same_seen, same_listed, refused, right_within}
 use Rattle.rope_tree.proofs.ListedLaws.{tallest_above}
 use Rattle.rope_tree.proofs.FormLaws.{inner_of, inner_seen, node_tree, by_outcome, not_tried, tried_in, still_children, grown_children, grown_node}
 use Rattle.rope_tree.proofs.ChildLaws.{Finds, found_at, read, part, child_fits, may, small, still_narrow, fields_after, all_grown}
@@ -203,7 +203,7 @@ Children::insert_splitting-branch_at-place-requires-clause-right t c =
 -- the list is unchanged where the child is
 pub Children::insert_splitting-invariant_of-self : goal.Children::insert_splitting-invariant_of-self
 Children::insert_splitting-invariant_of-self t c =
-    kept_listed c.self.inside _ c.self.invariant
+    same_listed c.self.inside _ c.self.invariant
     (unset c.self.inside.nodes c.branch_at-place.result.place c.insert_splitting.new.self
     c.index-self-place.result c.in_err-insert_splitting.ensures.tried.err) refl refl refl
 
@@ -211,7 +211,7 @@ pub Children::insert_splitting-returns-in_err-insert_splitting-clause-tried :
     goal.Children::insert_splitting-returns-in_err-insert_splitting-clause-tried
 Children::insert_splitting-returns-in_err-insert_splitting-clause-tried t c =
     refused c.from_residual.result c.args.self.now _ c.from_residual.ensures.0
-    (kept_seen c.self.inside c.args.self.now _
+    (same_seen c.self.inside c.args.self.now _
     (unset c.self.inside.nodes c.branch_at-place.result.place c.insert_splitting.new.self
     c.index-self-place.result c.in_err-insert_splitting.ensures.tried.err) c.self.view_is)
 
@@ -225,12 +225,12 @@ same_children : (t : ℕ) (c : Children::insert_splitting-After-info-old t) (u :
     → take (length c.self.inside.totals) (set c.self.inside.nodes c.branch_at-place.result.place u)
     ≡ c.args.self.now
 same_children t c u same =
-    kept_seen c.self.inside c.args.self.now _ (same_nodes t c u same) c.self.view_is
+    same_seen c.self.inside c.args.self.now _ (same_nodes t c u same) c.self.view_is
 
 pub Children::insert_splitting-invariant_of-self-then-not-branch :
     goal.Children::insert_splitting-invariant_of-self-then-not-branch
 Children::insert_splitting-invariant_of-self-then-not-branch t c =
-    kept_listed c.self.inside _ c.self.invariant
+    same_listed c.self.inside _ c.self.invariant
     (unset c.self.inside.nodes c.branch_at-place.result.place c.insert_splitting.new.self
     c.index-self-place.result (c.in_ok-insert_splitting.ensures.tried.kept c.if-not-branch.true))
     refl refl refl

@@ -16,7 +16,7 @@ use Rattle.rope_leaf.proofs.CountLaws.{counts_fall}
 use Rattle.rope_leaf.proofs.GrownLaws.{totals_seen}
 use Rattle.rope_tree.proofs.ListedLaws.{seen_at, set_seen, set_listed}
 use Rattle.rope_tree.proofs.FormLaws.{not_tried}
-use Rattle.rope_tree.proofs.KeptLaws.{unset_parts, kept_seen, kept_listed, refused}
+use Rattle.rope_tree.proofs.KeptLaws.{unset_parts, same_seen, same_listed, refused}
 use Rattle.rope_tree.proofs.LossLaws.{lost, lost_part, lost_fits, lost_totals, lost_twice, enough_after, enough_before, both_set}
 use Rattle.rope_leaf.proofs.NodeLaws.{small_totals, children_of_first, more_at, joined_more, joined_parts}
 use Rattle.rope_leaf.proofs.BesideLaws.{some_next}
@@ -553,7 +553,7 @@ still c u v first second =
 
 pub invariant_of-self : goal.invariant_of-self
 invariant_of-self c =
-    kept_listed c.self.inside _ c.self.invariant
+    same_listed c.self.inside _ c.self.invariant
     (still (goal.at.invariant_of-self c).After-index-back-0 c.shorten_nodes.new.left
     c.shorten_nodes.new.right c.in_err-losses.ensures.err.0 c.in_err-losses.ensures.err.1)
     refl refl refl
@@ -561,7 +561,7 @@ invariant_of-self c =
 pub returns-in_err-losses-clause-tried : goal.returns-in_err-losses-clause-tried
 returns-in_err-losses-clause-tried c =
     refused c.from_residual.result c.args.self.now _ c.from_residual.ensures.0
-    (kept_seen c.self.inside c.args.self.now _
+    (same_seen c.self.inside c.args.self.now _
     (still (goal.at.returns-in_err-losses-clause-tried c).After-index-back-0
     c.shorten_nodes.new.left c.shorten_nodes.new.right c.in_err-losses.ensures.err.0
     c.in_err-losses.ensures.err.1) c.self.view_is)
@@ -569,14 +569,14 @@ returns-in_err-losses-clause-tried c =
 pub invariant_of-self-in_default : goal.invariant_of-self-in_default
 invariant_of-self-in_default c =
     let same = rw c.in_default.is at c.in_ok-losses.ensures.kept in
-    kept_listed c.self.inside _ c.self.invariant
+    same_listed c.self.inside _ c.self.invariant
     (still (goal.at.invariant_of-self-in_default c).After-index-back-0 c.shorten_nodes.new.left
     c.shorten_nodes.new.right same.0 same.1) refl refl refl
 
 pub returns-in_default-clause-tried : goal.returns-in_default-clause-tried
 returns-in_default-clause-tried c =
     let same = rw c.in_default.is at c.in_ok-losses.ensures.kept in
-    not_tried c.args.self.now _ (kept_seen c.self.inside c.args.self.now _
+    not_tried c.args.self.now _ (same_seen c.self.inside c.args.self.now _
     (still (goal.at.returns-in_default-clause-tried c).After-index-back-0
     c.shorten_nodes.new.left c.shorten_nodes.new.right same.0 same.1) c.self.view_is)
 
