@@ -7,6 +7,7 @@ pub mod CutLaws
 pub mod EmptyTrees
 pub mod FormLaws
 pub mod ListedLaws
+pub mod KeptLaws
 pub mod LossLaws
 pub mod ChildLaws
 pub mod LookupDescent

@@ -1,10 +1,13 @@
 -- Each iteration makes a node over the next group of nodes.
-use Rattle.std.proofs.Common.{◌≡◌, ℕ, ◌-◌, ◌*◌, ◌/◌, ◌≤◌, List, [], ◌∷◌, take, length, refl, ap, sym, subst, arith}
+use Rattle.std.proofs.Common.{◌≡◌, ℕ, ◌-◌, ◌*◌, ◌/◌, ◌^◌, ◌<◌, ◌≤◌, List, [], ◌∷◌, take, length, refl, ap, sym, subst, arith}
 use Rattle.std.proofs.lemmas.List.{length-drop, length-append}
 use Rattle.rope_text.specs.declared.line_breaks.LineBreaks.{LineBreaks}
+use Rattle.std.specs.List.{concat}
+use Rattle.rope_text.specs.Text.{byte_len}
+use Rattle.rope_leaf.specs.Leaves.{AreLeaves}
 use Rattle.rope_leaf.specs.Tree.{Tree}
 use Rattle.rope_leaf.proofs.NodeLaws.{children_of_first}
-use Rattle.rope_tree.proofs.BuildLaws.{AreOver, group_children, over_more, back_of}
+use Rattle.rope_tree.proofs.BuildLaws.{AreOver, group_children, over_more, over_same, back_of}
 use Rattle.rope_tree.proofs.BuildLaws.{share_least, share_most, least_after, most_after}
 use Rattle.std.proofs.Math.Nat.{div-le_self}
 use Rattle.rope_tree.proofs.build.level_over.Goals as goal
@@ -76,4 +79,20 @@ loop-groups-preserved c =
         length-append c.loop-groups.level.items (c.in_ok-node_over.field-0 ∷ []),
         c.loop-groups.invariant.made,
       );
+    }
+
+pub returns-clause-leaves : goal.returns-clause-leaves
+returns-clause-leaves c =
+    over_same _ _ _ _ c.loop-groups.rest.now c.loop-groups.invariant.over
+    (omega (arith, c.loop-groups.invariant.most))
+
+pub returns-clause-siblings : goal.returns-clause-siblings
+returns-clause-siblings c =
+    let e =
+    over_same _ _ _ _ c.loop-groups.rest.now c.loop-groups.invariant.over
+    (omega (arith, c.loop-groups.invariant.most)) in
+    record {
+      each = c.loop-groups.invariant.over.each;
+      leaves = subst AreLeaves (sym e) c.requires.siblings.leaves;
+      fits = subst (λ ls. byte_len (concat ls) < 2 ^ 63) (sym e) c.requires.siblings.fits;
     }

@@ -4,6 +4,7 @@ use Rattle.std.proofs.lemmas.Result.{IfOk-weaker}
 use Rattle.rope_leaf.specs.Tree.{IsTree, AreChildren, height_of, breaks_of, tree_over}
 use Rattle.rope_leaf.proofs.TreeLaws.{is_tree_over}
 use Rattle.rope_leaf.proofs.NodeLaws.{children_of_first}
+use Rattle.rope_leaf.proofs.InsertTrees.{siblings_of_first}
 use Rattle.rope_leaf.proofs.SiblingLaws.{children_of}
 use Rattle.rope_tree.proofs.BuildLaws.{level_up}
 use Rattle.rope_tree.proofs.build.root_over.Goals.{After-deref-2}
@@ -49,3 +50,9 @@ returns-clause-tree c =
     IfOk-weaker c.node_over.result _ _
     (λ node is. subst IsTree (sym (is ∙ ap tree_over c.deref-2.ensures.value)) whole)
     c.node_over.ensures.ok
+
+pub level_over-requires-clause-siblings : goal.level_over-requires-clause-siblings
+level_over-requires-clause-siblings c =
+    rw c.deref-in-loop-level.ensures.value
+    (siblings_of_first _ _ c.loop-level.level.items c.loop-level.invariant.some
+    c.loop-level.invariant.siblings)

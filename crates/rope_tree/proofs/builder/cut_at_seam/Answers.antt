@@ -1,8 +1,9 @@
 -- The leaf ends at a legal split position of the two texts' bytes.
-use Rattle.std.proofs.Common.{◌≡◌, min, [], ◌≤◌, ◌-◌, ◌++◌, take, drop, length, ap, sym, ◌∙◌, arith}
+use Rattle.std.proofs.Common.{◌≡◌, min, [], ◌≤◌, ◌-◌, ◌++◌, take, drop, length, ap, sym, subst, ◌∙◌, arith}
+use Rattle.std.proofs.lemmas.Grind.{common_steps}
 use Rattle.std.proofs.lemmas.List.{drop-append-le, length-append}
-use Rattle.std.proofs.lemmas.Str.{chars-append, IsCharBoundary-start}
-use Rattle.std.specs.Str.{chars}
+use Rattle.std.proofs.lemmas.Str.{chars-append, IsCharBoundary-start, IsCharBoundary-from_drop}
+use Rattle.std.specs.Str.{chars, IsUtf8}
 use Rattle.rope_text.proofs.CutOff.{IsCutOff}
 use Rattle.rope_text.proofs.CutFacts.{cut_near}
 use Rattle.rope_text.specs.Text.{byte_len}
@@ -180,3 +181,32 @@ returns-clause-left c =
       ap length c.as_str-first.ensures.bytes,
       c.if-len-first.false,
     )
+
+pub range_from-requires : goal.range_from-requires
+range_from-requires c = grind (arith, common_steps)
+
+pub returns-then-len-first-clause-short : goal.returns-then-len-first-clause-short
+returns-then-len-first-clause-short c =
+    omega (
+      arith,
+      size (goal.at.returns-then-len-first-clause-short c).In_ok-leaf,
+      c.first_leaf_len-len.ensures.short,
+    )
+
+pub returns-clause-short : goal.returns-clause-short
+returns-clause-short c =
+    omega (
+      arith,
+      size (goal.at.returns-clause-short c).In_ok-leaf,
+      c.first_leaf_len-len.ensures.short,
+    )
+
+pub returns-clause-boundary : goal.returns-clause-boundary
+returns-clause-boundary c =
+    let b = (goal.at.returns-clause-boundary c).In_ok-leaf in
+    let p = ahead (goal.at.returns-clause-boundary c).After-range in
+    let first = c.as_str-first.result.now in
+    let r = c.first_leaf_len-len in
+    IsCharBoundary-from_drop c.args.added.now (r.result - length first)
+    (omega (arith, r.ensures.short, ap length c.as_str-first.ensures.bytes, c.requires))
+    (subst IsUtf8 (all_taken first c.args.added.now r.result c.if-len-first.false) (off b p).back)

@@ -12,6 +12,7 @@ use Rattle.rope_leaf.proofs.NodeLaws.{small_totals}
 use Rattle.rope_tree.proofs.ListedLaws.{tallest_above}
 use Rattle.rope_tree.proofs.FormLaws.{inner_of, inner_seen, leaf_seen, node_tree, grown_leaf, by_answer, by_outcome, not_tried, tried_in, still_children, grown_children, grown_node}
 use Rattle.rope_tree.proofs.ChildLaws.{if_idle, Finds, found_at, read, child_fits, may, change_narrow, fields_changed, all_changed, list_changed}
+use Rattle.rope_tree.proofs.KeptLaws.{unset, same_seen, same_listed, refused, right_within}
 use Rattle.rope_tree.proofs.node.+in_place.Goals.{Children::insert_in_place-After-index-self-place-2, Node::insert_in_place-Joined-self, Node::insert_in_place-in-Empty, Node::insert_in_place-in-Leaf+in_ok-own_leaf-in-Leaf+in-Some, Node::insert_in_place-in-Leaf+in_ok-own_leaf-in-Leaf+in-None, Node::insert_in_place-in-Inner+in_ok-own_children-in-Inner+in-Some-get_mut, Node::insert_in_place-in-Inner+in_ok-own_children-in-Inner+in-None-get_mut}
 use Rattle.rope_tree.proofs.node.+in_place.Goals as goal
 
@@ -326,3 +327,40 @@ Children::insert_in_place-returns-clause-searched t c =
     let h = (found t (goal.at.Children::insert_in_place-returns-clause-searched t
     c).After-index-self-place-2).taken.own.at_height in
     record { rise = omega (arith, h); nodes = omega (arith, h); compares = omega (arith, h) }
+
+pub Children::insert_in_place-locate-requires-clause-right :
+    goal.Children::insert_in_place-locate-requires-clause-right
+Children::insert_in_place-locate-requires-clause-right t c =
+    right_within c.args.self.now c.args.at c.args.added.now c.args.to_right c.requires.side
+
+-- the list is unchanged where the child is
+pub Children::insert_in_place-invariant_of-self : goal.Children::insert_in_place-invariant_of-self
+Children::insert_in_place-invariant_of-self t c =
+    same_listed c.self.inside _ c.self.invariant
+    (unset c.self.inside.nodes c.in-Some.descent.place c.insert_in_place.new.self
+    c.index-self-place-2.result c.in_err-insert_in_place.ensures.tried.err) refl refl refl
+
+pub Children::insert_in_place-returns-in_err-insert_in_place-clause-tried :
+    goal.Children::insert_in_place-returns-in_err-insert_in_place-clause-tried
+Children::insert_in_place-returns-in_err-insert_in_place-clause-tried t c =
+    refused c.from_residual.result c.args.self.now _ c.from_residual.ensures.0
+    (same_seen c.self.inside c.args.self.now _
+    (unset c.self.inside.nodes c.in-Some.descent.place c.insert_in_place.new.self
+    c.index-self-place-2.result c.in_err-insert_in_place.ensures.tried.err) c.self.view_is)
+
+pub Children::insert_in_place-invariant_of-self-then-not-branch :
+    goal.Children::insert_in_place-invariant_of-self-then-not-branch
+Children::insert_in_place-invariant_of-self-then-not-branch t c =
+    same_listed c.self.inside _ c.self.invariant
+    (unset c.self.inside.nodes c.in-Some.descent.place c.insert_in_place.new.self
+    c.index-self-place-2.result (c.in_ok-insert_in_place.ensures.tried.kept c.if-not-branch.true))
+    refl refl refl
+
+pub Children::insert_in_place-returns-then-not-branch-clause-tried :
+    goal.Children::insert_in_place-returns-then-not-branch-clause-tried
+Children::insert_in_place-returns-then-not-branch-clause-tried t c =
+    rw c.unchanged-then-not-branch.ensures
+    (not_tried c.args.self.now _ (same_seen c.self.inside c.args.self.now _
+    (unset c.self.inside.nodes c.in-Some.descent.place c.insert_in_place.new.self
+    c.index-self-place-2.result (c.in_ok-insert_in_place.ensures.tried.kept c.if-not-branch.true))
+    c.self.view_is))

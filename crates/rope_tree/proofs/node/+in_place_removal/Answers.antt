@@ -20,6 +20,7 @@ use Rattle.rope_tree.proofs.ListedLaws.{tallest_above}
 use Rattle.rope_tree.proofs.ListedLaws.{set_seen, set_listed, set_totals}
 use Rattle.rope_tree.proofs.FormLaws.{inner_of, inner_seen, leaf_seen, node_tree, fallen_leaf, by_answer, by_outcome, not_tried, tried_in, still_children, removed_children, removed_node}
 use Rattle.rope_leaf.proofs.RemovalLaws.{Holds, holds, byte_len-removed, children_removed}
+use Rattle.rope_tree.proofs.KeptLaws.{unset, same_seen, same_listed, refused}
 use Rattle.rope_tree.proofs.node.+in_place_removal.Goals as goal
 use Rattle.rope_tree.proofs.node.+in_place_removal.Goals.{Children::remove_in_place-After-index-self-place, Node::remove_in_place-Joined-self, Node::remove_in_place-in-Empty, Node::remove_in_place-in-Leaf+in_ok-own_leaf-in-Leaf+in-Some, Node::remove_in_place-in-Leaf+in_ok-own_leaf-in-Leaf+in-None, Node::remove_in_place-in-Inner+in_ok-own_children-in-Inner+in-Some-get_mut, Node::remove_in_place-in-Inner+in_ok-own_children-in-Inner+in-None-get_mut}
 
@@ -459,3 +460,41 @@ Children::remove_in_place-returns-then-not-branch-clause-idle t c =
       c.in_ok-remove_in_place.ensures.idle c.if-not-branch.true,
       d.own.at_height,
     ))
+
+pub Children::remove_in_place-remove_across-requires-clause-inside :
+    goal.Children::remove_in_place-remove_across-requires-clause-inside
+Children::remove_in_place-remove_across-requires-clause-inside t c =
+    let goes = rw c.in-Some.is at c.locate.ensures.goes in
+    λ d. (goes d).inside refl
+
+-- the list is unchanged where the child is
+pub Children::remove_in_place-invariant_of-self : goal.Children::remove_in_place-invariant_of-self
+Children::remove_in_place-invariant_of-self t c =
+    same_listed c.self.inside _ c.self.invariant
+    (unset c.self.inside.nodes c.in-Some.descent.place c.remove_in_place.new.self
+    c.index-self-place.result c.in_err-remove_in_place.ensures.tried.err) refl refl refl
+
+pub Children::remove_in_place-returns-in_err-remove_in_place-clause-tried :
+    goal.Children::remove_in_place-returns-in_err-remove_in_place-clause-tried
+Children::remove_in_place-returns-in_err-remove_in_place-clause-tried t c =
+    refused c.from_residual.result c.args.self.now _ c.from_residual.ensures.0
+    (same_seen c.self.inside c.args.self.now _
+    (unset c.self.inside.nodes c.in-Some.descent.place c.remove_in_place.new.self
+    c.index-self-place.result c.in_err-remove_in_place.ensures.tried.err) c.self.view_is)
+
+pub Children::remove_in_place-invariant_of-self-then-not-branch :
+    goal.Children::remove_in_place-invariant_of-self-then-not-branch
+Children::remove_in_place-invariant_of-self-then-not-branch t c =
+    same_listed c.self.inside _ c.self.invariant
+    (unset c.self.inside.nodes c.in-Some.descent.place c.remove_in_place.new.self
+    c.index-self-place.result (c.in_ok-remove_in_place.ensures.tried.kept c.if-not-branch.true))
+    refl refl refl
+
+pub Children::remove_in_place-returns-then-not-branch-clause-tried :
+    goal.Children::remove_in_place-returns-then-not-branch-clause-tried
+Children::remove_in_place-returns-then-not-branch-clause-tried t c =
+    rw c.unchanged-then-not-branch.ensures
+    (not_tried c.args.self.now _ (same_seen c.self.inside c.args.self.now _
+    (unset c.self.inside.nodes c.in-Some.descent.place c.remove_in_place.new.self
+    c.index-self-place.result (c.in_ok-remove_in_place.ensures.tried.kept c.if-not-branch.true))
+    c.self.view_is))

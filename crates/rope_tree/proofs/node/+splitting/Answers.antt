@@ -1,8 +1,9 @@
-use Rattle.std.proofs.Common.{ℕ, get_or, sym, refl, arith}
+use Rattle.std.proofs.Common.{◌≡◌, ℕ, length, get_or, set, take, sym, refl, ap, arith}
 use Rattle.rope_tree.specs.Shape.{IsNode}
-use Rattle.rope_leaf.specs.Tree.{Tree, breaks_of, tree_over}
+use Rattle.rope_leaf.specs.Tree.{Tree, height_of, breaks_of, tree_over}
 use Rattle.rope_leaf.proofs.Infos.{small_below}
 use Rattle.rope_leaf.proofs.NodeLaws.{small_totals}
+use Rattle.rope_tree.proofs.KeptLaws.{unset, same_seen, same_listed, refused, right_within}
 use Rattle.rope_tree.proofs.ListedLaws.{tallest_above}
 use Rattle.rope_tree.proofs.FormLaws.{inner_of, inner_seen, node_tree, by_outcome, not_tried, tried_in, still_children, grown_children, grown_node}
 use Rattle.rope_tree.proofs.ChildLaws.{Finds, found_at, read, part, child_fits, may, small, still_narrow, fields_after, all_grown}
@@ -193,3 +194,94 @@ Children::insert_splitting-returns-clause-searched t c =
     let h = (found t (goal.at.Children::insert_splitting-returns-clause-searched t
     c).After-info-old).taken.own.at_height in
     record { rise = omega (arith, h); nodes = omega (arith, h); compares = omega (arith, h) }
+
+pub Children::insert_splitting-branch_at-place-requires-clause-right :
+    goal.Children::insert_splitting-branch_at-place-requires-clause-right
+Children::insert_splitting-branch_at-place-requires-clause-right t c =
+    right_within c.args.self.now c.args.at c.args.added.now c.args.to_right c.requires.side
+
+-- the list is unchanged where the child is
+pub Children::insert_splitting-invariant_of-self : goal.Children::insert_splitting-invariant_of-self
+Children::insert_splitting-invariant_of-self t c =
+    same_listed c.self.inside _ c.self.invariant
+    (unset c.self.inside.nodes c.branch_at-place.result.place c.insert_splitting.new.self
+    c.index-self-place.result c.in_err-insert_splitting.ensures.tried.err) refl refl refl
+
+pub Children::insert_splitting-returns-in_err-insert_splitting-clause-tried :
+    goal.Children::insert_splitting-returns-in_err-insert_splitting-clause-tried
+Children::insert_splitting-returns-in_err-insert_splitting-clause-tried t c =
+    refused c.from_residual.result c.args.self.now _ c.from_residual.ensures.0
+    (same_seen c.self.inside c.args.self.now _
+    (unset c.self.inside.nodes c.branch_at-place.result.place c.insert_splitting.new.self
+    c.index-self-place.result c.in_err-insert_splitting.ensures.tried.err) c.self.view_is)
+
+-- the children before the second step, which are those before the first
+same_nodes : (t : ℕ) (c : Children::insert_splitting-After-info-old t) (u : Tree) → u ≡ child t c
+    → set c.self.inside.nodes c.branch_at-place.result.place u ≡ c.self.inside.nodes
+same_nodes t c u same = unset c.self.inside.nodes c.branch_at-place.result.place u
+    c.index-self-place.result same
+
+same_children : (t : ℕ) (c : Children::insert_splitting-After-info-old t) (u : Tree) → u ≡ child t c
+    → take (length c.self.inside.totals) (set c.self.inside.nodes c.branch_at-place.result.place u)
+    ≡ c.args.self.now
+same_children t c u same =
+    same_seen c.self.inside c.args.self.now _ (same_nodes t c u same) c.self.view_is
+
+pub Children::insert_splitting-invariant_of-self-then-not-branch :
+    goal.Children::insert_splitting-invariant_of-self-then-not-branch
+Children::insert_splitting-invariant_of-self-then-not-branch t c =
+    same_listed c.self.inside _ c.self.invariant
+    (unset c.self.inside.nodes c.branch_at-place.result.place c.insert_splitting.new.self
+    c.index-self-place.result (c.in_ok-insert_splitting.ensures.tried.kept c.if-not-branch.true))
+    refl refl refl
+
+pub Children::insert_splitting-split_child-requires-clause-children :
+    goal.Children::insert_splitting-split_child-requires-clause-children
+Children::insert_splitting-split_child-requires-clause-children t c =
+    let same =
+    same_children t (goal.at.Children::insert_splitting-split_child-requires-clause-children t
+    c).After-info-old c.insert_splitting.new.self
+    (c.in_ok-insert_splitting.ensures.tried.kept c.if-not-branch.true) in
+    rw same c.requires.children
+
+pub Children::insert_splitting-split_child-requires-clause-takes :
+    goal.Children::insert_splitting-split_child-requires-clause-takes
+Children::insert_splitting-split_child-requires-clause-takes t c =
+    let same =
+    same_children t (goal.at.Children::insert_splitting-split_child-requires-clause-takes t
+    c).After-info-old c.insert_splitting.new.self
+    (c.in_ok-insert_splitting.ensures.tried.kept c.if-not-branch.true) in
+    rw same c.requires.takes
+
+pub Children::insert_splitting-split_child-requires-clause-side :
+    goal.Children::insert_splitting-split_child-requires-clause-side
+Children::insert_splitting-split_child-requires-clause-side t c =
+    let same =
+    same_children t (goal.at.Children::insert_splitting-split_child-requires-clause-side t
+    c).After-info-old c.insert_splitting.new.self
+    (c.in_ok-insert_splitting.ensures.tried.kept c.if-not-branch.true) in
+    rw same c.requires.side
+
+pub Children::insert_splitting-returns-then-not-branch-clause-tried :
+    goal.Children::insert_splitting-returns-then-not-branch-clause-tried
+Children::insert_splitting-returns-then-not-branch-clause-tried t c =
+    let same =
+    same_children t (goal.at.Children::insert_splitting-returns-then-not-branch-clause-tried t
+    c).After-info-old c.insert_splitting.new.self
+    (c.in_ok-insert_splitting.ensures.tried.kept c.if-not-branch.true) in
+    rw same at c.split_child.ensures.tried
+
+pub Children::insert_splitting-returns-then-not-branch-clause-searched :
+    goal.Children::insert_splitting-returns-then-not-branch-clause-searched
+Children::insert_splitting-returns-then-not-branch-clause-searched t c =
+    let e = (goal.at.Children::insert_splitting-returns-then-not-branch-clause-searched t
+    c).After-info-old in
+    let h = (found t e).taken.own.at_height in
+    let same = ap height_of (same_children t e c.insert_splitting.new.self
+    (c.in_ok-insert_splitting.ensures.tried.kept c.if-not-branch.true)) in
+    let down = c.in_ok-insert_splitting.ensures.idle_searched c.if-not-branch.true in
+    record {
+      rise = omega (arith, down.rise);
+      nodes = omega (arith, h, same, down.nodes);
+      compares = omega (arith, h, same, down.compares);
+    }

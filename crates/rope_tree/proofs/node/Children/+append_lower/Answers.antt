@@ -329,3 +329,19 @@ pub returns-clause-breaks : goal.returns-clause-breaks
 returns-clause-breaks t c =
     let g = (goal.at.returns-clause-breaks t c).After-append_lower-left in
     ap breaks_of (pushed_is g _ c.over.ensures _ c.push.ensures) ∙ now_breaks g
+
+pub push_settled-requires-clause-room : goal.push_settled-requires-clause-room
+push_settled-requires-clause-room t c =
+    let n = (goal.at.push_settled-requires-clause-room t c).In-Some in
+    omega (arith, ap length (is n), length-append (pre n) (tree_over (a n) ∷ []))
+
+pub returns-clause-wide : goal.returns-clause-wide
+returns-clause-wide t c =
+    let n = (goal.at.returns-clause-wide t c).In-Some in
+    omega (
+      arith,
+      ap length c.push.ensures,
+      length-append c.pop_list.new.self (c.over.result ∷ []),
+      ap length (is n),
+      length-append (pre n) (tree_over (a n) ∷ []),
+    )

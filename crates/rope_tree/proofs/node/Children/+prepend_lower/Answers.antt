@@ -463,3 +463,30 @@ returns-clause-breaks t c =
     let k = (goal.at.returns-clause-breaks t c).After-push in
     ap breaks_of (c.take_from-2.ensures.moved
     ∙ ap (λ l. l ++ c.take_from.new.self) (pushed_one k)) ∙ now_breaks (g k)
+
+pub push-requires-clause-room : goal.push-requires-clause-room
+push-requires-clause-room t c =
+    let g = (goal.at.push-requires-clause-room t c).After-prepend_lower-left in
+    omega (arith, ap length (none (n g)))
+
+pub take_from-requires-2-clause-room : goal.take_from-requires-2-clause-room
+take_from-requires-2-clause-room t c =
+    let k = (goal.at.take_from-requires-2-clause-room t c).After-push in
+    omega (
+      arith,
+      ap length (pushed_one k),
+      length-append c.push.new.self c.take_from.new.self,
+      ap length (is (n (g k))),
+      c.requires.children.at_most_24,
+    )
+
+pub returns-clause-wide : goal.returns-clause-wide
+returns-clause-wide t c =
+    let k = (goal.at.returns-clause-wide t c).After-push in
+    omega (
+      arith,
+      ap length c.take_from-2.ensures.moved,
+      length-append c.push.new.self c.take_from.new.self,
+      ap length (pushed_one k),
+      ap length (is (n (g k))),
+    )

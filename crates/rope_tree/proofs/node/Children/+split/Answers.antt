@@ -1,5 +1,5 @@
 use Rattle.std.proofs.Common.{rules, ◌*◌, ◌≡◌, ℕ, ◌+◌, ◌-◌, ◌^◌, ◌<◌, ◌≤◌, true, false, List, [], ◌∷◌, ◌++◌, length, get_or, take, drop, refl, sym, ap, ap₂, subst, ◌∙◌, IfOk, arith}
-use Rattle.std.proofs.lemmas.List.{append_assoc, length-append, length-take-le, get_or-take, take-take}
+use Rattle.std.proofs.lemmas.List.{append_assoc, length-append, length-drop, length-take-le, get_or-take, take-take}
 use Rattle.std.proofs.lemmas.Result.{IfOk-weaker}
 use Rattle.std.proofs.Math.Seq.{get_or-append_seam, take-append_seam}
 use Rattle.rope_text.specs.Text.{byte_len}
@@ -7,6 +7,7 @@ use Rattle.rope_leaf.specs.Tree.{Tree, text, joined, height_of, tree_over, AreFa
 use Rattle.rope_leaf.specs.Siblings.{AreLevel}
 use Rattle.rope_tree.specs.Split.{AreSettled, IsFrontOf, IsBackOf, MayFollow, EndsAs, AreSides}
 use Rattle.rope_leaf.specs.Searched.{HasSearched}
+use Rattle.rope_tree.proofs.ChildLaws.{if_idle}
 use Rattle.rope_tree.proofs.MoveLaws.{AreMovable, movable_left, movable_right, movable_of, movable_after, both_parts}
 use Rattle.rope_tree.proofs.FrontSides.{front_movable, front_enough, front_all, front_side, front_following}
 use Rattle.rope_tree.proofs.BackSides.{back_movable, back_enough, back_all, back_side, back_ahead}
@@ -526,3 +527,79 @@ split-returns-else-not-matches-clause-done t c =
     (subst (λ l. AreSides (length (joined (take (length (o t k) - 2) (o t k)))
     + c.branch_at-place.result.inside) l c.split_list-did.new.self c.split_list-did.new.rest)
     (both t k) (done here))) c.split_list-did.ensures.done)
+
+pub split_list-push_two-requires-clause-room : goal.split_list-push_two-requires-clause-room
+split_list-push_two-requires-clause-room t c =
+    let i = (goal.at.split_list-push_two-requires-clause-room t c).In-Some in
+    omega (
+      arith,
+      long t i,
+      length-append c.args.self.now c.args.rest.now,
+      c.requires.children.at_most_24,
+    )
+
+pub split_list-push_settled-requires-clause-room : goal.split_list-push_settled-requires-clause-room
+split_list-push_settled-requires-clause-room t c =
+    let i = (goal.at.split_list-push_settled-requires-clause-room t c).In-Some in
+    omega (
+      arith,
+      long t i,
+      length-append c.args.self.now c.args.rest.now,
+      c.requires.children.at_most_24,
+    )
+
+pub split_list-prepend_settled-requires-clause-room :
+    goal.split_list-prepend_settled-requires-clause-room
+split_list-prepend_settled-requires-clause-room t c =
+    let i = (goal.at.split_list-prepend_settled-requires-clause-room t c).In-Some in
+    omega (
+      arith,
+      long t i,
+      length-append c.args.self.now c.args.rest.now,
+      c.requires.children.at_most_24,
+    )
+
+pub split_list-push-requires-clause-room : goal.split_list-push-requires-clause-room
+split_list-push-requires-clause-room t c =
+    let o = (goal.at.split_list-push-requires-clause-room t c).After-over in
+    omega (
+      arith,
+      ap length (restored t o c.if-not-matches.true),
+      length-append c.push_two.new.self (c.over.result ∷ []),
+      length-append c.args.self.now c.args.rest.now,
+      c.requires.children.at_most_24,
+    )
+
+pub split_list-returns-then-not-matches-clause-kept :
+    goal.split_list-returns-then-not-matches-clause-kept
+split_list-returns-then-not-matches-clause-kept t c =
+    let o = (goal.at.split_list-returns-then-not-matches-clause-kept t c).After-over in
+    if_idle _ (c.push.ensures ∙ restored t o c.if-not-matches.true, refl)
+
+pub split-take_from-requires-2-clause-room : goal.split-take_from-requires-2-clause-room
+split-take_from-requires-2-clause-room t c =
+    omega (
+      arith,
+      length-append c.args.rest.now (drop (c.branch_at-place.result.place + 2) c.args.self.now),
+      ap length c.requires.none,
+      length-drop (c.branch_at-place.result.place + 2) c.args.self.now,
+      c.requires.children.at_most_24,
+    )
+
+pub split-take_from-requires-then-not-matches-clause-few :
+    goal.split-take_from-requires-then-not-matches-clause-few
+split-take_from-requires-then-not-matches-clause-few t c =
+    let k = (goal.at.split-take_from-requires-then-not-matches-clause-few t c).Joined-matches in
+    subst (λ l. byte_len (joined l) < 2 ^ 32) (sym (whole t k c.if-not-matches.true)) c.requires.few
+
+pub split-take_from-requires-then-not-matches-clause-room :
+    goal.split-take_from-requires-then-not-matches-clause-room
+split-take_from-requires-then-not-matches-clause-room t c =
+    let k = (goal.at.split-take_from-requires-then-not-matches-clause-room t c).Joined-matches in
+    subst (λ l. length l ≤ 24) (sym (whole t k c.if-not-matches.true))
+    c.requires.children.at_most_24
+
+pub split-returns-then-not-matches-clause-kept : goal.split-returns-then-not-matches-clause-kept
+split-returns-then-not-matches-clause-kept t c =
+    let k = (goal.at.split-returns-then-not-matches-clause-kept t c).Joined-matches in
+    if_idle _ (c.take_from-then-not-matches.ensures.moved ∙ whole t k c.if-not-matches.true)

@@ -398,3 +398,23 @@ split_back-returns-clause-back t c =
     → IsWhole (breaks_of (ts k)) (drop p (joined (ts k))) c.split_last.new.rest))
     (omega (arith, last_place k, place k (omega (arith, c.if-at-before.false))))
     c.split_last.ensures.back
+
+pub split_last-push_settled-requires-clause-room : goal.split_last-push_settled-requires-clause-room
+split_last-push_settled-requires-clause-room t c =
+    let i = (goal.at.split_last-push_settled-requires-clause-room t c).In-Some in
+    omega (
+      arith,
+      ap length (is i),
+      length-append (pre i) (tree_over (a i) ∷ tree_over (x i) ∷ []),
+      c.requires.children.at_most_24,
+    )
+
+pub split_last-push_two-requires-clause-room : goal.split_last-push_two-requires-clause-room
+split_last-push_two-requires-clause-room t c =
+    let i = (goal.at.split_last-push_two-requires-clause-room t c).In-Some in
+    omega (
+      arith,
+      ap length (is i),
+      length-append (pre i) (tree_over (a i) ∷ tree_over (x i) ∷ []),
+      c.requires.children.at_most_24,
+    )

@@ -11,10 +11,12 @@ use Rattle.rope_leaf.specs.Totals.{HasTotals, AreBelow}
 use Rattle.rope_leaf.specs.Change.{no_counts, IsChange}
 use Rattle.rope_leaf.specs.Removal.{AreRemoved, AreShortened}
 use Rattle.rope_tree.specs.declared.node.Children.TheInside.{Inside}
-use Rattle.rope_leaf.proofs.ChangeLaws.{change_to}
+use Rattle.rope_leaf.proofs.ChangeLaws.{change_to, fallen_change}
 use Rattle.rope_leaf.proofs.CountLaws.{counts_fall}
 use Rattle.rope_leaf.proofs.GrownLaws.{totals_seen}
 use Rattle.rope_tree.proofs.ListedLaws.{seen_at, set_seen, set_listed}
+use Rattle.rope_tree.proofs.FormLaws.{not_tried}
+use Rattle.rope_tree.proofs.KeptLaws.{unset_parts, same_seen, same_listed, refused}
 use Rattle.rope_tree.proofs.LossLaws.{lost, lost_part, lost_fits, lost_totals, lost_twice, enough_after, enough_before, both_set}
 use Rattle.rope_leaf.proofs.NodeLaws.{small_totals, children_of_first, more_at, joined_more, joined_parts}
 use Rattle.rope_leaf.proofs.BesideLaws.{some_next}
@@ -538,3 +540,59 @@ minus-requires c =
           (text (get_or ts (c.args.place + 1) (second (e r)))),
       ap (λ t. length (text t)) (right_here (old (e r))),
     )))
+
+-- the nodes are unchanged where both leaves are
+still : (c : After-index-back-0) (u v : Tree) → u ≡ left c → v ≡ right c
+    → set c.split_at_mut-front.result.0.now c.args.place u
+    ++ set c.split_at_mut-front.result.1.now 0 v ≡ c.self.inside.nodes
+still c u v first second =
+    unset_parts c.self.inside.nodes c.split_at_mut-front.result.0.now
+    c.split_at_mut-front.result.1.now (c.args.place + 1) c.args.place u v
+    c.index-front-place.result c.index-back-0.result c.split_at_mut-front.ensures.front
+    c.split_at_mut-front.ensures.back first second
+
+pub invariant_of-self : goal.invariant_of-self
+invariant_of-self c =
+    same_listed c.self.inside _ c.self.invariant
+    (still (goal.at.invariant_of-self c).After-index-back-0 c.shorten_nodes.new.left
+    c.shorten_nodes.new.right c.in_err-losses.ensures.err.0 c.in_err-losses.ensures.err.1)
+    refl refl refl
+
+pub returns-in_err-losses-clause-tried : goal.returns-in_err-losses-clause-tried
+returns-in_err-losses-clause-tried c =
+    refused c.from_residual.result c.args.self.now _ c.from_residual.ensures.0
+    (same_seen c.self.inside c.args.self.now _
+    (still (goal.at.returns-in_err-losses-clause-tried c).After-index-back-0
+    c.shorten_nodes.new.left c.shorten_nodes.new.right c.in_err-losses.ensures.err.0
+    c.in_err-losses.ensures.err.1) c.self.view_is)
+
+pub invariant_of-self-in_default : goal.invariant_of-self-in_default
+invariant_of-self-in_default c =
+    let same = rw c.in_default.is at c.in_ok-losses.ensures.kept in
+    same_listed c.self.inside _ c.self.invariant
+    (still (goal.at.invariant_of-self-in_default c).After-index-back-0 c.shorten_nodes.new.left
+    c.shorten_nodes.new.right same.0 same.1) refl refl refl
+
+pub returns-in_default-clause-tried : goal.returns-in_default-clause-tried
+returns-in_default-clause-tried c =
+    let same = rw c.in_default.is at c.in_ok-losses.ensures.kept in
+    not_tried c.args.self.now _ (same_seen c.self.inside c.args.self.now _
+    (still (goal.at.returns-in_default-clause-tried c).After-index-back-0
+    c.shorten_nodes.new.left c.shorten_nodes.new.right same.0 same.1) c.self.view_is)
+
+pub total-requires : goal.total-requires
+total-requires c =
+    let r = (goal.at.total-requires c).After-retotal-2 in
+    rw (last_view r) (omega (arith, (both_lost (e r)).children.at_least_two))
+
+pub returns-clause-change : goal.returns-clause-change
+returns-clause-change c = λ yes.
+    let r = (goal.at.returns-clause-change c).After-retotal-2 in
+    let b = both_lost (e r) in
+    let ts = c.args.self.now in
+    let sets = breaks_of_is (breaks_of ts) (height_of ts) (last (e r))
+    (omega (arith, b.children.at_least_two)) b.children.each in
+    let now = c.total.ensures ∙ ap (λ xs. info_of (breaks_of xs) (joined xs)) (last_view r)
+    ∙ ap (λ s. info_of s (joined (last (e r)))) sets in
+    rw (last_view r, ← c.total-before.ensures, ← now)
+    (fallen_change c.total-before.result c.total.result c.minus.result c.minus.ensures.sum)

@@ -1,5 +1,5 @@
 use Rattle.std.proofs.Common.{◌≡◌, ◌+◌, ◌^◌, ◌<◌, ◌≤◌, List, [], ◌∷◌, ◌++◌, length, drop, sym, ap, ap₂, subst, ◌∙◌, arith}
-use Rattle.std.proofs.lemmas.List.{append_assoc, length-append, length-take-le, take-append-drop}
+use Rattle.std.proofs.lemmas.List.{append_assoc, length-append, length-drop, length-take-le, take-append-drop}
 use Rattle.rope_text.specs.Text.{byte_len}
 use Rattle.rope_leaf.specs.Tree.{Tree, joined, tree_over, AreFamily}
 use Rattle.rope_leaf.specs.Siblings.{AreLevel}
@@ -228,3 +228,53 @@ returns-clause-children c =
     let k = (goal.at.returns-clause-children c).After-lend in
     subst AreFamily (sym (c.take_from-2.ensures.moved
     ∙ ap (λ l. l ++ c.take_from.new.self) c.push_two.ensures ∙ parts k)) (family k)
+
+pub take_from-requires-clause-room : goal.take_from-requires-clause-room
+take_from-requires-clause-room c =
+    omega (
+      arith,
+      length-append c.args.rest.now (drop (c.args.place + 2) c.args.self.now),
+      ap length c.requires.none,
+      length-drop (c.args.place + 2) c.args.self.now,
+      c.requires.children.at_most_24,
+    )
+
+-- all children, where the two weren't taken out
+still : (c : After-take_from) (now : List Tree) → now ≡ c.take_from.new.other
+    → now ++ c.take_from.new.self ≡ c.args.self.now
+still c now kept = ap (λ l. l ++ c.take_from.new.self) kept ∙ whole c
+
+pub take_from-requires-in_default-clause-level : goal.take_from-requires-in_default-clause-level
+take_from-requires-in_default-clause-level c =
+    let same =
+    still (goal.at.take_from-requires-in_default-clause-level c).After-take_from c.pop_two.new.self
+    (rw c.in_default.is at c.pop_two.ensures.kept) in
+    subst AreLevel (sym same) (movable_of c.args.self.now c.requires.children c.requires.few).level
+
+pub take_from-requires-in_default-clause-few : goal.take_from-requires-in_default-clause-few
+take_from-requires-in_default-clause-few c =
+    let same =
+    still (goal.at.take_from-requires-in_default-clause-few c).After-take_from c.pop_two.new.self
+    (rw c.in_default.is at c.pop_two.ensures.kept) in
+    subst (λ l. byte_len (joined l) < 2 ^ 32) (sym same) c.requires.few
+
+pub take_from-requires-in_default-clause-room : goal.take_from-requires-in_default-clause-room
+take_from-requires-in_default-clause-room c =
+    let same =
+    still (goal.at.take_from-requires-in_default-clause-room c).After-take_from c.pop_two.new.self
+    (rw c.in_default.is at c.pop_two.ensures.kept) in
+    subst (λ l. length l ≤ 24) (sym same) c.requires.children.at_most_24
+
+pub returns-in_default-clause-children : goal.returns-in_default-clause-children
+returns-in_default-clause-children c =
+    let same =
+    still (goal.at.returns-in_default-clause-children c).After-take_from c.pop_two.new.self
+    (rw c.in_default.is at c.pop_two.ensures.kept) in
+    subst AreFamily (sym (c.take_from-in_default.ensures.moved ∙ same)) c.requires.children
+
+pub returns-in_default-clause-same : goal.returns-in_default-clause-same
+returns-in_default-clause-same c =
+    let same =
+    still (goal.at.returns-in_default-clause-same c).After-take_from c.pop_two.new.self
+    (rw c.in_default.is at c.pop_two.ensures.kept) in
+    ap tree_over (c.take_from-in_default.ensures.moved ∙ same)

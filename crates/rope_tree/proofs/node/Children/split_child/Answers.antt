@@ -19,6 +19,8 @@ use Rattle.rope_leaf.proofs.Descents.{front_is}
 use Rattle.rope_leaf.proofs.InsertDescents.{last_total}
 use Rattle.rope_leaf.proofs.InsertTrees.{byte_len-inserted}
 use Rattle.rope_leaf.proofs.GrownLaws.{totals_seen, children_grown, grown_by_one}
+use Rattle.rope_tree.proofs.FormLaws.{not_tried}
+use Rattle.rope_tree.proofs.KeptLaws.{unset, same_seen, same_listed, refused, right_within}
 use Rattle.rope_tree.proofs.ListedLaws.{put_in_place, more_seen, more_listed}
 use Rattle.rope_tree.proofs.ChildLaws.{Finds, found_at, read, part, child_fits, may, small, still_narrow, fields_after, all_grown}
 use Rattle.rope_tree.proofs.CutLaws.{Cuts, own_first, own_second, small_both, cut_fits, few_bytes, first_narrow, totals_cut}
@@ -500,3 +502,52 @@ pub returns-clause-searched : goal.returns-clause-searched
 returns-clause-searched c =
     let h = (found (goal.at.returns-clause-searched c).After-info-old).taken.own.at_height in
     record { rise = omega (arith, h); nodes = omega (arith, h); compares = omega (arith, h) }
+
+pub branch_at-place-requires-clause-right : goal.branch_at-place-requires-clause-right
+branch_at-place-requires-clause-right c =
+    right_within c.args.self.now c.args.at c.args.added.now c.args.to_right c.requires.side
+
+pub cut-requires-clause-low : goal.cut-requires-clause-low
+cut-requires-clause-low c = λ flat.
+    let h = (found (goal.at.cut-requires-clause-low c).After-info-old).taken.own.at_height in
+    c.requires.low (omega (arith, flat, h))
+
+-- the list is unchanged where the child is
+pub invariant_of-self : goal.invariant_of-self
+invariant_of-self c =
+    same_listed c.self.inside _ c.self.invariant
+    (unset c.self.inside.nodes c.branch_at-place.result.place c.cut.new.self
+    c.index-self-place.result
+    c.in_err-cut.ensures.err) refl refl refl
+
+pub returns-in_err-cut-clause-tried : goal.returns-in_err-cut-clause-tried
+returns-in_err-cut-clause-tried c =
+    refused c.from_residual.result c.args.self.now _ c.from_residual.ensures.0
+    (same_seen c.self.inside c.args.self.now _
+    (unset c.self.inside.nodes c.branch_at-place.result.place c.cut.new.self
+    c.index-self-place.result
+    c.in_err-cut.ensures.err) c.self.view_is)
+
+pub invariant_of-self-in-Kept : goal.invariant_of-self-in-Kept
+invariant_of-self-in-Kept c =
+    same_listed c.self.inside _ c.self.invariant
+    (unset c.self.inside.nodes c.branch_at-place.result.place c.cut.new.self
+    c.index-self-place.result
+    (rw c.in-Kept.is at c.in_ok-cut.ensures.cut)) refl refl refl
+
+pub returns-in-Kept-clause-tried : goal.returns-in-Kept-clause-tried
+returns-in-Kept-clause-tried c =
+    not_tried c.args.self.now _ (same_seen c.self.inside c.args.self.now _
+    (unset c.self.inside.nodes c.branch_at-place.result.place c.cut.new.self
+    c.index-self-place.result
+    (rw c.in-Kept.is at c.in_ok-cut.ensures.cut)) c.self.view_is)
+
+pub returns-in-Kept-clause-idle_above_searched : goal.returns-in-Kept-clause-idle_above_searched
+returns-in-Kept-clause-idle_above_searched c =
+    λ no above. absurd (omega (
+      arith,
+      above,
+      c.in_ok-cut.ensures.inner c.in-Kept.is,
+      (found (goal.at.returns-in-Kept-clause-idle_above_searched
+          c).After-info-old).taken.own.at_height,
+    ))

@@ -1,7 +1,11 @@
-use Rattle.std.proofs.Common.{rules, ◌≡◌, ◌+◌, ◌-◌, ◌<◌, true, false, Ok, List, ◌++◌, length, get_or, take, sym, ap, ap₂, subst, ◌∙◌, arith}
+use Rattle.std.proofs.Common.{rules, ◌≡◌, ◌+◌, ◌-◌, ◌^◌, ◌<◌, ◌≤◌, true, false, Ok, List, ◌++◌, length, get_or, take, sym, ap, ap₂, subst, ◌∙◌, arith}
 use Rattle.std.proofs.lemmas.List.{length-take-le, get_or-take, take-take}
-use Rattle.rope_leaf.specs.Tree.{Tree, text, joined}
+use Rattle.std.proofs.lemmas.Result.{IfOk-weaker}
+use Rattle.rope_text.specs.Text.{byte_len}
+use Rattle.rope_leaf.specs.Tree.{Tree, text, joined, AreFamily}
 use Rattle.rope_leaf.specs.Siblings.{AreLevel}
+use Rattle.rope_tree.specs.Split.{IsFrontOf, IsBackOf, MayFollow}
+use Rattle.rope_tree.proofs.ChildLaws.{if_idle}
 use Rattle.rope_tree.proofs.MoveLaws.{AreMovable, movable_of, movable_right, movable_after, both_parts}
 use Rattle.rope_tree.proofs.SplitLaws.{not_done}
 use Rattle.rope_tree.proofs.node.Children.split_leaf_at.Goals.{After-take_from, After-split_leaf-did, Joined-matches, in-Ok-true, in_default, in_default-2}
@@ -83,3 +87,65 @@ take_from-requires-then-not-matches-clause-level_other c =
     (movable_right c.split_leaf-did.new.self c.split_leaf-did.new.rest
     (subst AreMovable (sym (whole k c.if-not-matches.true))
     (movable_of c.args.self.now c.requires.children c.requires.few))).level
+
+pub split_leaf-did-requires-clause-children : goal.split_leaf-did-requires-clause-children
+split_leaf-did-requires-clause-children c =
+    let k = (goal.at.split_leaf-did-requires-clause-children c).After-take_from in
+    subst AreFamily (sym (both k)) c.requires.children
+
+pub take_from-requires-then-not-matches-clause-few :
+    goal.take_from-requires-then-not-matches-clause-few
+take_from-requires-then-not-matches-clause-few c =
+    let k = (goal.at.take_from-requires-then-not-matches-clause-few c).Joined-matches in
+    subst (λ l. byte_len (joined l) < 2 ^ 32) (sym (whole k c.if-not-matches.true)) c.requires.few
+
+pub take_from-requires-then-not-matches-clause-room :
+    goal.take_from-requires-then-not-matches-clause-room
+take_from-requires-then-not-matches-clause-room c =
+    let k = (goal.at.take_from-requires-then-not-matches-clause-room c).Joined-matches in
+    subst (λ l. length l ≤ 24) (sym (whole k c.if-not-matches.true))
+    c.requires.children.at_most_24
+
+pub returns-then-not-matches-clause-kept : goal.returns-then-not-matches-clause-kept
+returns-then-not-matches-clause-kept c =
+    let k = (goal.at.returns-then-not-matches-clause-kept c).Joined-matches in
+    if_idle _ (c.take_from-then-not-matches.ensures.moved ∙ whole k c.if-not-matches.true)
+
+-- the result is that of the split
+told : (c : Joined-matches) → c.match-matches.did ≡ c.split_leaf-did.result
+told c = elim c.match-matches.branch [
+  | in-Ok-true w ↦ w.did-is ∙ sym w.in-Ok-true.is
+  | in_default w ↦ search rules
+  | in_default-2 w ↦ search rules
+]
+
+pub returns-else-not-matches-clause-front : goal.returns-else-not-matches-clause-front
+returns-else-not-matches-clause-front c =
+    let k = (goal.at.returns-else-not-matches-clause-front c).After-take_from in
+    let now = c.split_leaf-did.new.self in
+    rw (told (goal.at.returns-else-not-matches-clause-front c).Joined-matches)
+    (IfOk-weaker c.split_leaf-did.result _ _
+    (λ did front here. subst (λ n. IsFrontOf (n + c.args.inside) (ts k) now) (before k)
+    (subst (λ l. IsFrontOf (length (joined (take (length (o k) - 1) (o k))) + c.args.inside) l now)
+    (both k) (front here)))
+    c.split_leaf-did.ensures.front)
+
+pub returns-else-not-matches-clause-back : goal.returns-else-not-matches-clause-back
+returns-else-not-matches-clause-back c =
+    let k = (goal.at.returns-else-not-matches-clause-back c).After-take_from in
+    let now = c.split_leaf-did.new.rest in
+    rw (told (goal.at.returns-else-not-matches-clause-back c).Joined-matches)
+    (IfOk-weaker c.split_leaf-did.result _ _
+    (λ did back here. subst (λ n. IsBackOf (n + c.args.inside) (ts k) now) (before k)
+    (subst (λ l. IsBackOf (length (joined (take (length (o k) - 1) (o k))) + c.args.inside) l now)
+    (both k) (back here)))
+    c.split_leaf-did.ensures.back)
+
+pub returns-else-not-matches-clause-following : goal.returns-else-not-matches-clause-following
+returns-else-not-matches-clause-following c =
+    let k = (goal.at.returns-else-not-matches-clause-following c).After-take_from in
+    rw (told (goal.at.returns-else-not-matches-clause-following c).Joined-matches)
+    (IfOk-weaker c.split_leaf-did.result _ _
+    (λ did follows here some. subst (λ l. MayFollow l c.split_leaf-did.new.self) (both k)
+    (follows here (omega (arith, some, last k))))
+    c.split_leaf-did.ensures.following)

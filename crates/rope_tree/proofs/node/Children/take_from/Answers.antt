@@ -12,7 +12,7 @@ use Rattle.rope_leaf.proofs.Descents.{front_is}
 use Rattle.rope_tree.proofs.PartLaws.{has_base, part_few, part_in, is_new_list_part}
 use Rattle.rope_tree.proofs.RowLaws.{last_counts_all}
 use Rattle.rope_leaf.proofs.SiblingLaws.{siblings_right}
-use Rattle.rope_tree.proofs.MoveLaws.{first_height, first_breaks, kept_listed}
+use Rattle.rope_tree.proofs.MoveLaws.{first_height, first_breaks, kept_seen, kept_listed}
 use Rattle.rope_leaf.proofs.TreeLaws.{height_of_is, breaks_of_is}
 use Rattle.rope_tree.proofs.node.Children.take_from.Goals.{After-total_before-before, After-exchange}
 use Rattle.rope_tree.proofs.node.Children.take_from.Goals as goal
@@ -233,3 +233,25 @@ invariant_of-other-else-from-eq0 c =
 pub returns-else-from-eq0-clause-moved : goal.returns-else-from-eq0-clause-moved
 returns-else-from-eq0-clause-moved c =
     seen (goal.at.returns-else-from-eq0-clause-moved c).After-exchange
+
+pub exchange-requires-clause-within : goal.exchange-requires-clause-within
+exchange-requires-clause-within c =
+    let e = (goal.at.exchange-requires-clause-within c).After-total_before-before in
+    omega (arith, len_os e, few_os e, c.other.invariant.room, c.if-from-past.false)
+
+pub returns-then-from-eq0-clause-moved : goal.returns-then-from-eq0-clause-moved
+returns-then-from-eq0-clause-moved c =
+    seen (goal.at.returns-then-from-eq0-clause-moved c).After-exchange
+
+pub returns-else-from-eq0-clause-rest : goal.returns-else-from-eq0-clause-rest
+returns-else-from-eq0-clause-rest c =
+    let k = (goal.at.returns-else-from-eq0-clause-rest c).After-exchange in
+    kept_seen c.other.inside (record {
+      height = height_of (take c.args.from (os (e k))) + 1;
+      breaks = breaks_of (take c.args.from (os (e k)));
+      last = c.other.inside.last;
+      totals = c.take_from.new.others;
+      nodes = c.exchange.new.others;
+    }) (os (e k)) c.args.from _ _ c.other.invariant c.other.view_is (part (e k)).within
+    c.take_from.ensures.rest c.exchange.ensures.second (others_len k) (first_flat k)
+    (second_flat k) refl refl

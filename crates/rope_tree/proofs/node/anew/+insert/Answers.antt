@@ -160,19 +160,30 @@ module _ (t : ℕ) (c : After-index-children-place t) (ps : List Tree)
   all = take c.child_at-place.result c.in-Inner.children.now
       ++ (ps ++ drop (c.child_at-place.result + 1) c.in-Inner.children.now)
 
+  -- one child is replaced by these nodes
+  many : length all + 1 ≡ length c.in-Inner.children.now + length ps
+  many =
+      let d = down t c in
+      let g = (goes t c).1 in
+      let ts = c.in-Inner.children.now in
+      new_length (breaks_of ts) (height_of ts) ts c.child_at-place.result
+      c.index-children-place.result d.children d.within d.child_is c.args.node.now
+      c.in-Inner.ensures.is c.args.at (c.args.at - c.total_before-front.result.chars)
+      c.args.added.now c.requires.takes.some (place t c) g.within
+      ps c.args.to_right g.inside g.outside c.requires.side new fits
+
+  at_least_two : 2 ≤ length all
+  at_least_two = omega (arith, many, (down t c).children.at_least_two, new.some)
+
+  at_most_48 : length all ≤ 48
+  at_most_48 = omega (arith, many, (down t c).children.at_most_24, new.few)
+
   level : AreLevel all
   level =
       let d = down t c in
       let g = (goes t c).1 in
       let ts = c.in-Inner.children.now in
-      let more =
-      new_length (breaks_of ts) (height_of ts) ts c.child_at-place.result
-      c.index-children-place.result d.children d.within d.child_is c.args.node.now
-      c.in-Inner.ensures.is c.args.at (c.args.at - c.total_before-front.result.chars)
-      c.args.added.now c.requires.takes.some (place t c) g.within
-      ps c.args.to_right g.inside g.outside c.requires.side new fits in
-      siblings_of_first (breaks_of ts) (height_of ts) all
-      (omega (arith, more, d.children.at_least_two, new.some))
+      siblings_of_first (breaks_of ts) (height_of ts) all (omega (arith, at_least_two))
       (new_siblings (breaks_of ts) (height_of ts) ts c.child_at-place.result
       c.index-children-place.result d.children d.within d.child_is c.args.node.now
       c.in-Inner.ensures.is c.args.at (c.args.at - c.total_before-front.result.chars)
@@ -255,3 +266,41 @@ returns-in_ok-middle-in-Inner-clause-searched t c =
     let h = made_by t (goal.at.returns-in_ok-middle-in-Inner-clause-searched t
     c).After-index-children-place in
     record { rise = omega (arith, h); nodes = omega (arith, h); compares = omega (arith, h) }
+
+pub pack-requires-clause-at_least_two : goal.pack-requires-clause-at_least_two
+pack-requires-clause-at_least_two t c =
+    let e = (goal.at.pack-requires-clause-at_least_two t c).After-index-children-place in
+    rw (c.first-before.ensures.nodes, c.rest-after.ensures.nodes, c.of-row.ensures.nodes)
+    (at_least_two t e (trees_in c.in_ok-middle-in-Inner.middle)
+    (replaced _ _ _ c.in_ok-middle-in-Inner.ensures.ok))
+
+pub pack_over-requires-clause-at_least_two : goal.pack_over-requires-clause-at_least_two
+pack_over-requires-clause-at_least_two t c =
+    let e = (goal.at.pack_over-requires-clause-at_least_two t c).After-index-children-place in
+    rw (
+      c.first-before.ensures.nodes,
+      c.new.ensures.nodes,
+      c.as_slice.ensures.value,
+      c.rest-after.ensures.nodes,
+      c.of-row.ensures.nodes,
+    )
+    (at_least_two t e c.fill_with.new.pieces.items c.in_ok-fill_with-in-Inner.ensures.ok)
+
+pub pack-requires-clause-at_most_48 : goal.pack-requires-clause-at_most_48
+pack-requires-clause-at_most_48 t c =
+    let e = (goal.at.pack-requires-clause-at_most_48 t c).After-index-children-place in
+    rw (c.first-before.ensures.nodes, c.rest-after.ensures.nodes, c.of-row.ensures.nodes)
+    (at_most_48 t e (trees_in c.in_ok-middle-in-Inner.middle)
+    (replaced _ _ _ c.in_ok-middle-in-Inner.ensures.ok))
+
+pub pack_over-requires-clause-at_most_48 : goal.pack_over-requires-clause-at_most_48
+pack_over-requires-clause-at_most_48 t c =
+    let e = (goal.at.pack_over-requires-clause-at_most_48 t c).After-index-children-place in
+    rw (
+      c.first-before.ensures.nodes,
+      c.new.ensures.nodes,
+      c.as_slice.ensures.value,
+      c.rest-after.ensures.nodes,
+      c.of-row.ensures.nodes,
+    )
+    (at_most_48 t e c.fill_with.new.pieces.items c.in_ok-fill_with-in-Inner.ensures.ok)

@@ -65,6 +65,31 @@ three c =
     ∙ append_assoc c.args.rows.now.0.nodes.now c.args.rows.now.1.nodes.now
     c.args.rows.now.2.nodes.now
 
+pub push_row-requires-clause-room : goal.push_row-requires-clause-room
+push_row-requires-clause-room c =
+    let a = c.args.rows.now.0.nodes.now in
+    let now = nodes_in (new_list c.children.inside.totals c.children.inside.nodes) in
+    let none : now ≡ [] = search rules in
+    omega (
+      arith,
+      ap length none,
+      length-append a (c.args.rows.now.1.nodes.now ++ c.args.rows.now.2.nodes.now),
+      c.requires.children.at_most_24,
+    )
+
+pub push_row-requires-then-is_ok-clause-room : goal.push_row-requires-then-is_ok-clause-room
+push_row-requires-then-is_ok-clause-room c =
+    let a = c.args.rows.now.0.nodes.now in
+    let b = c.args.rows.now.1.nodes.now in
+    let d = c.args.rows.now.2.nodes.now in
+    omega (
+      arith,
+      ap length (one (goal.at.push_row-requires-then-is_ok-clause-room c).Then-is_ok),
+      length-append a (b ++ d),
+      length-append b d,
+      c.requires.children.at_most_24,
+    )
+
 pub push_row-requires-clause-siblings : goal.push_row-requires-clause-siblings
 push_row-requires-clause-siblings c =
     let a = c.args.rows.now.0.nodes.now in

@@ -1,4 +1,5 @@
 use Rattle.std.proofs.Common.{◌≡◌, ◌+◌, ◌<◌, ◌++◌, ◌∙◌, [], ◌∷◌, length, get_or, take, add-one, sym, ap, refl, arith}
+use Rattle.std.proofs.lemmas.Grind.{common_steps}
 use Rattle.std.proofs.lemmas.List.{append-nil, append_assoc, length-append, length-take-le}
 use Rattle.std.proofs.Math.Seq.{take-suc}
 use Rattle.rope_leaf.specs.Tree.{breaks_of, height_of}
@@ -82,3 +83,9 @@ loop-node-preserved c =
           ∙ append_assoc first (take k ns) (node ∷ []) ∙ ap (λ xs. first ++ xs) (sym one_more);
       total = total_more (nodes_in (so_far i)) c.in_ok-shared.shared _ c.plus-total.result more sum;
     }
+
+pub push-requires-clause-room : goal.push-requires-clause-room
+push-requires-clause-room c = grind (arith, common_steps)
+
+pub returns-clause-nodes : goal.returns-clause-nodes
+returns-clause-nodes c = grind (arith, common_steps)

@@ -1,5 +1,6 @@
-use Rattle.std.proofs.Common.{◌≡◌, ℕ, ◌+◌, ◌-◌, ◌≤◌, List, ◌++◌, length, take, drop, IfSome, subst, refl, sym, ◌∙◌, arith}
-use Rattle.std.proofs.lemmas.List.{take_all, drop-drop}
+use Rattle.std.proofs.Common.{◌≡◌, ℕ, ◌+◌, ◌-◌, ◌<◌, ◌≤◌, List, [], ◌∷◌, ◌++◌, length, get_or, set, take, drop, IfSome, add-one, subst, refl, sym, ap, ◌∙◌, arith}
+use Rattle.std.proofs.lemmas.List.{length-set, length-take, length-drop, take_all, drop-drop}
+use Rattle.std.proofs.Math.Seq.{take-suc, take-suc-set}
 use borrow.Rule.Slice.PartMut.{put_mid}
 use Rattle.std.proofs.lemmas.Grind.{common_steps}
 use Rattle.rope_text.specs.TextInfo.{info_of}
@@ -51,6 +52,19 @@ told c =
     last_counts_all (new_list c.args.totals.now c.args.places.now) c.len-count.result
     c.total_before-before.result c.requires.list c.len-count.ensures
     c.total_before-before.ensures.first c.total_before-before.ensures.later
+
+pub append-requires-clause-within : goal.append-requires-clause-within
+append-requires-clause-within c =
+    let p = part (goal.at.append-requires-clause-within c).After-total_before-before in
+    let ts = c.args.row.now.nodes.now in
+    omega (
+      arith,
+      ap length p.is,
+      length-take (length ts) (drop c.args.row.now.from p.whole),
+      length-drop c.args.row.now.from p.whole,
+      p.totals_right.as_many,
+      p.within,
+    )
 
 pub append-requires-clause-small : goal.append-requires-clause-small
 append-requires-clause-small c =
@@ -117,3 +131,19 @@ returns-clause-nodes c =
     (c.in_ok-append.ensures.following did)
     (put_over c.len-count.result c.loop-k.k c.args.places.now c.args.row.now.nodes.now
     c.loop-k.places c.loop-k.invariant.long c.loop-k.invariant.front (omega arith)) c.requires.room
+
+-- one more entry that has its node
+put_next : (places nodes : List Tree) (k : ℕ) (x d : Tree) → k < length nodes
+    → length places ≡ length nodes → take k places ≡ take k nodes → x ≡ get_or nodes k d
+    → take (k + 1) (set places k x) ≡ take (k + 1) nodes
+put_next places nodes k x d within long front here =
+    rw (add-one) (take-suc-set places k x (omega arith) ∙ ap (λ l. l ++ (x ∷ [])) front
+    ∙ ap (λ y. take k nodes ++ (y ∷ [])) here ∙ sym (take-suc nodes k d within))
+
+pub loop-k-preserved : goal.loop-k-preserved
+loop-k-preserved c = record {
+  long = length-set c.loop-k.places c.loop-k.k c.in_ok-places.field-0 ∙ c.loop-k.invariant.long;
+  front = put_next c.loop-k.places c.args.row.now.nodes.now c.loop-k.k c.in_ok-places.field-0
+      c.index-nodes-k.result c.loop-k-test.true c.loop-k.invariant.long c.loop-k.invariant.front
+      (c.in_ok-places.ensures.same ∙ c.index-nodes-k.is);
+}
