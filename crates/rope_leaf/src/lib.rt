@@ -2,7 +2,8 @@
 //!
 //! A leaf is a text of 1 to 984 bytes with its counts, in a block of 1,024 bytes. Totals are the
 //! counts of the first children, of the first two, and so on, of the 12 to 24 children of an inner
-//! node, in which a binary search finds a child. The tree that is made of them is in `rope_tree`.
+//! node, in which a binary search finds a child. The tree that is made of them is in `rope_tree`;
+//! its definitions are in `specs/` here, since a leaf is a tree of height 0.
 //!
 //! Modules, lowest first:
 //! - `node_text`, `short_text`: the text of a leaf, and borrowed texts to insert
