@@ -252,8 +252,7 @@ def try_together(edits, mutants):
 def is_of_another(function, goal):
     """Whether a goal belongs to another function than the one that a mutant changes.
 
-    The goals of a cycle are named by its folder. A constant, a macro or an import has a space in its name, and may be refused
-    in
+    The goals of a cycle are named by its folder. A constant, a macro or an import has a space in its name, and may be refused in
     any function."""
     path, name = goal.split(" ")[0], function.split("::")[-1]
     return " " not in name and path.split("::")[-1] != name and "+" not in path and not path.endswith(".antt")

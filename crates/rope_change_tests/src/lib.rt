@@ -2,12 +2,15 @@
 //!
 //! No contract shows these:
 //! - a call succeeds if there is memory, and rows worked by hand come out;
-//! - random versions agree with a tree of texts, and random marks with a list of ranges;
+//! - random changes of long ropes agree with lists of characters, random versions with a tree of
+//!   texts, and random marks with a list of ranges;
 //! - two ropes that exchange lists of changes have one text;
 //! - a reader that gives a file in pieces, or fails, is read to its end or its error;
 //! - the callers of docs/CALLING.md run.
 #![tactic(auto)]
 
+#[cfg(test)]
+mod applied;
 #[cfg(test)]
 mod caller_edits;
 #[cfg(test)]

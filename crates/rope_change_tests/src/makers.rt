@@ -31,3 +31,26 @@ pub fn replacing(
 pub fn apply(rt: &impl Abort, change: &ChangeSet, rope: &mut Rope) {
     change.apply(rope).expect(rt, "there is memory");
 }
+
+/// Copies the characters from `start` up to `end`.
+pub fn copy(rt: &impl Abort, to: &mut Vec<char>, text: &[char], start: usize, end: usize) {
+    if let Some(kept) = text.get(start..end) {
+        to.extend_from_slice(kept).expect(rt, "there is memory");
+    }
+}
+
+/// Replaces a range by a text, in a change and at the end of a list.
+pub fn replace(
+    rt: &impl Abort,
+    change: &mut ChangeSet,
+    after: &mut Vec<char>,
+    (start, end): (usize, usize),
+    text: &str,
+) {
+    change
+        .replace(start, end, text)
+        .expect(rt, "the range is in order");
+    for c in text.chars() {
+        after.push(c).expect(rt, "there is memory");
+    }
+}

@@ -1,5 +1,5 @@
 //! Random versions of a text, against a plain tree of texts.
-use crate::makers::rope_of;
+use crate::makers::{copy, replace, rope_of};
 use rope_changes::{ChangeError, ChangeSet};
 use rope_history::History;
 use rope_plain::failure::{Failure, within};
@@ -112,29 +112,6 @@ impl Tree {
             self.undo();
         }
         self.current = version;
-    }
-}
-
-/// Copies the characters from `start` up to `end`.
-fn copy(rt: &impl Abort, to: &mut Vec<char>, text: &[char], start: usize, end: usize) {
-    if let Some(kept) = text.get(start..end) {
-        to.extend_from_slice(kept).expect(rt, "there is memory");
-    }
-}
-
-/// Replaces a range by a text, in a change and at the end of a list.
-fn replace(
-    rt: &impl Abort,
-    change: &mut ChangeSet,
-    after: &mut Vec<char>,
-    (start, end): (usize, usize),
-    text: &str,
-) {
-    change
-        .replace(start, end, text)
-        .expect(rt, "the range is in order");
-    for c in text.chars() {
-        after.push(c).expect(rt, "there is memory");
     }
 }
 

@@ -12,6 +12,12 @@ use Rattle.rope_changes.proofs.NormalLaws.{normal_before, normal_after, normal_t
 use Rattle.rope_changes.proofs.Added.{grown}
 use Rattle.rope_changes.proofs.ComposeRuns.{compose_before, compose_after, compose_deleting, compose_inserting_kept, compose_inserting_inserted, compose_kept_kept, compose_kept_deleted, compose_inserted_kept, compose_inserted_deleted}
 
+-- a replacement before other operations
+edit_append : (t : List ℕ) (d : ℕ) (a : List Op)
+    → inserting t (deleting d a) ≡ inserting t (deleting d []) ++ a
+edit_append t d a =
+    sym (inserting_append t (deleting d []) a ∙ ap (inserting t) (deleting_append d [] a))
+
 module _ (made new first first' second second' : List Op)
     (meet : len_after first ≡ len_before second) where
   -- one run is added to what is made
@@ -99,6 +105,34 @@ module _ (made new first first' second second' : List Op)
           keeping_length n second',
         ))
 
+    pub inserted_replaces : (t : List ℕ) (d : ℕ) → length t ≡ n
+        → first ≡ inserting t (deleting d first') → second ≡ keeping n second'
+        → new ≡ normal_form (made ++ inserting t (deleting d []))
+        → Composes made first second new first' second'
+    inserted_replaces t d len p q is =
+        step (inserting t (deleting d [])) is
+        (ap (λ u. compose u second) p
+        ∙ ap (compose (inserting t (deleting d first'))) (q ∙ ap (λ m. keeping m second') (sym len))
+        ∙ compose_inserted_kept t (deleting d first') second'
+        ∙ ap (inserting t) (compose_deleting d first' second')
+        ∙ edit_append t d (compose first' second'))
+        (omega (
+          arith,
+          ap len_after p,
+          inserting_after t (deleting d first'),
+          deleting_after d first',
+          ap len_before q,
+          keeping_before n second',
+        ))
+        (omega (
+          arith,
+          ap length p,
+          inserting_length t (deleting d first'),
+          deleting_length d first',
+          ap length q,
+          keeping_length n second',
+        ))
+
     pub inserted_goes : (t : List ℕ) → length t ≡ n → first ≡ inserting t first'
         → second ≡ deleting n second' → new ≡ made → Composes made first second new first' second'
     inserted_goes t len p q is =
@@ -145,17 +179,34 @@ text_first a t b (inl some) none =
 text_first a t b (inr nil) none =
     ap (λ u. compose u (inserting t b)) nil ∙ ap (λ u. inserting t (compose u b)) (sym nil)
 
-pub second_inserts : (made new : List Op) (first : Left) (second second' : List Op) (t : List ℕ)
-    → len_after (left first) ≡ len_before second → 1 ≤ length t
+pub second_replaces : (made new : List Op) (first : Left) (first' second second' : List Op)
+    (t : List ℕ) (n : ℕ) → len_after (left first) ≡ len_before second → 1 ≤ length t
     → IsLoaded first → (first.kept ≡ 0 → length first.text ≡ 0 → first.deleted ≡ 0)
-    → second ≡ inserting t second' → new ≡ normal_form (made ++ inserting t [])
-    → Composes made (left first) second new (left first) second'
-second_inserts made new first second second' t meet some loaded none q is =
-    step made new (left first) (left first) second second' meet (inserting t []) is
-    (ap (compose (left first)) q ∙ text_first first t second' loaded none
-    ∙ sym (inserting_append t [] (compose (left first) second')))
-    (omega (arith, ap len_before q, inserting_before t second'))
-    (omega (arith, ap length q, inserting_length t second'))
+    → left first ≡ keeping n first' → second ≡ inserting t (deleting n second')
+    → new ≡ normal_form (made ++ inserting t (deleting n []))
+    → Composes made (left first) second new first' second'
+second_replaces made new first first' second second' t n meet some loaded none p q is =
+    step made new (left first) first' second second' meet (inserting t (deleting n [])) is
+    (ap (compose (left first)) q ∙ text_first first t (deleting n second') loaded none
+    ∙ ap (inserting t)
+    (ap (λ u. compose u (deleting n second')) p ∙ compose_kept_deleted n first' second')
+    ∙ edit_append t n (compose first' second'))
+    (omega (
+      arith,
+      ap len_after p,
+      keeping_after n first',
+      ap len_before q,
+      inserting_before t (deleting n second'),
+      deleting_before n second',
+    ))
+    (omega (
+      arith,
+      ap length p,
+      keeping_length n first',
+      ap length q,
+      inserting_length t (deleting n second'),
+      deleting_length n second',
+    ))
 
 left_length : (l : Left)
     → length (left l) ≡ l.kept + length l.text + l.deleted + length (ops_of l.edits l.rest)

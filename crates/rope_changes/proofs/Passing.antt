@@ -1,12 +1,12 @@
 -- Replacements that are passed, and indices that move through those that are left.
-use Rattle.std.proofs.Common.{◌≡◌, ℕ, zero, suc, ◌+◌, ◌-◌, ◌<◌, ◌≤◌, List, [], ◌∷◌, length, get_or, set, drop, refl, ap, sym, ◌∙◌, subst, arith}
+use Rattle.std.proofs.Common.{◌≡◌, ℕ, zero, suc, ◌+◌, ◌-◌, ◌%◌, ◌^◌, ◌<◌, ◌≤◌, List, [], ◌∷◌, length, get_or, set, drop, refl, ap, sym, ◌∙◌, subst, arith}
 use Rattle.std.specs.Prelude.{map}
 use Rattle.std.proofs.lemmas.List.{drop_all, drop_more}
 use Rattle.rope_changes.specs.Ops.{Op, len_before, len_after}
 use Rattle.rope_changes.specs.Change.{Edit, Change, keeping, inserting, deleting, ops_of, ops, AreApart, AreNormal}
 use Rattle.rope_changes.specs.Moved.{moved}
 use Rattle.rope_changes.specs.Packed.{AreLengthsOf}
-use Rattle.rope_changes.specs.Passed.{step_of, IsPassed, IsBetween}
+use Rattle.rope_changes.specs.Passed.{step_of, IsPassed, IsBetween, mapped}
 use Rattle.rope_changes.specs.declared.replacements.Lengths.{Lengths}
 use Rattle.rope_changes.specs.declared.side.Side.{Side}
 use Rattle.rope_changes.proofs.Prefixes.{keeping_before, kept_stays, inserted_passed, rest_stays}
@@ -112,47 +112,62 @@ module _ (edits : List Edit) (rest k : ℕ) (e : Edit) (l : Lengths) (below : k 
       (record { count = k; end = end; new_end = new_end; start = start })
       → IsBetween (record { edits = edits; rest = rest })
       (record { count = k; end = end; new_end = new_end; start = end + l.kept })
-  between_next end new_end start passed = λ side i after before within.
-      let old = passed.moves side i (record { le = omega arith; more = λ _. after }) in
-      omega (
-        arith,
-        old,
-        ap (λ x. moved side x (i - end)) ops_at,
-        kept_stays side l.kept (i - end) (inserting text (deleting l.deleted later)) (omega arith),
-      )
+  between_next end new_end start passed =
+      record {
+        within = omega (
+          arith,
+          passed.before_is,
+          ap len_before ops_at,
+          step_before l.kept text l.deleted later,
+        );
+        moves = λ side i after before.
+            let old = passed.moves side i (record { le = omega arith; more = λ _. after }) in
+            omega (
+              arith,
+              old,
+              ap (λ x. moved side x (i - end)) ops_at,
+              kept_stays side l.kept (i - end) (inserting text (deleting l.deleted later))
+                  (omega arith),
+            );
+      }
 
 -- an index after all replacements
 pub between_last : (edits : List Edit) (rest k end new_end start start' : ℕ)
     → length edits ≤ k
     → IsPassed (record { edits = edits; rest = rest })
     (record { count = k; end = end; new_end = new_end; start = start })
+    → start' ≡ len_before (ops_of edits rest) + 1
     → IsBetween (record { edits = edits; rest = rest })
     (record { count = k; end = end; new_end = new_end; start = start' })
-between_last edits rest k end new_end start start' none passed = λ side i after before within.
-    let old = passed.moves side i (record { le = omega arith; more = λ _. after }) in
-    let last : ops_of (drop k edits) rest ≡ keeping rest [] =
-    ap (λ es. ops_of es rest) (drop_all k edits none) in
-    omega (
-      arith,
-      old,
-      ap (λ x. moved side x (i - end)) last,
-      ap len_before last,
-      keeping_before rest [],
-      passed.before_is,
-      rest_stays side rest (i - end) (omega (
-        arith,
-        ap len_before last,
-        keeping_before rest [],
-        passed.before_is,
-      )),
-    )
+between_last edits rest k end new_end start start' none passed last =
+    record {
+      within = omega arith;
+      moves = λ side i after before.
+          let old = passed.moves side i (record { le = omega arith; more = λ _. after }) in
+          let nil : ops_of (drop k edits) rest ≡ keeping rest [] =
+          ap (λ es. ops_of es rest) (drop_all k edits none) in
+          omega (
+            arith,
+            old,
+            ap (λ x. moved side x (i - end)) nil,
+            ap len_before nil,
+            keeping_before rest [],
+            passed.before_is,
+            rest_stays side rest (i - end) (omega (
+              arith,
+              ap len_before nil,
+              keeping_before rest [],
+              passed.before_is,
+            )),
+          );
+    }
+
+-- a difference that does not wrap, since it is below a small number
+pub offset_is : (i first count : ℕ) → i < 2 ^ 64 → first + count < 2 ^ 64
+    → (i + (2 ^ 64 - first)) % 2 ^ 64 < count → first + (i + (2 ^ 64 - first)) % 2 ^ 64 ≡ i
+offset_is i first count fits small below = omega arith
 
 -- a list whose first elements are mapped
-abbrev pub mapped : (ℕ → ℕ) → ℕ → List ℕ → List ℕ
-mapped f zero xs = xs
-mapped f (suc i) [] = []
-mapped f (suc i) (x ∷ xs) = f x ∷ mapped f i xs
-
 pub mapped_at : (f : ℕ → ℕ) (i d : ℕ) (xs : List ℕ) → get_or (mapped f i xs) i d ≡ get_or xs i d
 mapped_at f zero d xs = refl
 mapped_at f (suc i) d [] = refl

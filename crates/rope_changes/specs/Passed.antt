@@ -1,5 +1,5 @@
 -- The replacements of a change that lie before an index.
-use Rattle.std.specs.Prelude.{◌≡◌, ℕ, ◌+◌, ◌-◌, ◌<◌, ◌≤◌, List, length, drop}
+use Rattle.std.specs.Prelude.{◌≡◌, ℕ, zero, suc, ◌+◌, ◌-◌, ◌<◌, ◌≤◌, List, [], ◌∷◌, length, drop}
 use Rattle.rope_changes.specs.Ops.{Op, len_before, len_after}
 use Rattle.rope_changes.specs.Change.{Change, keeping, inserting, deleting, ops_of, ops, before, after}
 use Rattle.rope_changes.specs.Moved.{moved}
@@ -26,6 +26,13 @@ pub record IsPassed (c : Change) (p : Passed) : Type 0 where
   pub after_is : p.new_end + len_after (ops_of (drop p.count c.edits) c.rest) ≡ after c
 
 -- an index between what is passed and the next replacement moves as far as what is passed does
-abbrev pub IsBetween : Change → Passed → Type 0
-IsBetween c p = (side : Side) (i : ℕ) → p.end < i → i < p.start → i ≤ before c
-    → moved side (ops c) i ≡ p.new_end + (i - p.end)
+pub record IsBetween (c : Change) (p : Passed) : Type 0 where
+  pub within : p.start ≤ before c + 1
+  pub moves : (side : Side) (i : ℕ) → p.end < i → i < p.start
+      → moved side (ops c) i ≡ p.new_end + (i - p.end)
+
+-- a list whose first elements are mapped
+abbrev pub mapped : (ℕ → ℕ) → ℕ → List ℕ → List ℕ
+mapped f zero xs = xs
+mapped f (suc i) [] = []
+mapped f (suc i) (x ∷ xs) = f x ∷ mapped f i xs

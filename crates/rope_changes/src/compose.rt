@@ -42,7 +42,8 @@ fn compose_kept(
 }
 
 // Composes the next runs of two changes, where the first one inserts a text and the second one
-// keeps or deletes characters of it.
+// keeps or deletes characters of it. A text that is kept whole is added together with the
+// characters that the first one deletes after it.
 fn compose_inserted(
     made: &mut ChangeSet,
     first: &mut Cursor<'_>,
@@ -59,8 +60,14 @@ fn compose_inserted(
         (ops made.new) (left first.new) (left second.new)) }
     ensures refused { IfErr result (λ e. e ≡ OutOfMemory) }
 {
+    if first.inserted <= second.kept {
+        let (count, deleted) = (first.inserted, first.deleted);
+        let text = first.take_edit(deleted);
+        second.skip_kept(count);
+        return made.push(text, count, deleted);
+    }
     if second.kept > 0 {
-        let count = first.inserted.min(second.kept);
+        let count = second.kept;
         let text = first.cut_text(count);
         second.skip_kept(count);
         return made.push(text, count, 0);
@@ -71,7 +78,8 @@ fn compose_inserted(
     Ok(())
 }
 
-// Composes the next runs of two changes.
+// Composes the next runs of two changes. A text that the second one inserts is added together with
+// the characters that it deletes after the text, as far as the first one keeps these.
 fn compose_next(
     made: &mut ChangeSet,
     first: &mut Cursor<'_>,
@@ -93,9 +101,11 @@ fn compose_next(
         return made.push_deleted(count);
     }
     if second.kept == 0 && second.inserted > 0 {
-        let count = second.inserted;
-        let text = second.take_text();
-        return made.push(text, count, 0);
+        let inserted = second.inserted;
+        let count = first.kept.min(second.deleted);
+        first.skip_kept(count);
+        let text = second.take_edit(count);
+        return made.push(text, inserted, count);
     }
     if first.kept > 0 {
         return compose_kept(made, first, second);
@@ -121,6 +131,8 @@ impl ChangeSet {
     /// first.compose(&later)?.apply(&mut rope)?;
     /// assert!(rt; rope.eq_str("1 2"));
     /// ```
+    // Never inlined, so that its loop has all registers.
+    #[inline(never)]
     pub fn compose(&self, later: &ChangeSet) -> Result<ChangeSet, ChangeError>
         ensures differs { after self.now ≢ before later.now
             → result ≡ Err (LengthDiffers (before later.now) (after self.now)) }

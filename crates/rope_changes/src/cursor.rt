@@ -112,6 +112,22 @@ impl<'a> Cursor<'a> {
         text
     }
 
+    /// Passes the text that is inserted next and the first `count` characters that are deleted
+    /// after it, and returns the text.
+    pub(crate) fn take_edit(&mut self, count: usize) -> &'a str
+        requires kept { self.old.kept ≡ 0 }
+        requires within { count ≤ self.old.deleted }
+        ensures text { chars result.now ≡ self.old.text }
+        ensures passed { left self.old
+            ≡ inserting self.old.text (deleting count (left self.new)) }
+    {
+        let text = self.text;
+        self.text = "";
+        self.inserted = 0;
+        self.deleted -= count;
+        text
+    }
+
     /// Passes the first `count` characters of the text that is inserted next, and returns them.
     pub(crate) fn cut_text(&mut self, count: usize) -> &'a str
         requires kept { self.old.kept ≡ 0 }

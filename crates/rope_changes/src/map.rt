@@ -4,7 +4,7 @@ ghost use Rattle.std.specs.List.{All};
 ghost use Rattle.rope_changes.specs.Change.{before, after, ops};
 ghost use Rattle.rope_changes.specs.Ops.{Op};
 ghost use Rattle.rope_changes.specs.Moved.{moved};
-ghost use Rattle.rope_changes.specs.Passed.{IsPassed, IsBetween};
+ghost use Rattle.rope_changes.specs.Passed.{IsPassed, IsBetween, mapped};
 
 use crate::change_set::ChangeSet;
 use crate::replacements::Lengths;
@@ -33,7 +33,7 @@ impl Lengths {
 }
 
 // The replacements of a change that lie before an index: how many, and where the last one ends in
-// both texts; and an index that no character before the next replacement reaches.
+// both texts; and the index at which the next one starts, or one past the end of the text before.
 #[derive(Drop)]
 struct Passed {
     count: usize,
@@ -47,7 +47,11 @@ impl Passed {
     ghost use Rattle.rope_changes.specs.Passed.{Reaches};
 
     // Creates a position before the first replacement.
+    // Never inlined, so that `rewind` is a branch, and not conditional moves that each index would
+    // wait for.
+    #[inline(never)]
     fn new() -> Passed
+        ensures reaches { (i : ℕ) → Reaches result i }
         ensures passed { (c : Change) → IsPassed c result }
         ensures between { (c : Change) → IsBetween c result }
     {
@@ -66,9 +70,7 @@ impl Passed {
         ensures passed { (c : Change) → IsPassed c self.old → IsPassed c self.new }
     {
         if char_idx <= self.end {
-            self.count = 0;
-            self.end = 0;
-            self.new_end = 0;
+            *self = Passed::new();
         }
     }
 }
@@ -103,31 +105,48 @@ impl ChangeSet {
     /// change.map_sorted(&mut bookmarks, Side::Before);
     /// assert_eq!(rt; bookmarks, [0, 2, 5]);
     /// ```
+    // Never inlined, so that its loops have all registers.
+    #[inline(never)]
     pub fn map_sorted(&self, char_indices: &mut [usize], side: Side)
         requires { All (λ i. i ≤ before self.now) char_indices.old }
         ensures { char_indices.new ≡ map (moved side (ops self.now)) char_indices.old }
     {
         let mut passed = Passed::new();
-        for char_idx in char_indices.iter_mut() {
-            *char_idx = self.map_next(&mut passed, *char_idx, side);
+        let mut next = 0;
+        while next < char_indices.len() {
+            char_indices[next] = self.map_from(&mut passed, char_indices[next], side);
+            next = self.map_between(&passed, char_indices, next + 1);
         }
     }
 
-    // Returns the index in the text after the change, and passes the replacements that end before
-    // `char_idx`, unless the next one starts after it.
-    fn map_next(&self, passed: &mut Passed, char_idx: usize, side: Side) -> usize
-        requires within { char_idx ≤ before self.now }
-        requires passed { IsPassed self.now passed.old }
-        requires between { IsBetween self.now passed.old }
-        ensures moved { result ≡ moved side (ops self.now) char_idx }
-        ensures passed { IsPassed self.now passed.new }
-        ensures between { IsBetween self.now passed.new }
+    // Moves the indices from the one at `from` on, as long as each lies between the replacements
+    // that are passed and the next one. Returns the position of the first index that is left. All
+    // of them move by one distance, so the loop does nothing else, and only its exit is
+    // mispredicted.
+    fn map_between(&self, passed: &Passed, char_indices: &mut [usize], from: usize) -> usize
+        requires from { from ≤ length char_indices.old }
+        requires passed { IsPassed self.now passed.now }
+        requires between { IsBetween self.now passed.now }
+        ensures moved { (side : Side) (all : List ℕ)
+            → char_indices.old ≡ mapped (moved side (ops self.now)) from all
+            → char_indices.new ≡ mapped (moved side (ops self.now)) result all }
+        ensures from { from ≤ result }
+        ensures within { result ≤ length char_indices.new }
     {
         let _ = &self.rest;
-        if passed.end < char_idx && char_idx < passed.start {
-            return passed.new_end + (char_idx - passed.end);
+        let (first, new_first) = (passed.end + 1, passed.new_end + 1);
+        let count = passed.start.saturating_sub(first);
+        let mut next = from;
+        while next < char_indices.len() {
+            // An index before `first` wraps to a large offset, so one comparison tests both ends.
+            let offset = char_indices[next].wrapping_sub(first);
+            if offset >= count {
+                return next;
+            }
+            char_indices[next] = new_first + offset;
+            next += 1;
         }
-        self.map_from(passed, char_idx, side)
+        next
     }
 
     // Returns the index in the text after the change, and passes the replacements that end before
@@ -152,7 +171,7 @@ impl ChangeSet {
             passed.end += edit.kept + edit.deleted;
             passed.new_end += edit.kept + edit.inserted;
         }
-        passed.start = usize::MAX;
+        passed.start = self.len_before + 1;
         passed.new_end + (char_idx - passed.end)
     }
 }

@@ -182,6 +182,8 @@ impl Replacements {
     }
 
     /// Adds a replacement after the last one. A call that fails leaves the list as it was.
+    // Always inlined, as `extend` is, so that `add` copies no result through memory.
+    #[inline(always)]
     pub(crate) fn push(
         &mut self,
         kept: usize,
@@ -212,6 +214,7 @@ impl Replacements {
 
     // Inserts and deletes more at the end of the last replacement. A call that fails leaves the
     // list as it was.
+    #[inline(always)]
     fn extend(&mut self, text: &str, inserted: usize, deleted: usize) -> Result<(), ChangeError>
         requires some { 1 ≤ length self.old }
         requires counted { inserted ≡ length (chars text.now) }

@@ -25,7 +25,6 @@ mod example;
 #[cfg(test)]
 mod reading;
 #[cfg(test)]
-mod rows;
 #[cfg(test)]
 mod runs;
 #[cfg(test)]

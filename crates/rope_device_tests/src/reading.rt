@@ -1,9 +1,8 @@
 //! Bytes in several reads, bytes that are not UTF-8, and readers that fail.
 use crate::devices::{Endless, NEVER, Parts, SINGLY};
-use crate::rows::at;
 use crate::stumbles::read_kind;
 use rope_plain::compare::expect_few_chunks;
-use rope_plain::failure::{Failure, expect_same};
+use rope_plain::failure::{Failure, at, expect_same};
 use rope_plain::texts::{expect_shown, repeated};
 use rope_plain::{holds, same, some};
 use ropey::io::{Mark, ReadError, Watched};

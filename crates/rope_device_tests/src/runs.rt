@@ -1,6 +1,5 @@
 //! Runs of several commands: with ample memory none fails.
-use crate::rows::at;
-use rope_plain::failure::{Failure, expect_same};
+use rope_plain::failure::{Failure, at, expect_same};
 use rope_plain::holds;
 use rope_plain::sums::plus;
 use rope_script::{Command, Reply, Session};

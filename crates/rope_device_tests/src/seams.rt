@@ -1,8 +1,7 @@
 //! Texts with long characters and breaks at the cut of a leaf, read and written one byte at a time.
 use crate::devices::{NEVER, Narrow, Parts, SINGLY};
-use crate::rows::at;
 use rope_plain::compare::{expect_few_chunks, expect_plain_unicode};
-use rope_plain::failure::{Failure, expect_same};
+use rope_plain::failure::{Failure, at, expect_same};
 use rope_plain::sums::plus;
 use rope_plain::texts::{chars_of, repeated};
 use ropey::Rope;

@@ -1,8 +1,7 @@
 //! Lines that come in several reads, devices that fail, and outcomes of runs.
-use crate::rows::at;
 use crate::served::expect_served;
 use crate::talks::{Asking, Halting, Narrow, Stumbling, Telling};
-use rope_plain::failure::{Failure, expect_same};
+use rope_plain::failure::{Failure, at, expect_same};
 use rope_plain::same;
 use rope_plain::sums::plus;
 use rope_plain::texts::repeated;

@@ -1,8 +1,7 @@
 //! Devices that fail once, or move no byte once, and would then continue: they are not called
 //! again.
 use crate::devices::{Halting, Stumble, Stumbling};
-use crate::rows::at;
-use rope_plain::failure::{Failure, expect_same};
+use rope_plain::failure::{Failure, at, expect_same};
 use rope_plain::sums::plus;
 use rope_plain::texts::repeated;
 use rope_plain::{holds, same};

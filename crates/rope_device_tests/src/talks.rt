@@ -1,6 +1,5 @@
 //! Readers that give a few bytes at once, writers with little room, and both ends of a dialogue.
-use crate::rows::at;
-use rope_plain::failure::{Failure, expect_same, within};
+use rope_plain::failure::{Failure, at, expect_same, within};
 use std::alloc::Global;
 use std::cell::Cell;
 use std::io::{self, ErrorKind, Read, Write};

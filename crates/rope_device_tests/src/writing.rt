@@ -1,8 +1,7 @@
 //! Writers that take few bytes, fail, or take none.
 use crate::devices::Narrow;
-use crate::rows::at;
 use crate::stumbles::write_kind;
-use rope_plain::failure::{Failure, expect_same};
+use rope_plain::failure::{Failure, at, expect_same};
 use rope_plain::texts::repeated;
 use rope_plain::{holds, same};
 use ropey::Rope;

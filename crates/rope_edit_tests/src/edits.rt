@@ -1,8 +1,7 @@
 //! Inserts into ropes, against rows worked by hand.
-use crate::rows::at;
 use crate::texts::chunk_count;
 use rope_plain::compare::{expect_together, lens};
-use rope_plain::failure::Failure;
+use rope_plain::failure::{Failure, at};
 use rope_plain::texts::rope_of;
 use rope_plain::{holds, same};
 use ropey::Rope;

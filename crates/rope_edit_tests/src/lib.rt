@@ -24,7 +24,6 @@ mod random_edits;
 #[cfg(test)]
 mod removals;
 #[cfg(test)]
-mod rows;
 #[cfg(test)]
 mod short_chunks;
 #[cfg(test)]

@@ -1,8 +1,7 @@
 //! Long texts of CR and LF alone, against rows worked by hand and plain lists of characters.
-use crate::rows::at;
 use crate::texts::add_letters;
 use rope_plain::compare::{expect_text, lens};
-use rope_plain::failure::{Failure, expect_same};
+use rope_plain::failure::{Failure, at, expect_same};
 use rope_plain::texts::{repeated, rope_of};
 use rope_plain::{holds, same};
 use ropey::Rope;

@@ -1,7 +1,6 @@
 //! Random edits of ropes and their clones, against plain lists of characters.
-use crate::rows::at;
 use rope_plain::compare::expect_few_chunks;
-use rope_plain::failure::{Failure, within};
+use rope_plain::failure::{Failure, at, within};
 use rope_plain::numbers::Numbers;
 use rope_plain::pair::Pair;
 use rope_plain::sums::plus;

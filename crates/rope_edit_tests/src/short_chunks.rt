@@ -1,8 +1,7 @@
 //! Removals that leave little of each chunk: the rest is in few chunks.
-use crate::rows::at;
 use crate::texts::chunk_count;
 use rope_plain::compare::{expect_no_short_chunks, expect_text};
-use rope_plain::failure::{Failure, expect_same, within};
+use rope_plain::failure::{Failure, at, expect_same, within};
 use rope_plain::numbers::Numbers;
 use rope_plain::same;
 use rope_plain::sums::{minus, plus};

@@ -15,7 +15,6 @@ use Rattle.rope_text.specs.Edit.{size_error}
 use Rattle.rope_text.specs.Text.{byte_len}
 use Rattle.rope_text.specs.declared.error.Error.{Error}
 use Rattle.rope_io.proofs.Buffers as buffers
-pub use Rattle.rope_io.proofs.Readings.{size_fits}
 use Rattle.rope_files.specs.Decoding.{IsDecoded, Settles, Parts, IsSettleError, IsEndError}
 use Rattle.rope_files.specs.Layouts.{BeginsWith, char_bytes, laid_out, EndsHalf, EndsUnpaired}
 use Rattle.rope_files.specs.Reading.{IsOpen, Answers, Gives}

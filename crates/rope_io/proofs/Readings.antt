@@ -4,15 +4,15 @@ use Rattle.std.specs.Io.KnownBytes.{Consumes, Keeps, IsAtEnd}
 use Rattle.std.specs.Str.{IsUtf8, encode_utf8_all}
 use Rattle.std.specs.Str.Lossy.{utf8_valid_len}
 use Rattle.std.proofs.KnownBytes.{Consumes-nil, Consumes-kept}
-use Rattle.std.proofs.lemmas.Bool.{cond-true, lt-ltb}
-use Rattle.std.proofs.lemmas.List.{take-append-drop, length-take-le, length-append}
+use Rattle.std.proofs.lemmas.List.{take-append-drop, length-append}
 use Rattle.std.proofs.lemmas.Str.{IsUtf8-append, IsUtf8-nil, utf8_valid_len_le, utf8_valid_len-IsUtf8}
 use Rattle.rope_text.specs.Text.{byte_len}
 use Rattle.rope_text.specs.Edit.{size_error, IsRefusal}
 use Rattle.rope_text.specs.Read.{text_front, text_rest, IsRefused}
 use Rattle.rope_text.specs.declared.error.Error.{Error}
 use Rattle.rope_text.specs.declared.error.Error.TheVariants.{OutOfMemory}
-use Rattle.rope_text.proofs.ReadLaws.{IsUtf8-text_front, utf8_valid_len-append, text_rest-append}
+use Rattle.rope_text.proofs.EditLaws.{size_error-none}
+use Rattle.rope_text.proofs.ReadLaws.{IsUtf8-text_front, length-text_front, utf8_valid_len-append, text_rest-append}
 use Rattle.std.specs.Prelude.{Result, Ok, Err}
 use Rattle.std.specs.Result.{IsErrAnd}
 use Rattle.rope_io.specs.declared.error.ReadError.{ReadError}
@@ -22,9 +22,6 @@ use Rattle.rope_io.specs.Reading.{Fits, has_ended, Answers}
 use Rattle.rope_io.proofs.Buffers.{length-front_read}
 use Rattle.rope_io.proofs.Buffers as buffers
 use borrow.Rule.Slice.PartMut.{put_mid}
-
-pub length-text_front : (bs : List ℕ) → length (text_front bs) ≡ utf8_valid_len bs
-length-text_front bs = length-take-le (utf8_valid_len bs) bs (utf8_valid_len_le bs)
 
 -- no prefix of the rest is text
 pub rest_stays : (bs : List ℕ) → utf8_valid_len (text_rest bs) ≡ 0
@@ -39,10 +36,6 @@ pub front_after : (xs ys : List ℕ) → IsUtf8 xs
     → length (text_front (xs ++ ys)) ≡ length xs + length (text_front ys)
 front_after xs ys u =
     omega (arith, length-text_front (xs ++ ys), length-text_front ys, utf8_valid_len-append xs ys u)
-
--- a short enough text fits
-pub size_fits : (n : ℕ) → n < 2 ^ 63 → size_error n ≡ None
-size_fits n h = cond-true _ _ _ (lt-ltb n (2 ^ 63) h)
 
 -- the bytes given so far are those of the text and the held ones, which begin with no text
 pub record HasRead (start now : Option (List ℕ)) (text held : List ℕ) : Type 0 where
@@ -75,7 +68,7 @@ module _ (start now : Option (List ℕ)) (text held : List ℕ) (h : HasRead sta
 
   pub front_fits : Fits (encode_utf8_all text ++ held)
   front_fits =
-      size_fits _ (omega (
+      size_error-none _ (omega (
         arith,
         front_after (encode_utf8_all text) held h.utf8,
         length-text_front held,
@@ -205,5 +198,5 @@ same_failure R {Q} (Rope e) (Err y) is = ap (λ z. reader_failure {R = Q} (Err z
 pub no_memory : (bytes : List ℕ) → length bytes < 2 ^ 63
     → IsRefusal (size_error (length (text_front bytes))) OutOfMemory
 no_memory bytes short =
-    rw (size_fits (length (text_front bytes))
+    rw (size_error-none (length (text_front bytes))
     (omega (arith, length-text_front bytes, utf8_valid_len_le bytes))) refl

@@ -2,10 +2,10 @@
 use Rattle.std.proofs.Common.{ℕ, ◌+◌, ◌<◌, ◌≤◌, List, ◌++◌, length, take, drop, sym, ap, ◌∙◌, arith}
 use Rattle.std.specs.List.{concat, All}
 use Rattle.std.proofs.lemmas.List.{take-append-drop, length-take-le, length-drop}
+use Rattle.std.proofs.lemmas.List.Elements.{All-take, All-drop}
 use Rattle.rope_text.specs.Text.{byte_len}
 use Rattle.rope_leaf.specs.Tree.{Tree, height_of, breaks_of, IsChild, AreChildren}
 use Rattle.rope_leaf.specs.Siblings.{AreSiblings, gathered}
-use Rattle.rope_leaf.proofs.LeafLaws.{all_left, all_right}
 use Rattle.rope_leaf.proofs.NodeLaws.{children_of_first}
 use Rattle.rope_leaf.proofs.SiblingLaws.{siblings_left, siblings_right, children_of}
 use Rattle.rope_tree.proofs.Gathered.{is_gathered}
@@ -34,14 +34,10 @@ module _ (ts : List Tree) (a : AreChildren (breaks_of ts) (height_of ts) ts) whe
       (omega (arith, a.at_most_24, length-drop k ts)))
 
   each_after : (k : ℕ) → All (IsChild (breaks_of ts) (height_of ts)) (drop k ts)
-  each_after k =
-      all_right (IsChild (breaks_of ts) (height_of ts)) (take k ts) (drop k ts)
-      (rw take-append-drop a.each)
+  each_after k = All-drop (IsChild (breaks_of ts) (height_of ts)) k ts a.each
 
   each_before : (k : ℕ) → All (IsChild (breaks_of ts) (height_of ts)) (take k ts)
-  each_before k =
-      all_left (IsChild (breaks_of ts) (height_of ts)) (take k ts) (drop k ts)
-      (rw take-append-drop a.each)
+  each_before k = All-take (IsChild (breaks_of ts) (height_of ts)) k ts a.each
 
   module _ (first past : ℕ) (part : Tree) (can : CanPutAtEnd ts first past part) where
     module _ (more : past < length ts) where

@@ -3,7 +3,7 @@ use Rattle.std.proofs.Common.{◌≡◌, ℕ, ◌+◌, ◌-◌, ◌^◌, ◌<◌
 use Rattle.std.proofs.lemmas.Bool.{cases_lt}
 use Rattle.std.specs.List.{concat, All}
 use Rattle.std.proofs.lemmas.List.{append-nil, append_assoc, length-append, length-drop, length-take-le, take-append-drop, take_more}
-use Rattle.std.proofs.lemmas.List.Elements.{All-head, All-append}
+use Rattle.std.proofs.lemmas.List.Elements.{All-head, All-append, All-take, All-drop}
 use Rattle.rope_text.specs.declared.line_breaks.LineBreaks.{LineBreaks}
 use Rattle.rope_text.specs.Text.{byte_len}
 use Rattle.rope_text.specs.Dense.{IsDenseAfter, last_bytes}
@@ -15,7 +15,7 @@ use Rattle.rope_leaf.specs.Tree.{Tree, text, joined, leaves_of, height_of, break
 use Rattle.rope_leaf.specs.Siblings.{AreSiblings, AreOver, gathered}
 use Rattle.rope_tree.specs.View.{trees_in}
 use Rattle.rope_tree.specs.declared.node.Nodes.{Nodes}
-use Rattle.rope_leaf.proofs.LeafLaws.{all_left, all_right, leaves_left, seam_of_left, seam_of_right, recuts_kept, recuts_right, recuts_left}
+use Rattle.rope_leaf.proofs.LeafLaws.{leaves_left, seam_of_left, seam_of_right, recuts_kept, recuts_right, recuts_left}
 use Rattle.rope_leaf.proofs.TreeLaws.{breaks_of_wide, height_of_is, breaks_of_is}
 use Rattle.rope_leaf.proofs.NodeLaws.{leaves_of-append, children_of_first, child_at}
 use Rattle.rope_leaf.proofs.InsertTrees.{siblings_of_first}
@@ -38,14 +38,10 @@ module _ (ts : List Tree) (first past : ℕ) (part : Tree)
   new = leaves_after ts past part
 
   each_before : (k : ℕ) → All (IsChild (breaks_of ts) (height_of ts)) (take k ts)
-  each_before k =
-      all_left (IsChild (breaks_of ts) (height_of ts)) (take k ts) (drop k ts)
-      (rw take-append-drop a.each)
+  each_before k = All-take (IsChild (breaks_of ts) (height_of ts)) k ts a.each
 
   each_after : (k : ℕ) → All (IsChild (breaks_of ts) (height_of ts)) (drop k ts)
-  each_after k =
-      all_right (IsChild (breaks_of ts) (height_of ts)) (take k ts) (drop k ts)
-      (rw take-append-drop a.each)
+  each_after k = All-drop (IsChild (breaks_of ts) (height_of ts)) k ts a.each
 
   leaves_until : (k : ℕ) → AreLeaves (leaves_of (take k ts))
   leaves_until k =

@@ -72,6 +72,12 @@ pub fn within<D: Display + Drop>(place: D, outcome: Result<(), Failure>) -> Resu
     }
 }
 
+/// Returns the outcome, with the name of a row and its number prepended to a failure. Each format
+/// is proved where it is written, so tests call this one.
+pub fn at(name: &str, number: usize, outcome: Result<(), Failure>) -> Result<(), Failure> {
+    within(format_args!("{name} {number}"), outcome)
+}
+
 /// Fails unless `found` is `wanted`; `what` names the call.
 pub fn expect_same<T: PartialEq + Debug>(what: &str, found: &T, wanted: &T) -> Result<(), Failure> {
     if *found == *wanted {

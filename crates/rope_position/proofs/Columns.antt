@@ -139,11 +139,6 @@ encoded_by encoding breaks text i line start before all l line_is start_is befor
           (unit_len encoding (slice_range text first i)) line_is (omega arith),
     )
 
--- the character at a code unit is one of the text, or its end
-pub utf16_within : (text : List ℕ) (unit : ℕ) → utf16_to_char text unit ≤ length text
-unfolding utf16_to_char
-utf16_within text unit = front-le-length utf16_len IsMeasure-utf16_len text unit
-
 -- a prefix of a line is in the text
 pub line_within : (breaks : LineBreaks) (text part : List ℕ) (l n : ℕ) → length part ≡ length
     (slice_range (line breaks text l) 0 n) → line_start breaks text l + length part ≤ length text

@@ -13,13 +13,12 @@ use Rattle.rope_text.specs.Lines.{line_start}
 use Rattle.rope_text.specs.Conversions.{byte_to_char, utf16_to_char, char_to_byte, char_to_utf16, char_to_line, byte_to_line, line_to_byte, line_to_char}
 use Rattle.rope_text.specs.TextInfo.{info_of}
 use Rattle.rope_text.proofs.Measures.{IsMeasure-byte_len, IsMeasure-utf16_len, size_le, size_le_all}
-use Rattle.rope_text.proofs.ConversionLaws.{byte_to_char-le-length, byte_to_line-byte_to_char, char_to_line-less}
+use Rattle.rope_text.proofs.ConversionLaws.{byte_to_char-le-length, utf16_to_char-le-length, byte_to_line-byte_to_char, char_to_line-less}
 use Rattle.rope_text.proofs.LineLaws.{line_start-le-length}
 use Rattle.rope_leaf.specs.declared.search.Unit.{Unit}
 use Rattle.rope_leaf.specs.declared.search.Unit.TheVariants.{Byte, Char, CodeUnit, LineBreak}
 use Rattle.rope_leaf.specs.Search.{count_of}
 use Rattle.rope_tree.specs.Conversions.{end_index, first_sought, are_converted, converted}
-use Rattle.rope_tree.proofs.FoundLaws.{utf16_to_char-le}
 use Rattle.rope_tree.proofs.ConvertedLaws.{converted_end}
 use Rattle.rope_slice.specs.Edge.{IsExcerpt}
 use Rattle.rope_slice.proofs.Measured.{measured}
@@ -198,7 +197,7 @@ module _ (breaks : LineBreaks) (text : List ℕ) (start end : TextInfo)
       omega (
         arith,
         excerpt_utf16_to_char idx (omega arith),
-        utf16_to_char-le (slice_range text start.chars end.chars) idx,
+        utf16_to_char-le-length (slice_range text start.chars end.chars) idx,
       )
   excerpt_converted LineBreak Byte idx pair first less = excerpt_line_to_byte idx first
   excerpt_converted LineBreak Char idx pair first less = excerpt_line_to_char idx first

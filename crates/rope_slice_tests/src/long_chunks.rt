@@ -1,7 +1,6 @@
 //! Chunks of texts of 2^62 bytes, at both ends and in the middle. crates/rope/stdin has their other
 //! lookups.
-use crate::rows::at;
-use rope_plain::failure::{Failure, expect_same, within};
+use rope_plain::failure::{Failure, at, expect_same, within};
 use rope_plain::sums::{minus, plus};
 use rope_plain::texts::doubled;
 use rope_plain::{holds, same, some};

@@ -1,9 +1,8 @@
 //! The lookups of a rope at one index, compared with those of a list of characters, and the
 //! conversions that the tests of slices share.
-use crate::rows::at;
 use crate::{conversions_at, conversions_inside};
 use rope_plain::compare::chunk_of;
-use rope_plain::failure::{Failure, expect_same};
+use rope_plain::failure::{Failure, at, expect_same};
 use rope_plain::plain_text::{Place, place_of};
 use rope_plain::sums::{minus, plus};
 use rope_plain::{holds, same, some};

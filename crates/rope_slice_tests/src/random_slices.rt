@@ -1,10 +1,10 @@
 //! Random slices of slices, of ropes and of plain texts, against the model.
 use crate::cuts::{between, byte_between, byte_part, part};
 use crate::plain_slice::PlainSlice;
-use crate::rows::{at, at_turn};
+use crate::rows::at_turn;
 use crate::slice_model::{expect_lookups_at, expect_whole};
 use rope_plain::compare::SETS;
-use rope_plain::failure::Failure;
+use rope_plain::failure::{Failure, at};
 use rope_plain::numbers::Numbers;
 use rope_plain::pair::Pair;
 use rope_plain::plain_text::char_to_byte;

@@ -1,11 +1,6 @@
-//! Where a test failed. These are functions of their own, since each format is proved anew.
+//! Where a test failed. Each format is proved where it is written, so tests call these.
 use rope_plain::compare::SETS;
 use rope_plain::failure::{Failure, within};
-
-/// Returns the outcome, with the name of a row and its number prepended to a failure.
-pub fn at(name: &str, number: usize, outcome: Result<(), Failure>) -> Result<(), Failure> {
-    within(format_args!("{name} {number}"), outcome)
-}
 
 /// Returns the outcome, with the seed, the round and the set of line breaks prepended to a failure.
 /// A round has a turn for each set.

@@ -4,9 +4,8 @@ use crate::places::{
     conversion_errors, expect_same_conversions, expected_conversions, first_byte, last_indices,
 };
 use crate::plain_slice::PlainSlice;
-use crate::rows::at;
 use crate::{conversions_at, conversions_inside};
-use rope_plain::failure::{Failure, expect_same};
+use rope_plain::failure::{Failure, at, expect_same};
 use rope_plain::plain_text::{Place, place_of};
 use rope_plain::sums::{minus, plus};
 use rope_plain::texts::expect_chars;

@@ -3,11 +3,11 @@
 use crate::plain_cursor::PlainCursor;
 use crate::plain_slice::PlainSlice;
 use crate::random_slices::{edited, random_range, slice_of};
-use crate::rows::{at, at_turn};
+use crate::rows::at_turn;
 use crate::slice_model::expect_whole;
 use crate::walker::{Item, Walker};
 use rope_plain::compare::SETS;
-use rope_plain::failure::{Failure, within};
+use rope_plain::failure::{Failure, at, within};
 use rope_plain::numbers::Numbers;
 use rope_plain::pair::Pair;
 use rope_plain::plain_text::{char_to_byte, char_to_line, line_to_char};

@@ -1,7 +1,6 @@
 //! The counts and conversions of plain texts against the model.
-use crate::rows::at;
 use rope_plain::compare::SETS;
-use rope_plain::failure::{Failure, expect_same};
+use rope_plain::failure::{Failure, at, expect_same};
 use rope_plain::sums::plus;
 use rope_plain::{plain_text, same};
 use rope_text::{LineBreaks, TextInfo, str_utils};

@@ -1,8 +1,7 @@
 //! The counts of lookups in ropes of known depth.
 use crate::ropes::{chunk_count, rope_of_repeated};
-use crate::rows::at;
 use rope_plain::compare::lens;
-use rope_plain::failure::{Failure, expect_same};
+use rope_plain::failure::{Failure, at, expect_same};
 use rope_plain::{holds, same};
 use ropey::{Rope, Steps};
 

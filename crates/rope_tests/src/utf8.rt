@@ -1,6 +1,5 @@
 //! UTF-8 checked at every position of a block: byte strings that Unicode's Table 3-7 classifies.
-use crate::rows::at;
-use rope_plain::failure::{Failure, expect_same};
+use rope_plain::failure::{Failure, at, expect_same};
 use rope_plain::sums::plus;
 use rope_plain::{holds, same};
 use rope_text::utf8::{front, text_of, valid_len};

@@ -9,7 +9,7 @@ use Rattle.rope_text.specs.TextInfo.{info_of}
 use Rattle.rope_text.specs.Lines.{line_start}
 use Rattle.rope_text.specs.Conversions.{char_to_byte}
 use Rattle.rope_text.proofs.Measures.{IsMeasure-byte_len, IsMeasure-utf16_len, size_le_all}
-use Rattle.rope_text.proofs.ConversionLaws.{byte_to_char-byte_len, byte_to_char-le-length, char_to_line_end, utf16_len-le}
+use Rattle.rope_text.proofs.ConversionLaws.{byte_to_char-byte_len, byte_to_char-le-length, utf16_to_char-le-length, char_to_line_end, utf16_len-le}
 use Rattle.rope_text.proofs.LineLaws.{line_start-le-length, line_start_first, line_start_past}
 use Rattle.rope_text.proofs.AsciiTexts.{ascii_front, ascii_units, ascii_byte_to_char, ascii_utf16_to_char}
 use Rattle.rope_leaf.specs.declared.search.Unit.{Unit}
@@ -18,7 +18,7 @@ use Rattle.rope_leaf.specs.Search.{count_of}
 use Rattle.rope_tree.specs.Conversions.{first_sought, are_converted, converted}
 use Rattle.rope_leaf.specs.Tree.{Tree, text, IsTree}
 use Rattle.rope_leaf.specs.Found.{IsFound}
-use Rattle.rope_tree.proofs.FoundLaws.{utf16_to_char_end, char_to_byte_end, char_to_utf16_end, byte_to_line_end, found_byte_to_char, found_utf16_to_char, found_char_to_line, found_byte_to_line, found_char_to_byte, found_char_to_utf16, found_line_start, found_line_to_byte, utf16_to_char-le, char_to_line-le, byte_to_line-le}
+use Rattle.rope_tree.proofs.FoundLaws.{utf16_to_char_end, char_to_byte_end, char_to_utf16_end, byte_to_line_end, found_byte_to_char, found_utf16_to_char, found_char_to_line, found_byte_to_line, found_char_to_byte, found_char_to_utf16, found_line_start, found_line_to_byte, char_to_line-le, byte_to_line-le}
 
 -- a conversion is that of the leaf, after the text before it
 pub found_converted : (from to : Unit) (idx at : ℕ) (t : Tree) (leaf : List ℕ) (front : TextInfo)
@@ -89,7 +89,7 @@ converted-le Char CodeUnit breaks text idx pair =
 converted-le Char LineBreak breaks text idx pair =
     omega (arith, char_to_line-le breaks text idx, length-le-encodes text)
 converted-le CodeUnit Char breaks text idx pair =
-    omega (arith, utf16_to_char-le text idx, length-le-encodes text)
+    omega (arith, utf16_to_char-le-length text idx, length-le-encodes text)
 converted-le LineBreak Byte breaks text idx pair =
     omega (arith, size_le_all byte_len IsMeasure-byte_len text (line_start breaks text idx))
 converted-le LineBreak Char breaks text idx pair =

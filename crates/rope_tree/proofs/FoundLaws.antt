@@ -14,7 +14,7 @@ use Rattle.rope_text.specs.Breaks.{break_ends, break_count}
 use Rattle.rope_text.specs.Lines.{line_start}
 use Rattle.rope_text.specs.Conversions.{byte_to_char, utf16_to_char, char_to_byte, char_to_utf16, char_to_line, byte_to_line, line_to_byte}
 use Rattle.rope_text.specs.Cutting.{parts_crlf}
-use Rattle.rope_text.proofs.Measures.{IsMeasure-byte_len, IsMeasure-utf16_len, front-le-length}
+use Rattle.rope_text.proofs.Measures.{IsMeasure-byte_len, IsMeasure-utf16_len}
 use Rattle.rope_text.proofs.ConversionLaws.{byte_to_char-byte_len, utf16_to_char-char_to_utf16, char_to_line_end, byte_to_line-byte_to_char}
 use Rattle.rope_text.proofs.LineLaws.{line_start-le-length}
 use Rattle.rope_text.proofs.InfoLaws.{info_of-append_apart}
@@ -195,11 +195,7 @@ module _ (at line : ℕ) (t : Tree) (leaf : List ℕ) (front : TextInfo) (i : Is
       ∙ ap (λ n. n + byte_len (take ((front.chars + s) - front.chars) leaf)) l.bytes
       ∙ ap (λ n. front.bytes + byte_len (take n leaf)) back
 
--- a conversion to characters does not exceed the number of characters
-pub utf16_to_char-le : (text : List ℕ) (u : ℕ) → utf16_to_char text u ≤ length text
-unfolding utf16_to_char
-utf16_to_char-le text u = front-le-length utf16_len IsMeasure-utf16_len text u
-
+-- a conversion to lines does not exceed the number of characters
 pub char_to_line-le : (breaks : LineBreaks) (text : List ℕ) (i : ℕ)
     → char_to_line breaks text i ≤ length text
 unfolding char_to_line

@@ -10,7 +10,7 @@ use Rattle.rope_files.specs.Layouts.{IsUnpaired, EndsHalf, EndsUnpaired}
 use Rattle.rope_files.specs.Reading.{ReadsAny, text_read}
 use Rattle.rope_files.specs.declared.encoding.Encoding.{Encoding}
 use Rattle.rope_files.specs.declared.error.ReadAnyError.TheVariants as any
-use Rattle.rope_files.proofs.Decodings.{size_fits}
+use Rattle.rope_text.proofs.EditLaws.{size_error-none}
 use Rattle.rope_files.proofs.Unpaired.{unpaired_before}
 use Rattle.ropey_c.specs.Files.{IsFault}
 use Rattle.ropey_c.specs.declared.encodings.Fault.TheVariants.{UnpairedSurrogate, HalfCodeUnit, TooLong}
@@ -69,7 +69,7 @@ module _ (e : Encoding) (bytes left : List ℕ) (failed : Bool) (fits : length b
         let long : 2 ^ 63 ≤ byte_len a.1 = elim (cases_lt (byte_len a.1) (2 ^ 63)) [
           | inl small ↦
               let same = subst (λ o. IsRefusal o rope_error.TooLong)
-              (size_fits (byte_len a.1) small) a.4 in cc
+              (size_error-none (byte_len a.1) small) a.4 in cc
           | inr big ↦ big
         ] in (at, a.1, a.3.scalars, before, long)
   ])

@@ -2,10 +2,10 @@ use Rattle.std.proofs.Common.{◌≡◌, ◌++◌, [], length, refl, ap, ◌∙�
 use Rattle.std.proofs.lemmas.Result.{on_ok_weaker}
 use Rattle.rope_changes.specs.Ops.{len_before, len_after}
 use Rattle.rope_changes.specs.Normal.{normal_form}
-use Rattle.rope_changes.specs.Change.{ops, inserting}
+use Rattle.rope_changes.specs.Change.{ops, inserting, deleting}
 use Rattle.rope_changes.specs.Left.{Left, left}
-use Rattle.rope_changes.proofs.Prefixes.{deleting_before, inserting_after}
-use Rattle.rope_changes.proofs.ComposeSteps.{first_deletes, second_inserts, runs_meet}
+use Rattle.rope_changes.proofs.Prefixes.{keeping_before, deleting_before, deleting_after, inserting_after}
+use Rattle.rope_changes.proofs.ComposeSteps.{first_deletes, second_replaces, runs_meet}
 use Rattle.rope_changes.proofs.compose.compose_next.Goals.{else-first-eq0-via-then-first-eq0+then-first-eq0-2+else-first-gt0, else-first-eq0-via-then-first-eq0+else-first-eq0-2, else-first-eq0-via-else-first-eq0, else-second-eq0-via-then-second-eq0+else-second-gt0, else-second-eq0-via-else-second-eq0}
 use Rattle.rope_changes.proofs.compose.compose_next.Goals as goal
 
@@ -24,13 +24,23 @@ returns-then-first-gt0-clause-ok c =
     (omega arith) c.skip_deleted.ensures refl is)
     c.push_deleted.ensures.ok
 
+pub push-requires-clause-before_fits : goal.push-requires-clause-before_fits
+push-requires-clause-before_fits c =
+    omega (
+      arith,
+      ap len_before c.skip_kept.ensures,
+      keeping_before c.min-count.result (left c.skip_kept.new.self),
+    )
+
 pub push-requires-clause-after_fits : goal.push-requires-clause-after_fits
 push-requires-clause-after_fits c =
+    let rest = left c.take_edit-text.new.self in
     omega (
       arith,
       ap (λ (x : Left). length x.text) c.second.view_is,
-      ap len_after c.take_text-text.ensures.passed,
-      inserting_after c.args.second.now.text (left c.take_text-text.new.self),
+      ap len_after c.take_edit-text.ensures.passed,
+      inserting_after c.args.second.now.text (deleting c.min-count.result rest),
+      deleting_after c.min-count.result rest,
     )
 
 pub returns-then-second-gt0-clause-ok : goal.returns-then-second-gt0-clause-ok
@@ -44,13 +54,14 @@ returns-then-second-gt0-clause-ok c =
       | else-first-eq0-via-else-first-eq0 w ↦ λ kept text. absurd
           (omega (arith, ap (λ (x : Left). x.kept) c.first.view_is))
     ] in
+    let n = c.min-count.result in
     on_ok_weaker _
-    (λ is. second_inserts
-    (ops c.args.made.now) _ c.args.first.now _ _ c.args.second.now.text c.requires.meet
+    (λ is. second_replaces
+    (ops c.args.made.now) _ c.args.first.now _ _ _ c.args.second.now.text n c.requires.meet
     (omega (arith, ap (λ (x : Left). length x.text) c.second.view_is)) c.requires.first_loaded none
-    c.take_text-text.ensures.passed
-    (is ∙ ap
-    (λ t. normal_form (ops c.args.made.now ++ inserting t [])) c.take_text-text.ensures.text))
+    c.skip_kept.ensures c.take_edit-text.ensures.passed
+    (is ∙ ap (λ t. normal_form (ops c.args.made.now ++ inserting t (deleting n [])))
+    c.take_edit-text.ensures.text))
     c.push.ensures.ok
 
 pub compose_inserted-requires-clause-inserts : goal.compose_inserted-requires-clause-inserts

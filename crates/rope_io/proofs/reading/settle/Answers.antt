@@ -2,7 +2,7 @@ use Rattle.std.proofs.Common.{ap, ◌∙◌, sym, arith, take, drop, length}
 use Rattle.std.proofs.lemmas.List.{length-take-le}
 use Rattle.std.proofs.lemmas.Str.{utf8_valid_len_le}
 use Rattle.rope_io.proofs.Buffers.{moved_rest}
-use Rattle.rope_io.proofs.Readings.{length-text_front}
+use Rattle.rope_text.proofs.ReadLaws.{length-text_front}
 use Rattle.rope_io.proofs.reading.settle.Goals as goal
 
 pub returns-clause-rest : goal.returns-clause-rest

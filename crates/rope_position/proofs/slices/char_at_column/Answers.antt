@@ -1,6 +1,6 @@
 use Rattle.rope_text.proofs.ConversionLaws.{byte_to_char-le-length}
 use Rattle.rope_slice.specs.Slice.{text_of}
-use Rattle.rope_position.proofs.Columns.{utf16_within}
+use Rattle.rope_text.proofs.ConversionLaws.{utf16_to_char-le-length}
 use Rattle.rope_position.proofs.slices.char_at_column.Goals as goal
 
 pub returns-in-Utf8-clause-within : goal.returns-in-Utf8-clause-within
@@ -9,4 +9,4 @@ returns-in-Utf8-clause-within c = rw c.byte_to_char.ensures
 
 pub returns-in-Utf16-clause-within : goal.returns-in-Utf16-clause-within
 returns-in-Utf16-clause-within c = rw c.utf16_cu_to_char.ensures
-    (utf16_within (text_of c.args.text.now) _)
+    (utf16_to_char-le-length (text_of c.args.text.now) _)

@@ -234,12 +234,13 @@ returns-clause-between c =
     (sym c.self.view_is) c.loop-passed.invariant.passed in
     let all : length whole.edits ≤ p.count = omega
     (arith, c.lengths-lengths.ensures.count, c.loop-passed-test.false) in
+    let start = c.self.inside.len_before + 1 in
     let q : Passed = record {
       count = p.count;
       end = p.end;
       new_end = p.new_end;
-      start = 18446744073709551615;
+      start = start;
     } in
     subst (λ (x : Change). IsBetween x q) c.self.view_is
-    (between_last whole.edits whole.rest p.count p.end p.new_end p.start 18446744073709551615 all
-    passed)
+    (between_last whole.edits whole.rest p.count p.end p.new_end p.start start all passed
+    (ap (λ n. n + 1) c.self.invariant.before_is))
