@@ -1,10 +1,9 @@
 //! Random changes of long ropes and of their clones, against plain lists of characters.
-use crate::makers::{apply, copy, replace, rope_of};
+use crate::makers::{Sizes, apply, copy, replace_after, rope_of};
 use rope_changes::ChangeSet;
 use rope_plain::compare::expect_plain_unicode;
 use rope_plain::failure::{Failure, within};
 use rope_plain::numbers::Numbers;
-use rope_plain::sums::plus;
 use rope_plain::texts::{chars_of, random_text};
 use ropey::Rope;
 use std::alloc::Global;
@@ -17,15 +16,6 @@ const ROUNDS: usize = 60;
 const LONG: usize = 120_000;
 
 const SHORT: usize = 20_000;
-
-/// The most characters between two ranges, the most that a range has, and the most bytes of its new
-/// text.
-#[derive(Clone, Copy, Debug)]
-struct Sizes {
-    kept: usize,
-    deleted: usize,
-    inserted: usize,
-}
 
 /// Carets, words, many ranges in each chunk, removed chunks, new chunks, and few long ranges.
 const SIZES: [Sizes; 6] = [
@@ -70,25 +60,6 @@ fn sizes_for(numbers: &mut Numbers, len: usize) -> Sizes {
     } else {
         SIZES[numbers.take() % 6]
     }
-}
-
-/// Replaces a range after `at`, and returns its end. Copies the characters before it.
-fn replace_after(
-    rt: &impl Abort,
-    alloc: Global,
-    numbers: &mut Numbers,
-    sizes: Sizes,
-    text: &[char],
-    at: usize,
-    change: &mut ChangeSet,
-    after: &mut Vec<char>,
-) -> usize {
-    let start = plus(at, numbers.up_to(sizes.kept)).min(text.len());
-    let end = plus(start, numbers.up_to(sizes.deleted)).min(text.len());
-    let new = random_text(alloc, numbers, sizes.inserted).expect(rt, "there is memory");
-    copy(rt, after, text, at, start);
-    replace(rt, change, after, (start, end), new.as_str());
-    end
 }
 
 /// Returns a change of ranges up to the end of a text, and the text after it.

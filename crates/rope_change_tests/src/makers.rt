@@ -1,8 +1,20 @@
-//! Ropes and changes with which the tests begin: to make them succeeds if there is memory.
+//! Ropes, changes and random replacements for tests: to make them succeeds if there is memory.
 use rope_changes::ChangeSet;
+use rope_plain::numbers::Numbers;
+use rope_plain::sums::plus;
+use rope_plain::texts::random_text;
 use ropey::Rope;
 use std::alloc::Global;
 use std::process::Abort;
+
+/// The most characters between two ranges, the most that a range has, and the most bytes of its new
+/// text.
+#[derive(Clone, Copy, Debug)]
+pub struct Sizes {
+    pub kept: usize,
+    pub deleted: usize,
+    pub inserted: usize,
+}
 
 /// Returns a rope of a text.
 pub fn rope_of(rt: &impl Abort, alloc: Global, text: &str) -> Rope {
@@ -40,7 +52,7 @@ pub fn copy(rt: &impl Abort, to: &mut Vec<char>, text: &[char], start: usize, en
 }
 
 /// Replaces a range by a text, in a change and at the end of a list.
-pub fn replace(
+fn replace(
     rt: &impl Abort,
     change: &mut ChangeSet,
     after: &mut Vec<char>,
@@ -53,4 +65,23 @@ pub fn replace(
     for c in text.chars() {
         after.push(c).expect(rt, "there is memory");
     }
+}
+
+/// Replaces a range after `at`, and returns its end. Copies the characters before it.
+pub fn replace_after(
+    rt: &impl Abort,
+    alloc: Global,
+    numbers: &mut Numbers,
+    sizes: Sizes,
+    text: &[char],
+    at: usize,
+    change: &mut ChangeSet,
+    after: &mut Vec<char>,
+) -> usize {
+    let start = plus(at, numbers.up_to(sizes.kept)).min(text.len());
+    let end = plus(start, numbers.up_to(sizes.deleted)).min(text.len());
+    let new = random_text(alloc, numbers, sizes.inserted).expect(rt, "there is memory");
+    copy(rt, after, text, at, start);
+    replace(rt, change, after, (start, end), new.as_str());
+    end
 }

@@ -1,10 +1,10 @@
 //! Random versions of a text, against a plain tree of texts.
-use crate::makers::{copy, replace, rope_of};
+use crate::makers::{Sizes, copy, replace_after, rope_of};
 use rope_changes::{ChangeError, ChangeSet};
 use rope_history::History;
 use rope_plain::failure::{Failure, within};
 use rope_plain::numbers::Numbers;
-use rope_plain::sums::{minus, plus};
+use rope_plain::sums::minus;
 use rope_plain::texts::{chars_of, expect_chars, random_text};
 use rope_plain::{holds, same, some};
 use ropey::Rope;
@@ -115,26 +115,6 @@ impl Tree {
     }
 }
 
-/// Replaces a range that starts at most nine characters after `at`, and returns its end. Copies the
-/// characters before it.
-fn replace_after(
-    rt: &impl Abort,
-    alloc: Global,
-    numbers: &mut Numbers,
-    text: &[char],
-    at: usize,
-    change: &mut ChangeSet,
-    after: &mut Vec<char>,
-) -> usize {
-    let most = if text.len() > 60 { 20 } else { 3 };
-    let start = plus(at, numbers.up_to(9)).min(text.len());
-    let end = plus(start, numbers.up_to(most)).min(text.len());
-    let new = random_text(alloc, numbers, 9).expect(rt, "there is memory");
-    copy(rt, after, text, at, start);
-    replace(rt, change, after, (start, end), new.as_str());
-    end
-}
-
 /// Returns a change of up to three ranges of a text, and the text after it.
 fn random_change(
     rt: &impl Abort,
@@ -144,9 +124,14 @@ fn random_change(
 ) -> (ChangeSet, Vec<char>) {
     let mut change = ChangeSet::new(alloc, text.len()).expect(rt, "the text fits");
     let mut after = Vec::new(alloc);
+    let sizes = Sizes {
+        kept: 9,
+        deleted: if text.len() > 60 { 20 } else { 3 },
+        inserted: 9,
+    };
     let mut at = 0;
     for _ in 0..3 {
-        at = replace_after(rt, alloc, numbers, text, at, &mut change, &mut after);
+        at = replace_after(rt, alloc, numbers, sizes, text, at, &mut change, &mut after);
     }
     copy(rt, &mut after, text, at, text.len());
     (change, after)
