@@ -1,8 +1,9 @@
 -- Bytes that may follow each other are a text, up to the last position where no character is
 -- unfinished.
-use Rattle.std.proofs.Common.{◌≡◌, ℕ, zero, suc, ◌+◌, ◌-◌, ◌*◌, ◌/◌, ◌%◌, ◌<◌, ◌≤◌, ◌⊎◌, inl, inr, Bool, true, false, cond, not, eqb, leb, List, [], ◌∷◌, length, take, drop, get_or, count_by, refl, sym, ap, subst, ◌∙◌, arith, ⊎_elim, take-append-drop}
+use Rattle.std.proofs.Common.{◌≡◌, ℕ, zero, suc, ◌+◌, ◌-◌, ◌*◌, ◌/◌, ◌%◌, ◌<◌, ◌≤◌, ◌⊎◌, inl, inr, Bool, true, false, cond, not, eqb, leb, List, [], ◌∷◌, ◌++◌, length, take, drop, get_or, count_by, refl, sym, ap, subst, ◌∙◌, arith, ⊎_elim, take-append-drop}
 use Rattle.std.specs.Str.{IsUtf8}
 use Rattle.std.specs.List.{range_with_len}
+use Rattle.std.specs.Prelude.{replicate}
 use Rattle.std.proofs.lemmas.Bool.{cases_lt, eqb-true, not-false, leb-false}
 use Rattle.std.proofs.lemmas.Bool.Decides.{nat_tests}
 use Rattle.std.proofs.lemmas.List.Sums.{sum_by-cons}
@@ -11,7 +12,7 @@ use lib.Utf8.{low_scalar}
 use Rattle.std.specs.Char.{IsScalar, encode_utf8}
 use Rattle.rope_text.specs.Utf8.{is_fault, fault_at, HasNoFault}
 use Rattle.std.specs.Str.Lossy.{utf8_valid_len}
-use Rattle.std.proofs.lemmas.List.{take_all, length-take-le}
+use Rattle.std.proofs.lemmas.List.{take_all, length-take-le, get_or_append_left}
 use Rattle.rope_text.specs.Marks.{IsLanes}
 use Rattle.rope_text.proofs.Marks.{loaded_from}
 use Rattle.rope_text.proofs.ReadLaws.{IsUtf8-text_front, utf8_valid_len-append}
@@ -266,6 +267,40 @@ block_more bs at n size from over fine block = record { none = go }
         (λ (after : n ≤ k). (let j : ℕ = k - 3 in let same : k ≡ suc (suc (suc j)) = omega arith in
         ap (fault_at (0 ∷ 0 ∷ 0 ∷ bs)) same ∙ shifted j ∙ block j (omega arith) (omega arith)))
         (cases_lt k n)
+
+-- the bytes that follow matter to none before them
+pub in_front : (xs ys : List ℕ) (n : ℕ) → n ≤ length xs → HasNoFault xs n → HasNoFault (xs ++ ys) n
+in_front xs ys n within fine =
+    record {
+      none = λ k h. (let w : List ℕ = 0 ∷ 0 ∷ 0 ∷ xs in
+          let a = get_or_append_left w ys 0 k (omega arith) in
+          let b = get_or_append_left w ys 0 (k + 1) (omega arith) in
+          let c = get_or_append_left w ys 0 (k + 2) (omega arith) in
+          let d = get_or_append_left w ys 0 (k + 3) (omega arith) in
+          rw (a, b, c, d) (fine.none k h));
+    }
+
+-- bytes after zeros, of which three are before the first that is checked
+without_zero : (bs : List ℕ) (n : ℕ) → HasNoFault (0 ∷ bs) (suc n) → HasNoFault bs n
+without_zero bs n fine =
+    record {
+      none = λ k h. sym (fault_next 0 (0 ∷ 0 ∷ 0 ∷ bs) k) ∙ fine.none (suc k) (omega arith);
+    }
+
+without_zeros : (m n k : ℕ) (bs : List ℕ) → k ≡ m + n → HasNoFault (replicate m 0 ++ bs) k
+    → HasNoFault bs n
+without_zeros zero n k bs e fine =
+    let same : k ≡ n = omega (arith, e) in subst (HasNoFault bs) same fine
+without_zeros (suc m) n zero bs e fine = absurd (omega (arith, e))
+without_zeros (suc m) n (suc k) bs e fine =
+    without_zeros m n k bs (omega (arith, e)) (without_zero _ _ fine)
+
+pub after_zeros : (m n k : ℕ) (bs zs : List ℕ) → k ≡ 3 + m + n → zs ≡ 0 ∷ 0 ∷ 0 ∷ replicate m 0
+    → (HasNoFault (zs ++ bs) 3 → HasNoFault (zs ++ bs) k) → HasNoFault bs n
+after_zeros m n k bs zs e same block =
+    let P : List ℕ → Type 0 = λ ys. (HasNoFault (ys ++ bs) 3 → HasNoFault (ys ++ bs) k) in
+    without_zeros (suc (suc (suc m))) n k bs (omega (arith, e)) (subst P same block
+    (first_three (0 ∷ 0 ∷ 0 ∷ (replicate m 0 ++ bs)) refl refl refl))
 
 -- bytes without one above ASCII
 pub ascii_block : (bs : List ℕ) (i : ℕ)

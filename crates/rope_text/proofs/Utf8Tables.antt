@@ -1,30 +1,35 @@
 -- The faults of two neighbouring bytes, as three tables have them.
-use Rattle.std.proofs.Common.{◌≡◌, ℕ, zero, suc, ◌+◌, ◌*◌, ◌/◌, ◌^◌, ◌<◌, ◌≤◌, Bool, true, false, cond, not, eqb, ltb, leb, ◌&&◌, List, [], ◌∷◌, map, length, get_or, replicate, bit_and, w8, Fits, refl, ap, ap₂, ◌∙◌, arith, ⊎_elim}
+use Rattle.std.proofs.Common.{◌≡◌, ℕ, zero, suc, ◌+◌, ◌*◌, ◌/◌, ◌^◌, ◌<◌, ◌≤◌, Bool, true, false, cond, not, eqb, ltb, leb, ◌&&◌, List, [], ◌∷◌, ◌++◌, map, length, get_or, replicate, bit_and, w8, Fits, refl, ap, ap₂, ◌∙◌, arith, ⊎_elim}
 use Rattle.std.proofs.lemmas.Bool.{both_ways, and_parts, cases_lt, eqb-true}
 use Rattle.std.proofs.lemmas.Bool.Decides.{nat_tests}
+use Rattle.std.proofs.lemmas.List.{get_or_append_left}
 use Rattle.std.proofs.lemmas.Simd.{swz_l, get_or-swz_l_below, zip2_of_maps}
-use lib.Lanes.{Each1, zip2}
-use Rattle.rope_text.specs.declared.utf8.TheConstants.{BY_FIRST_HIGH, BY_FIRST_LOW, BY_SECOND_HIGH}
+use lib.Lanes.{Each1, zip2, pick_l}
+use Rattle.rope_text.specs.declared.utf8.TheConstants.{OF_LANES, BY_FIRST_HIGH, BY_FIRST_LOW, BY_SECOND_HIGH}
 use Rattle.rope_text.specs.Marks.{IsLanes}
-use Rattle.rope_text.specs.Utf8.{pair_fault, IsTwice}
+use Rattle.rope_text.specs.Utf8.{pair_fault, IsRepeated}
 
 -- ---- lookups lane by lane
 
-swizzled : (t : List ℕ) (g : ℕ → ℕ) (ks : List ℕ) (i : ℕ) → i + length ks ≤ 32
-    → ((k : ℕ) → g k < 16) → IsTwice t → swz_l w8 16 t i (map g ks) ≡ map (λ k. get_or t (g k) 0) ks
-swizzled t g [] i few small twice = refl
-swizzled t g (k ∷ ks) i few small twice =
-    let here = get_or-swz_l_below w8 16 t i (g k ∷ map g ks) 0 (omega arith) (small k) in
+swizzled : (t lanes : List ℕ) (g : ℕ → ℕ) (ks : List ℕ) (i : ℕ) → i + length ks ≤ 64
+    → ((k : ℕ) → g k < 16) → IsRepeated t lanes
+    → swz_l w8 16 lanes i (map g ks) ≡ map (λ k. get_or t (g k) 0) ks
+swizzled t lanes g [] i few small repeated = refl
+swizzled t lanes g (k ∷ ks) i few small repeated =
+    let here = get_or-swz_l_below w8 16 lanes i (g k ∷ map g ks) 0 (omega arith) (small k) in
     let same : i + 0 ≡ i = omega arith in
-    ap₂ (λ a b. a ∷ b) (here ∙ ap (λ j. get_or t (16 * (j / 16) + g k) 0) same
-    ∙ twice.same i (g k) (omega arith) (small k))
-    (swizzled t g ks (suc i) (omega arith) small twice)
+    ap₂ (λ a b. a ∷ b) (here ∙ ap (λ j. get_or lanes (16 * (j / 16) + g k) 0) same
+    ∙ repeated.same i (g k) (omega arith) (small k))
+    (swizzled t lanes g ks (suc i) (omega arith) small repeated)
 
-pub looked_up : (t : List ℕ) (ks : List ℕ) (g : ℕ → ℕ) (v : List ℕ) → length ks ≡ 32
-    → ((k : ℕ) → g k < 16) → IsTwice t → IsLanes ks g v
-    → IsLanes ks (λ k. get_or t (g k) 0) (swz_l w8 16 t 0 v)
-looked_up t ks g v long small twice lanes =
-    record { same = ap (swz_l w8 16 t 0) lanes.same ∙ swizzled t g ks 0 (omega arith) small twice }
+pub looked_up : (t lanes : List ℕ) (ks : List ℕ) (g : ℕ → ℕ) (v : List ℕ) → length ks ≡ 64
+    → ((k : ℕ) → g k < 16) → IsRepeated t lanes → IsLanes ks g v
+    → IsLanes ks (λ k. get_or t (g k) 0) (swz_l w8 16 lanes 0 v)
+looked_up t lanes ks g v long small repeated indices =
+    record {
+      same = ap (swz_l w8 16 lanes 0) indices.same
+          ∙ swizzled t lanes g ks 0 (omega arith) small repeated;
+    }
 
 pub each_below : (f : ℕ → ℕ → ℕ) (y : ℕ) (v : List ℕ) (n : ℕ) → ((a : ℕ) → a < 256 → f a y < 16)
     → Each1 (Fits w8) v → Each1 (λ k. k < 16) (zip2 f v (replicate n y))
@@ -50,29 +55,26 @@ each p (suc n) all k h =
     ⊎_elim (λ (less : k < n). each p n both.1 k less)
     (λ (last : n ≤ k). (let same : k ≡ n = omega arith in ap p same ∙ both.0)) (cases_lt k n)
 
-same_halves : (t : List ℕ)
-    → below (λ i. below (λ j. eqb (get_or t (16 * (i / 16) + j) 0) (get_or t j 0)) 16) 32 ≡ true
-    → IsTwice t
-same_halves t all =
+picked : (xs ks : List ℕ) (i : ℕ) → i < length ks
+    → get_or (pick_l 0 xs ks) i 0 ≡ get_or xs (get_or ks i 0) 0
+picked xs [] i h = absurd (omega arith)
+picked xs (k ∷ ks) zero h = refl
+picked xs (k ∷ ks) (suc i) h = picked xs ks i (omega arith)
+
+entry : (i j : ℕ) → i < 64 → j < 16 → get_or OF_LANES (16 * (i / 16) + j) 0 ≡ j
+unfolding below
+entry i j hi hj =
+    eqb-true _ _
+    (each (λ n. eqb (get_or OF_LANES (16 * (i / 16) + n) 0) n) 16
+    (each (λ m. below (λ n. eqb (get_or OF_LANES (16 * (m / 16) + n) 0) n) 16) 64 refl i hi) j hj)
+
+pub spread : (t : List ℕ) → length t ≡ 16 → IsRepeated t (pick_l 0 (t ++ t) OF_LANES)
+spread t long =
     record {
-      same =
-          λ i j hi hj. eqb-true _ _
-          (each (λ n. eqb (get_or t (16 * (i / 16) + n) 0) (get_or t n 0)) 16
-          (each (λ m. below (λ n. eqb (get_or t (16 * (m / 16) + n) 0) (get_or t n 0)) 16) 32 all i
-          hi) j hj);
+      same = λ i j hi hj. picked (t ++ t) OF_LANES (16 * (i / 16) + j) (omega arith)
+          ∙ ap (λ k. get_or (t ++ t) k 0) (entry i j hi hj)
+          ∙ get_or_append_left t t 0 j (omega arith);
     }
-
-pub first_high_twice : IsTwice BY_FIRST_HIGH
-unfolding below
-first_high_twice = same_halves BY_FIRST_HIGH refl
-
-pub first_low_twice : IsTwice BY_FIRST_LOW
-unfolding below
-first_low_twice = same_halves BY_FIRST_LOW refl
-
-pub second_high_twice : IsTwice BY_SECOND_HIGH
-unfolding below
-second_high_twice = same_halves BY_SECOND_HIGH refl
 
 abbrev pub faults_of : ℕ → ℕ → ℕ
 faults_of z b =

@@ -30,6 +30,7 @@ fault_at bytes k =
 pub record HasNoFault (bytes : List ℕ) (n : ℕ) : Type 0 where
   pub none : (k : ℕ) → k < n → fault_at (0 ∷ 0 ∷ 0 ∷ bytes) k ≡ false
 
--- the second half of the table is the first
-pub record IsTwice (table : List ℕ) : Type 0 where
-  pub same : (i j : ℕ) → i < 32 → j < 16 → get_or table (16 * (i / 16) + j) 0 ≡ get_or table j 0
+-- each 16 of 64 lanes are the table
+pub record IsRepeated (table lanes : List ℕ) : Type 0 where
+  pub same : (i j : ℕ) → i < 64 → j < 16
+      → get_or lanes (16 * (i / 16) + j) 0 ≡ get_or table j 0

@@ -1,8 +1,8 @@
-//! Bytes that are checked for UTF-8, 32 at a time. No call takes memory.
+//! Bytes that are checked for UTF-8, 64 at a time. No call takes memory.
 //!
 //! Each byte is tested against the three before it. Loads at offsets of one, two and three bytes
-//! put these into the same lane, so that no state is carried from block to block. 64 bytes of ASCII
-//! take one test. `str::from_utf8` checks byte by byte only the rest after the last complete
+//! put these into the same lane, so that no state is carried from block to block. A block of ASCII
+//! takes one test. `str::from_utf8` checks byte by byte only the rest after the last complete
 //! character before an error, or the unfinished character at the end.
 #![tactic(auto)]
 
@@ -13,7 +13,7 @@ ghost use Rattle.std.specs.Str.Lossy.{utf8_valid_len};
 ghost use lib.Lanes.{Each1};
 ghost use Rattle.rope_text.specs.Marks.{IsLanes};
 ghost use Rattle.rope_text.specs.Read.{text_front};
-ghost use Rattle.rope_text.specs.Utf8.{is_fault, HasNoFault, IsTwice};
+ghost use Rattle.rope_text.specs.Utf8.{is_fault, HasNoFault, IsRepeated};
 
 use std::simd::prelude::*;
 
@@ -28,50 +28,56 @@ use std::simd::prelude::*;
 //    64  above the last character
 //   128  two continuations, immediately after the first byte of three or four
 //
-// Each table has the faults that half a byte leaves possible, and a fault exists if all three have
-// it. Byte shuffles work on 16 lanes, so each table is written twice.
-const BY_FIRST_HIGH: [u8; 32] = [
-    2, 2, 2, 2, 2, 2, 2, 2, 128, 128, 128, 128, 5, 1, 25, 97, 2, 2, 2, 2, 2, 2, 2, 2, 128, 128,
-    128, 128, 5, 1, 25, 97,
+// Each table has the faults that half a byte leaves possible. A fault is one that all three have.
+const BY_FIRST_HIGH: [u8; 16] = [2, 2, 2, 2, 2, 2, 2, 2, 128, 128, 128, 128, 5, 1, 25, 97];
+
+const BY_FIRST_LOW: [u8; 16] = [
+    175, 135, 131, 131, 195, 227, 227, 227, 227, 227, 227, 227, 227, 243, 227, 227,
 ];
 
-const BY_FIRST_LOW: [u8; 32] = [
-    175, 135, 131, 131, 195, 227, 227, 227, 227, 227, 227, 227, 227, 243, 227, 227, 175, 135, 131,
-    131, 195, 227, 227, 227, 227, 227, 227, 227, 227, 243, 227, 227,
+const BY_SECOND_HIGH: [u8; 16] = [1, 1, 1, 1, 1, 1, 1, 1, 174, 206, 214, 214, 1, 1, 1, 1];
+
+// The index of the entry that each of 64 lanes gets from a table.
+const OF_LANES: [usize; 64] = [
+    0, 1, 2, 3, 4, 5, 6, 7, 8, 9, 10, 11, 12, 13, 14, 15, 0, 1, 2, 3, 4, 5, 6, 7, 8, 9, 10, 11, 12,
+    13, 14, 15, 0, 1, 2, 3, 4, 5, 6, 7, 8, 9, 10, 11, 12, 13, 14, 15, 0, 1, 2, 3, 4, 5, 6, 7, 8, 9,
+    10, 11, 12, 13, 14, 15,
 ];
 
-const BY_SECOND_HIGH: [u8; 32] = [
-    1, 1, 1, 1, 1, 1, 1, 1, 174, 206, 214, 214, 1, 1, 1, 1, 1, 1, 1, 1, 1, 1, 1, 1, 174, 206, 214,
-    214, 1, 1, 1, 1,
-];
+// Returns lanes of which each 16 are the table: byte shuffles work on 16 lanes, at every width.
+#[inline(always)]
+fn repeated(table: u8x16) -> u8x64
+    ensures { IsRepeated table result }
+{
+    table.swizzle::<64>(OF_LANES)
+}
 
 // Looks up an index in the table for each lane.
 #[inline(always)]
-fn look_up(table: u8x32, places: u8x32) -> u8x32
+fn look_up(table: u8x16, places: u8x64) -> u8x64
     requires { Each1 (λ k. k < 16) places }
-    ensures { (ks : List ℕ) (g : ℕ → ℕ) → length ks ≡ 32 → ((k : ℕ) → g k < 16)
-        → IsTwice table → IsLanes ks g places
-        → IsLanes ks (λ k. slice_index table (g k)) result }
+    ensures { (ks : List ℕ) (g : ℕ → ℕ) → length ks ≡ 64 → ((k : ℕ) → g k < 16)
+        → IsLanes ks g places → IsLanes ks (λ k. slice_index table (g k)) result }
 {
-    table.swizzle_dyn_within::<16>(places)
+    repeated(table).swizzle_dyn_within::<16>(places)
 }
 
 // Returns whether in some lane the byte of `b` can't follow those of `x`, `y` and `z`, which
 // precede it in this order. If `x` or `y` begins a character that is not complete, `b` and `z` must
 // be two continuations.
 #[inline(always)]
-fn has_fault(x: u8x32, y: u8x32, z: u8x32, b: u8x32) -> bool
-    ensures { (ks : List ℕ) (f g h i : ℕ → ℕ) → length ks ≡ 32
+fn has_fault(x: u8x64, y: u8x64, z: u8x64, b: u8x64) -> bool
+    ensures { (ks : List ℕ) (f g h i : ℕ → ℕ) → length ks ≡ 64
         → ((k : ℕ) → h k < 256) → ((k : ℕ) → i k < 256)
         → IsLanes ks f x → IsLanes ks g y → IsLanes ks h z → IsLanes ks i b
         → IsFalse result → count_by (λ k. is_fault (f k) (g k) (h k) (i k)) ks ≡ 0 }
 {
-    let high = u8x32::splat(4);
-    let first_high = look_up(u8x32::from_array(BY_FIRST_HIGH), z >> high);
-    let first_low = look_up(u8x32::from_array(BY_FIRST_LOW), z & u8x32::splat(15));
-    let second_high = look_up(u8x32::from_array(BY_SECOND_HIGH), b >> high);
-    let in_long = y.simd_ge(u8x32::splat(0xE0)) | x.simd_ge(u8x32::splat(0xF0));
-    let wanted = in_long.select(u8x32::splat(128), u8x32::splat(0));
+    let high = u8x64::splat(4);
+    let first_high = look_up(u8x16::from_array(BY_FIRST_HIGH), z >> high);
+    let first_low = look_up(u8x16::from_array(BY_FIRST_LOW), z & u8x64::splat(15));
+    let second_high = look_up(u8x16::from_array(BY_SECOND_HIGH), b >> high);
+    let in_long = y.simd_ge(u8x64::splat(0xE0)) | x.simd_ge(u8x64::splat(0xF0));
+    let wanted = in_long.select(u8x64::splat(128), u8x64::splat(0));
     let found = (first_high & first_low) & second_high;
     found.simd_ne(wanted).to_bitmask() != 0
 }
@@ -80,14 +86,14 @@ fn has_fault(x: u8x32, y: u8x32, z: u8x32, b: u8x32) -> bool
 #[inline(always)]
 fn block_has_fault(bytes: &[u8], at: usize) -> bool
     requires from { 3 ≤ at }
-    requires to { at + 32 ≤ length bytes.now }
+    requires to { at + 64 ≤ length bytes.now }
     ensures { (n : ℕ) → IsFalse result → at ≤ n → HasNoFault bytes.now n
-        → HasNoFault bytes.now (at + 32) }
+        → HasNoFault bytes.now (at + 64) }
 {
-    let x = u8x32::from_slice(&bytes[at - 3..]);
-    let y = u8x32::from_slice(&bytes[at - 2..]);
-    let z = u8x32::from_slice(&bytes[at - 1..]);
-    let b = u8x32::from_slice(&bytes[at..]);
+    let x = u8x64::from_slice(&bytes[at - 3..]);
+    let y = u8x64::from_slice(&bytes[at - 2..]);
+    let z = u8x64::from_slice(&bytes[at - 1..]);
+    let b = u8x64::from_slice(&bytes[at..]);
     has_fault(x, y, z, b)
 }
 
@@ -116,28 +122,18 @@ fn is_fault(x: u8, y: u8, z: u8, b: u8) -> bool
     misplaced || (overlong || ((z == 0xED && b >= 0xA0) || (z == 0xF4 && b >= 0x90)))
 }
 
-// Checks the last bytes, fewer than two blocks, of which those before `at` have no fault. Returns
-// the length of a prefix without a fault. The last block ends at the end of the bytes, and may
-// overlap checked ones.
+// Checks few bytes, in one block after zeros, which are ASCII. Returns the length of a prefix
+// without a fault.
 #[inline(always)]
-fn end_without_fault(bytes: &[u8], at: usize) -> usize
-    requires from { 3 ≤ at }
-    requires to { at ≤ length bytes.now }
-    requires block { 35 ≤ length bytes.now }
-    requires few { length bytes.now < at + 64 }
-    requires none { HasNoFault bytes.now at }
+fn few_without_fault(bytes: &[u8]) -> usize
+    requires few { length bytes.now ≤ 64 }
     ensures bound { result ≤ length bytes.now }
     ensures none { HasNoFault bytes.now result }
 {
-    let mut checked = at;
-    if bytes.len() - at >= 32 {
-        if block_has_fault(bytes, at) {
-            return at;
-        }
-        checked += 32;
-    }
-    if block_has_fault(bytes, bytes.len() - 32) {
-        return checked;
+    let mut block = [0; 67];
+    block[67 - bytes.len()..].copy_from_slice(bytes);
+    if block_has_fault(&block, 3) {
+        return 0;
     }
     bytes.len()
 }
@@ -147,8 +143,12 @@ fn front_without_fault(bytes: &[u8]) -> usize
     ensures bound { result ≤ length bytes.now }
     ensures none { HasNoFault bytes.now result }
 {
-    if bytes.len() < 35 {
+    // Fewer are left to the standard library: most are a typed character or a word.
+    if bytes.len() < 32 {
         return 0;
+    }
+    if bytes.len() < 67 {
+        return few_without_fault(&bytes[..bytes.len().min(64)]);
     }
     let (x, y, z) = (bytes[0], bytes[1], bytes[2]);
     if is_fault(0, 0, 0, x) || is_fault(0, 0, x, y) || is_fault(0, x, y, z) {
@@ -163,12 +163,13 @@ fn front_without_fault(bytes: &[u8]) -> usize
         if block_has_fault(bytes, at) {
             return at;
         }
-        if block_has_fault(bytes, at + 32) {
-            return at + 32;
-        }
         at += 64;
     }
-    end_without_fault(bytes, at)
+    // The last block ends at the end of the bytes, and may overlap checked ones.
+    if block_has_fault(bytes, bytes.len() - 64) {
+        return at;
+    }
+    bytes.len()
 }
 
 // Returns the end of the last complete character up to `at`.

@@ -12,11 +12,11 @@ returns c = λ n fine over before.
     let at = c.args.at in
     let i : ℕ = at - 3 in
     let none =
-    c.has_fault.ensures (range_with_len i 32) (λ k. get_or s k 0) (λ k. get_or s (k + 1) 0)
-    (λ k. get_or s (k + 2) 0) (λ k. get_or s (k + 3) 0) (length-range_with_len i 32)
+    c.has_fault.ensures (range_with_len i 64) (λ k. get_or s k 0) (λ k. get_or s (k + 1) 0)
+    (λ k. get_or s (k + 2) 0) (λ k. get_or s (k + 3) 0) (length-range_with_len i 64)
     (λ k. (c.type_inv.bytes (k + 2)).fits) (λ k. (c.type_inv.bytes (k + 3)).fits)
-    (loaded s i 32 (omega arith)) (loaded_at s i 1 (at - 2) 32 (omega arith) (omega arith))
-    (loaded_at s i 2 (at - 1) 32 (omega arith) (omega arith))
-    (loaded_at s i 3 at 32 (omega arith) (omega arith)) fine in
-    block_more s at n 32 c.requires.from over before
-    (λ k from to. at_none (fault_at s) i 32 none k (omega arith) (omega arith))
+    (loaded s i 64 (omega arith)) (loaded_at s i 1 (at - 2) 64 (omega arith) (omega arith))
+    (loaded_at s i 2 (at - 1) 64 (omega arith) (omega arith))
+    (loaded_at s i 3 at 64 (omega arith) (omega arith)) fine in
+    block_more s at n 64 c.requires.from over before
+    (λ k from to. at_none (fault_at s) i 64 none k (omega arith) (omega arith))

@@ -2,37 +2,37 @@ use Rattle.std.proofs.Common.{◌/◌, ◌^◌, not, cond, eqb, leb, ◌||◌, b
 use Rattle.std.proofs.lemmas.Nat.{and_le_r}
 use Rattle.rope_text.proofs.Marks.{compared_both, compared_left, computed, chosen, either, none_set}
 use Rattle.rope_text.proofs.Utf8Laws.{is_zero}
-use Rattle.rope_text.proofs.Utf8Tables.{each_below, combined, no_fault, faults_of, first_high_twice, first_low_twice, second_high_twice}
+use Rattle.rope_text.proofs.Utf8Tables.{each_below, combined, no_fault, faults_of}
 use Rattle.rope_text.specs.Utf8.{is_fault}
 use Rattle.rope_text.proofs.utf8.has_fault.Goals as goal
 use Rattle.rope_text.proofs.LaneSums.{none_of_others}
 
 pub look_up-first_high-requires : goal.look_up-first_high-requires
 look_up-first_high-requires c =
-    each_below (λ a b. a / 2 ^ b) 4 c.args.z 32 (λ a h. omega arith) c.fits-z.1
+    each_below (λ a b. a / 2 ^ b) 4 c.args.z 64 (λ a h. omega arith) c.fits-z.1
 
 pub look_up-first_low-requires : goal.look_up-first_low-requires
 look_up-first_low-requires c =
-    each_below bit_and 15 c.args.z 32 (λ a h. omega (arith, and_le_r a 15)) c.fits-z.1
+    each_below bit_and 15 c.args.z 64 (λ a h. omega (arith, and_le_r a 15)) c.fits-z.1
 
 pub look_up-second_high-requires : goal.look_up-second_high-requires
 look_up-second_high-requires c =
-    each_below (λ a b. a / 2 ^ b) 4 c.args.b 32 (λ a h. omega arith) c.fits-b.1
+    each_below (λ a b. a / 2 ^ b) 4 c.args.b 64 (λ a h. omega arith) c.fits-b.1
 
 pub returns : goal.returns
 returns c = λ ks f g h i long hz hb x y z b fine.
     let high =
     c.look_up-first_high.ensures ks (λ k. h k / 2 ^ 4) long (λ k. omega (arith, hz k))
-    first_high_twice (computed (λ p q. p / 2 ^ q) 4 32 long z) in
+    (computed (λ p q. p / 2 ^ q) 4 64 long z) in
     let low =
     c.look_up-first_low.ensures ks (λ k. bit_and (h k) 15) long
-    (λ k. omega (arith, and_le_r (h k) 15)) first_low_twice (computed bit_and 15 32 long z) in
+    (λ k. omega (arith, and_le_r (h k) 15)) (computed bit_and 15 64 long z) in
     let second =
     c.look_up-second_high.ensures ks (λ k. i k / 2 ^ 4) long (λ k. omega (arith, hb k))
-    second_high_twice (computed (λ p q. p / 2 ^ q) 4 32 long b) in
+    (computed (λ p q. p / 2 ^ q) 4 64 long b) in
     let in_long =
-    chosen 128 0 32 long (either (compared_left leb 224 32 long y)
-    (compared_left leb 240 32 long x)) in
+    chosen 128 0 64 long (either (compared_left leb 224 64 long y)
+    (compared_left leb 240 64 long x)) in
     let differ =
     compared_both (λ p q. not (eqb p q)) (combined bit_and (combined bit_and high low) second)
     in_long in
