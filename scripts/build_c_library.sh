@@ -1,7 +1,7 @@
 #!/usr/bin/env bash
 # Builds the library for C: one archive, with nothing else to link.
 #
-#     scripts/build_c_library.sh [--proved | --aarch64] [ARCHIVE]
+#     scripts/build_c_library.sh [--proved] [--v3 | --aarch64] [ARCHIVE]
 #
 # It needs `rt`, a C compiler ($CC, or `cc`) and binutils. ARCHIVE is crates/ropey_c/out/libropey.a by default. It has one
 # object: crates/ropey_c, the kit's three functions over malloc, realloc and free, and bindings/c/status_text.c. Its symbols
@@ -13,6 +13,9 @@
 # that had no crates/*/out before: it trusts that `rt ci` proved these crates from the sources, and compares nothing. `rt lib`
 # can't use them, since `rt ci` keeps their statements without their proofs.
 #
+# With --v3 the archive is crates/ropey_c/out/x86-64-v3/libropey.a, for processors with the instructions of x86-64-v3 (AVX2,
+# BMI). The crate is proved for that processor.
+#
 # With --aarch64 the archive is crates/ropey_c/out/aarch64/libropey.a, for Linux on aarch64. The crate is proved for that
 # processor. The kit has no heap for it: bindings/c/heap.c replaces its three functions. The C compiler and binutils are those
 # that begin with aarch64-linux-gnu-.
@@ -21,22 +24,26 @@ set -euo pipefail
 top=$(cd "$(dirname "$0")/.." && pwd)
 kit=$(dirname "$(rt doc)")
 is_proved=
-target=()
+flags=()
 folder=$top/crates/ropey_c/out
 heap=$kit/c/liblibc_c.a
-case "${1:-}" in
---proved)
-    is_proved=yes
+while [ $# -gt 0 ]; do
+    case $1 in
+    --proved) is_proved=yes ;;
+    --v3)
+        flags=(--cpu x86-64-v3)
+        folder=$folder/x86-64-v3
+        ;;
+    --aarch64)
+        flags=(--target aarch64-unknown-linux-gnu)
+        folder=$folder/aarch64
+        heap=$top/bindings/c/heap.c
+        export CC=aarch64-linux-gnu-gcc LD=aarch64-linux-gnu-ld OBJCOPY=aarch64-linux-gnu-objcopy AR=aarch64-linux-gnu-ar
+        ;;
+    *) break ;;
+    esac
     shift
-    ;;
---aarch64)
-    target=(--target aarch64-unknown-linux-gnu)
-    folder=$folder/aarch64
-    heap=$top/bindings/c/heap.c
-    export CC=aarch64-linux-gnu-gcc LD=aarch64-linux-gnu-ld OBJCOPY=aarch64-linux-gnu-objcopy AR=aarch64-linux-gnu-ar
-    shift
-    ;;
-esac
+done
 archive=$(realpath -m "${1:-$folder/libropey.a}")
 work=$(mktemp -d)
 trap 'rm -rf "$work"' EXIT
@@ -55,7 +62,7 @@ shown() {
 build() {
     cd "$top/crates/ropey_c"
     if [ -z "$is_proved" ]; then
-        rt lib "${target[@]}"
+        rt lib "${flags[@]}"
         return
     fi
     local libraries=(--extern "std=$kit/rlibs/std.rlib" -L "dependency=$kit/rlibs") crate rlib
@@ -66,7 +73,7 @@ build() {
     mkdir -p out
     "$kit/bin/rattle" build --crate-name ropey_c --crate-type staticlib src/lib.rt "${libraries[@]}" --links ropey_c= \
         --antt-project "$kit/rattle/logic/antt-project.json" --logic-built "$kit/logic_built" --toolchain "$kit/toolchain" \
-        --jobs "${RT_JOBS:-$(nproc)}" -o out/libropey_c.a
+        --jobs "${RT_JOBS:-$(nproc)}" "${flags[@]}" -o out/libropey_c.a
 }
 
 echo "proving and compiling crates/ropey_c (takes minutes if it isn't proved yet)"

@@ -8,6 +8,8 @@
 #     FOLDER/include/ropey.h, ropey.hpp
 #     FOLDER/lib/libropey.a, libropey.sources, libropey.proved, and libropey.gate if the gate built the archive
 #     FOLDER/lib/libropey.so -> libropey.so.1 -> libropey.so.VERSION
+#     FOLDER/lib/x86-64-v3/libropey.a, .sources, .proved  if ARCHIVE has a folder x86-64-v3 beside it (--v3), of these sources
+#     FOLDER/lib/glibc-hwcaps/x86-64-v3/libropey.so.1     likewise; the loader prefers it where the processor can run it
 #     FOLDER/lib/pkgconfig/ropey.pc, ropey-shared.pc  for the archive, and for the shared object
 #     FOLDER/lib/cmake/ropey/ropey-config.cmake       targets ropey::ropey and ropey::shared, likewise
 #     FOLDER/lib/cmake/ropey/ropey-config-version.cmake
@@ -25,22 +27,36 @@ major=${version%%.*}
 work=$(mktemp -d)
 trap 'rm -rf "$work"' EXIT
 
+# Copies the archive and the files beside it that say what it was built of.
+copy_archive() {
+    local file
+    mkdir -p "$2"
+    for file in "$1" "${1%.a}".{sources,proved,gate}; do
+        [ ! -f "$file" ] || [ "$file" -ef "$2/$(basename "$file")" ] || cp "$file" "$2"
+    done
+}
+
+# Links a shared object of an archive. The functions of ropey.h are its only symbols. Its calls are bound as it is loaded.
+link_shared() {
+    echo '{ global: ropey_*; local: *; };' > "$work/symbols"
+    "${CC:-cc}" -shared -o "$2/libropey.so.$version" -Wl,-soname,"libropey.so.$major" \
+        -Wl,--version-script="$work/symbols" -Wl,-z,defs -Wl,-z,relro -Wl,-z,now \
+        -Wl,--whole-archive "$1" -Wl,--no-whole-archive
+    ln -sf "libropey.so.$version" "$2/libropey.so.$major"
+}
+
 mkdir -p "$folder/include" "$folder/lib/pkgconfig" "$folder/lib/cmake/ropey" "$folder/share/man/man3"
 cp "$header" "$top/bindings/c/ropey.hpp" "$folder/include"
-files=("$archive" "${archive%.a}.sources" "${archive%.a}.proved")
-[ ! -f "${archive%.a}.gate" ] || files+=("${archive%.a}.gate")
-for file in "${files[@]}"; do
-    [ "$file" -ef "$folder/lib/$(basename "$file")" ] || cp "$file" "$folder/lib"
-done
-sed "s/@VERSION@/$version/" "$top/bindings/release/ropey.3" > "$folder/share/man/man3/ropey.3"
-
-# The functions of ropey.h are the shared object's only symbols. Its calls are bound as it is loaded.
-echo '{ global: ropey_*; local: *; };' > "$work/symbols"
-"${CC:-cc}" -shared -o "$folder/lib/libropey.so.$version" -Wl,-soname,"libropey.so.$major" \
-    -Wl,--version-script="$work/symbols" -Wl,-z,defs -Wl,-z,relro -Wl,-z,now \
-    -Wl,--whole-archive "$archive" -Wl,--no-whole-archive
-ln -sf "libropey.so.$version" "$folder/lib/libropey.so.$major"
+copy_archive "$archive" "$folder/lib"
+link_shared "$archive" "$folder/lib"
 ln -sf "libropey.so.$major" "$folder/lib/libropey.so"
+wide=$(dirname "$archive")/x86-64-v3/libropey.a
+if [ -f "$wide" ] && cmp -s "${wide%.a}.sources" "${archive%.a}.sources"; then
+    copy_archive "$wide" "$folder/lib/x86-64-v3"
+    mkdir -p "$folder/lib/glibc-hwcaps/x86-64-v3"
+    link_shared "$wide" "$folder/lib/glibc-hwcaps/x86-64-v3"
+fi
+sed "s/@VERSION@/$version/" "$top/bindings/release/ropey.3" > "$folder/share/man/man3/ropey.3"
 
 # Writes the file for pkg-config with a name, a description and the flags for the linker.
 # `ropey` names the archive itself: with -lropey a linker prefers the shared object, and the program would then need a path for

@@ -24,7 +24,7 @@ if [ "$file" = --built ]; then
     elif ! "$cc" --version > /dev/null 2>&1; then
         echo "Release: not tested, since there is no C compiler ($cc)"
     else
-        "$top/scripts/make_release.sh" "$(sed -n 's/^#define ROPEY_VERSION "\(.*\)"$/\1/p' "$top/bindings/c/ropey.h")" \
+        "$top/scripts/make_release.sh" --built "$(sed -n 's/^#define ROPEY_VERSION "\(.*\)"$/\1/p' "$top/bindings/c/ropey.h")" \
             "$work" > "$work/log" 2>&1 || { cat "$work/log"; exit 1; }
         grep '^Release: ' "$work/log"
     fi
@@ -77,7 +77,9 @@ lib=$release/lib
 # The shared object exports the functions of the header, and nothing else.
 grep -oE '^(ROPEY_NODISCARD )?(ropey_status|uint32_t|size_t|void|const char \*) ?\*?ropey_\w+\(' "$release/include/ropey.h" |
     grep -oE 'ropey_\w+\(' | tr -d '(' | sort > "$work/functions"
-nm -D --defined-only "$lib/libropey.so" | awk '{ print $3 }' | sort | diff "$work/functions" -
+for object in "$lib"/libropey.so.1 "$lib"/glibc-hwcaps/*/libropey.so.1; do
+    [ ! -f "$object" ] || nm -D --defined-only "$object" | awk '{ print $3 }' | sort | diff "$work/functions" -
+done
 
 # A program that loads the shared object by name can call them, also for the message of a status.
 if [ ${#run[@]} -eq 0 ] && python3 --version > /dev/null 2>&1; then
@@ -110,11 +112,20 @@ static_prints() {
     diff "$work/programs/$1.stdout" "$work/printed"
 }
 
+# Where the processor has the instructions of x86-64-v3, the loader finds the object for these.
+archives=("$lib/libropey.a")
+loaded=$lib
+if [ -d "$lib/x86-64-v3" ] && /lib64/ld-linux-x86-64.so.2 --help 2> /dev/null | grep -q 'x86-64-v3 (supported'; then
+    archives+=("$lib/x86-64-v3/libropey.a")
+    loaded=$lib/glibc-hwcaps/x86-64-v3
+    passed+=', x86-64-v3'
+fi
+
 # Runs a program linked with the shared object, after checking that the loader finds that object.
 shared_prints() {
     if [ ${#run[@]} -eq 0 ]; then
         LD_LIBRARY_PATH=$lib ldd "$2" > "$work/loaded"
-        grep -qE "$lib/libropey.so.1(\.|\s)" "$work/loaded" || { cat "$work/loaded"; exit 1; }
+        grep -qE "$loaded/libropey.so.1(\.|\s)" "$work/loaded" || { cat "$work/loaded"; exit 1; }
     fi
     LD_LIBRARY_PATH=$lib QEMU_SET_ENV=LD_LIBRARY_PATH=$lib static_prints "$1" "$2"
 }
@@ -128,8 +139,10 @@ cd "$work/programs"
 
 strict=(-std=c11 -pedantic -Wall -Wextra -Werror "-I$release/include")
 for program in example undo tree_sitter; do
-    "$cc" "${strict[@]}" "$program.c" "$lib/libropey.a" -o "$work/static"
-    static_prints "$program" "$work/static"
+    for archive in "${archives[@]}"; do
+        "$cc" "${strict[@]}" "$program.c" "$archive" -o "$work/static"
+        static_prints "$program" "$work/static"
+    done
     "$cc" "${strict[@]}" "$program.c" -L"$lib" -lropey -o "$work/shared"
     shared_prints "$program" "$work/shared"
 done
@@ -186,6 +199,12 @@ if [ -d "$release/rust" ] && cargo --version > /dev/null 2>&1 && rustc --version
         cp "$top/bindings/rust/examples/notes.rs" src/main.rs && printf 'one\ntwo\n' > notes.txt &&
         cargo run --quiet --offline; } > "$work/log" 2>&1 || { cat "$work/log"; exit 1; }
     printf 'one\na new line\ntwo\n' | diff - notes.txt
+    if [ ${#archives[@]} -eq 2 ]; then
+        printf 'one\ntwo\n' > notes.txt
+        RUSTFLAGS='-C target-cpu=x86-64-v3' cargo run --quiet --offline --target-dir "$work/wide" > "$work/log" 2>&1 || { cat "$work/log"; exit 1; }
+        printf 'one\na new line\ntwo\n' | diff - notes.txt
+        grep -q 'native=.*/x86-64-v3$' "$work"/wide/debug/build/ropey-*/output
+    fi
     passed+=', Rust'
 fi
 echo "Release: $passed: the programs print what they must over $(basename "$file"), with its archive and its shared object"

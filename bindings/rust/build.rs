@@ -5,6 +5,12 @@ use std::{env, fs};
 
 const ARCHIVE: &str = "libropey.a";
 
+/// The folder of an archive for processors with the instructions of x86-64-v3, beside the other.
+const WIDE: &str = "x86-64-v3";
+
+/// Those of its instructions that Cargo names and the archive may have.
+const WIDE_FEATURES: [&str; 5] = ["avx2", "bmi1", "bmi2", "fma", "lzcnt"];
+
 const ADVICE: &str =
     "A release has it in the crate's folder. In the library's repository scripts/build_c_library.sh builds it, and \
     scripts/install_c_library.sh PREFIX installs it; then add PREFIX/lib/pkgconfig to PKG_CONFIG_PATH. Or set \
@@ -42,6 +48,18 @@ fn found() -> PathBuf {
     named
 }
 
+/// Returns the folder of the archive for the processor that the crate is compiled for.
+fn for_target(folder: PathBuf) -> PathBuf {
+    let wide = folder.join(WIDE);
+    let features = env::var("CARGO_CFG_TARGET_FEATURE").unwrap_or_default();
+    let has = |name: &&str| features.split(',').any(|feature| feature == *name);
+    if WIDE_FEATURES.iter().all(has) && wide.join(ARCHIVE).is_file() {
+        wide
+    } else {
+        folder
+    }
+}
+
 /// Panics if the archive has another version than the crate: its calls and structs may differ.
 fn check_version(folder: &Path) {
     let archive = folder.join(ARCHIVE);
@@ -61,7 +79,7 @@ fn main() {
     let (arch, system) = (of_target("ARCH"), of_target("OS"));
     let is_served = arch == "x86_64" && system == "linux";
     assert!(is_served, "ropey: the library is for Linux on x86-64 alone, and this build is for {system} on {arch}");
-    let folder = found();
+    let folder = for_target(found());
     check_version(&folder);
     println!("cargo:rerun-if-changed={}", folder.join(ARCHIVE).display());
     println!("cargo:rustc-link-search=native={}", folder.display());
