@@ -1,5 +1,6 @@
 //! Ropes, changes and random replacements for tests: to make them succeeds if there is memory.
-use rope_changes::ChangeSet;
+use rope_changes::{ChangeError, ChangeSet};
+use rope_plain::failure::Failure;
 use rope_plain::numbers::Numbers;
 use rope_plain::sums::plus;
 use rope_plain::texts::random_text;
@@ -14,6 +15,11 @@ pub struct Sizes {
     pub kept: usize,
     pub deleted: usize,
     pub inserted: usize,
+}
+
+/// Returns the failure of a call that is refused, where it should succeed.
+pub fn refused(error: ChangeError) -> Failure {
+    Failure::new(format_args!("refused by {error:?}"))
 }
 
 /// Returns a rope of a text.

@@ -1,5 +1,6 @@
 //! Random marks of a text, against a plain list of ranges.
-use rope_changes::{ChangeError, ChangeSet, Side};
+use crate::makers::refused;
+use rope_changes::{ChangeSet, Side};
 use rope_history::{Mark, Marks};
 use rope_plain::failure::{Failure, expect_same, within};
 use rope_plain::numbers::Numbers;
@@ -36,10 +37,6 @@ struct Plain {
     marks: Vec<Mark>,
     next_id: usize,
     len: usize,
-}
-
-fn refused(error: ChangeError) -> Failure {
-    Failure::new(format_args!("refused by {error:?}"))
 }
 
 fn random_side(numbers: &mut Numbers) -> Side {

@@ -1,6 +1,6 @@
 //! Random versions of a text, against a plain tree of texts.
-use crate::makers::{Sizes, copy, replace_after, rope_of};
-use rope_changes::{ChangeError, ChangeSet};
+use crate::makers::{Sizes, copy, refused, replace_after, rope_of};
+use rope_changes::ChangeSet;
 use rope_history::History;
 use rope_plain::failure::{Failure, within};
 use rope_plain::numbers::Numbers;
@@ -30,10 +30,6 @@ enum Step {
     Undo(Option<usize>),
     Redo(Option<usize>),
     GoTo(usize),
-}
-
-fn refused(error: ChangeError) -> Failure {
-    Failure::new(format_args!("refused by {error:?}"))
 }
 
 impl Tree {
