@@ -7,7 +7,8 @@
 # FILE is the output of scripts/make_release.sh. With --built the script makes a release of the archive that
 # scripts/find_c_library.sh finds, and tests that; if there is none, it prints a line. `rt` is removed from the PATH, and
 # nothing is downloaded. It needs a C compiler ($CC, or `cc`). Tests that need a missing C++ compiler, pkg-config, CMake, cargo
-# or rustc are skipped; the last line lists those that passed. The status is 0 if every program printed the expected output.
+# or rustc are skipped, as are those for x86-64-v3 if the release has no archive for it; the last line lists those that passed.
+# The status is 0 if every program printed the expected output.
 # Programs of a release for aarch64 are compiled by aarch64-linux-gnu-gcc and run by qemu-aarch64.
 set -euo pipefail
 
@@ -119,6 +120,8 @@ if [ -d "$lib/x86-64-v3" ] && /lib64/ld-linux-x86-64.so.2 --help 2> /dev/null | 
     archives+=("$lib/x86-64-v3/libropey.a")
     loaded=$lib/glibc-hwcaps/x86-64-v3
     passed+=', x86-64-v3'
+elif [ ${#run[@]} -eq 0 ]; then
+    echo 'Release: nothing is tested for x86-64-v3: no archive (scripts/build_c_library.sh --v3), or no processor or loader for it'
 fi
 
 # Runs a program linked with the shared object, after checking that the loader finds that object.
