@@ -55,6 +55,9 @@ if [ -f "$wide" ] && cmp -s "${wide%.a}.sources" "${archive%.a}.sources"; then
     copy_archive "$wide" "$folder/lib/x86-64-v3"
     mkdir -p "$folder/lib/glibc-hwcaps/x86-64-v3"
     link_shared "$wide" "$folder/lib/glibc-hwcaps/x86-64-v3"
+else
+    # The loader would prefer those of an earlier version.
+    rm -f "$folder"/lib/glibc-hwcaps/x86-64-v3/libropey.so.* "$folder"/lib/x86-64-v3/libropey.*
 fi
 sed "s/@VERSION@/$version/" "$top/bindings/release/ropey.3" > "$folder/share/man/man3/ropey.3"
 
