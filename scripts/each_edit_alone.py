@@ -12,8 +12,8 @@ RT_JOBS mutants at a time, if the kit can, by default four, over the proofs of `
 before. The status is 0 if every mutant is refused.
 
 With --together a check has one mutant of each function. A function is proved against its own contract and those of its callees,
-so no other mutant changes its goals. A mutant counts as refused if the check names a goal of its own function; the others are
-tried in the next check, without those that were refused, and at last alone.
+so no other mutant changes its goals. A mutant counts as refused by value if the check names a goal of its own function; the
+others are tried in the next check, without those that were refused, and at last alone.
 
 A row of docs/refusals.tsv has the mutant, as the name of its edit and its number there; its crate; its function; the goal that
 the prover could not show, as its function and its name; the reason; and a checksum of the mutant and of its function with its
@@ -220,14 +220,14 @@ def with_mutants(changed):
 
 
 def refused_together(crate, mutants, lines):
-    """The goal and the reason of each mutant of a crate of whose function a check names a goal."""
+    """The goal and the reason of each mutant of a crate of whose function a check names a goal, and not only a name that a
+    written proof cites: another mutant may have removed that."""
     told = [line for line in lines if GOAL.match(line) and (": error" in line or line.startswith("note: "))]
-    goals = [(goal_of(crate, line), NAME_ONLY.match(line) is not None) for line in told]
+    goals = [goal_of(crate, line) for line in told if not NAME_ONLY.match(line)]
     for key, (function, _) in mutants.items():
-        own = [it for it in goals if it[0].split(" ")[0].split("::")[-2:] == function.split("::")[-2:]]
+        own = [goal for goal in goals if goal.split(" ")[0].split("::")[-2:] == function.split("::")[-2:]]
         if own:
-            goal, is_name = next((it for it in own if not it[1]), own[0])
-            yield key, (goal, "name" if is_name else "value")
+            yield key, (own[0], "value")
 
 
 def try_together(edits, mutants):
