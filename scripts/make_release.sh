@@ -47,9 +47,19 @@ elif ! archive=$("$top/scripts/find_c_library.sh"); then
     "$top/scripts/build_c_library.sh"
     archive=$top/crates/ropey_c/out/libropey.a
 fi
-wide=$(dirname "$archive")/x86-64-v3/libropey.a
-if [ $processor = x86_64 ] && [ -z "$is_built" ] && ! cmp -s "${wide%.a}.sources" "${archive%.a}.sources"; then
-    "$top/scripts/build_c_library.sh" --v3 "$wide"
+# An archive that is found elsewhere may stand in a folder that can't be written, without the second one beside it.
+built=$top/crates/ropey_c/out
+if [ $processor = x86_64 ] && [ -z "$is_built" ] &&
+    ! cmp -s "$(dirname "$archive")/x86-64-v3/libropey.sources" "${archive%.a}.sources"; then
+    cmp -s "$built/x86-64-v3/libropey.sources" "${archive%.a}.sources" || "$top/scripts/build_c_library.sh" --v3
+    if [ "$(dirname "$archive")" != "$built" ]; then
+        mkdir "$work/archives"
+        for file in "$archive" "${archive%.a}".{sources,proved,gate}; do
+            [ ! -f "$file" ] || cp "$file" "$work/archives"
+        done
+        cp -r "$built/x86-64-v3" "$work/archives"
+        archive=$work/archives/libropey.a
+    fi
 fi
 
 mkdir -p "$work/$name" "$folder"

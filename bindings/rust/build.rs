@@ -8,8 +8,8 @@ const ARCHIVE: &str = "libropey.a";
 /// The folder of an archive for processors with the instructions of x86-64-v3, beside the other.
 const WIDE: &str = "x86-64-v3";
 
-/// Those of its instructions that Cargo names and the archive may have.
-const WIDE_FEATURES: [&str; 5] = ["avx2", "bmi1", "bmi2", "fma", "lzcnt"];
+/// Its instructions beyond x86-64-v2, any of which the archive may have.
+const WIDE_FEATURES: [&str; 7] = ["avx2", "bmi1", "bmi2", "f16c", "fma", "lzcnt", "movbe"];
 
 const ADVICE: &str =
     "A release has it in the crate's folder. In the library's repository scripts/build_c_library.sh builds it, and \
@@ -48,12 +48,15 @@ fn found() -> PathBuf {
     named
 }
 
-/// Returns the folder of the archive for the processor that the crate is compiled for.
+/// Returns the folder of the archive for the processor that the crate is compiled for: of two, they
+/// must be of the same sources.
 fn for_target(folder: PathBuf) -> PathBuf {
     let wide = folder.join(WIDE);
     let features = env::var("CARGO_CFG_TARGET_FEATURE").unwrap_or_default();
     let has = |name: &&str| features.split(',').any(|feature| feature == *name);
-    if WIDE_FEATURES.iter().all(has) && wide.join(ARCHIVE).is_file() {
+    let sources = |folder: &Path| fs::read_to_string(folder.join("libropey.sources")).ok();
+    let is_current = wide.join(ARCHIVE).is_file() && sources(&wide) == sources(&folder);
+    if is_current && WIDE_FEATURES.iter().all(has) {
         wide
     } else {
         folder
