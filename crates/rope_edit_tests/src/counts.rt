@@ -114,6 +114,21 @@ fn a_removal_in_place_makes_no_node(rt: HostRuntime) -> Result<(), Failure> {
     expect_counts_of_a_short_removal(&mut rope)
 }
 
+/// The leaves of the range are dropped, and those left in their list move to the one before it.
+fn expect_no_node_of_a_long_removal(rope: &mut Rope) -> Result<(), Failure> {
+    let mut steps = LEFT_OVER;
+    holds!(rope.len_chars() == 1_000_000);
+    rope.remove_counted(500_000..510_000, &mut steps)?;
+    expect_same("nodes made", &counts(steps)[2], &0)?;
+    expect_same("characters left", &rope.len_chars(), &990_000)
+}
+
+#[test]
+fn a_long_removal_in_place_makes_no_node(rt: HostRuntime) -> Result<(), Failure> {
+    let mut rope = rope_of(rt.alloc(), "a", 1_000_000)?;
+    expect_no_node_of_a_long_removal(&mut rope)
+}
+
 /// The split takes a search, a leaf for the second part of the eleventh, and a list for the leaves
 /// after it. The append looks up the last character of 11 leaves by two comparisons, to test for a
 /// CR, and moves the 11 leaves of the other list to this one.

@@ -16,6 +16,8 @@ mod counts;
 #[cfg(test)]
 mod edits;
 #[cfg(test)]
+mod long_removals;
+#[cfg(test)]
 mod long_ropes;
 #[cfg(test)]
 mod pairs;
@@ -23,7 +25,6 @@ mod pairs;
 mod random_edits;
 #[cfg(test)]
 mod removals;
-#[cfg(test)]
 #[cfg(test)]
 mod short_chunks;
 #[cfg(test)]

@@ -178,8 +178,8 @@ pub(crate) fn without(editor: &mut Editor, node: &Node, start: usize, end: usize
     ensures sides { IfOk result (λ part. IsSides node.now start node.now end part) }
     ensures tree { IfOk result (λ part. IsTree part) }
     ensures made { editor.new.maker.made ≤ editor.old.maker.made + 16 * node.now.height + 11 }
-    ensures searched { HasSearched (4 * node.now.height) (20 * node.now.height) editor.old
-        editor.new }
+    ensures searched { HasSearched (2 * node.now.height + 2) (10 * node.now.height + 10)
+        editor.old editor.new }
 {
     let height = node.height();
     if let View::Inner(children, totals) = node.view()

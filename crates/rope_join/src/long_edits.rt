@@ -39,6 +39,37 @@ fn meets(editor: &mut Editor, left: &Node, end: usize, right: &Node, start: usiz
     end > 0 && counted_char_at(editor, left, end - 1) == '\r' && is_lf(editor, right, start)
 }
 
+/// Joins the first `end` characters of one tree, which end in CR, and the characters of another
+/// from `start` on, which begin with LF: the two become a leaf of their own.
+fn join_at_crlf(
+    editor: &mut Editor,
+    left: &Node,
+    end: usize,
+    right: &Node,
+    start: usize,
+) -> Made<Node>
+    requires tree { IsTree right.now }
+    requires end { end ≤ length (text left.now) }
+    requires same_breaks { right.now.breaks ≡ left.now.breaks }
+    requires fits { byte_len (take end (text left.now)) + byte_len (drop start (text right.now))
+        < 2 ^ 63 }
+    requires meets { parts_crlf (take end (text left.now)) (drop start (text right.now)) ≡ true }
+    ensures text { IfOk result (λ node. text node
+        ≡ take end (text left.now) ++ drop start (text right.now)) }
+    ensures breaks { IfOk result (λ node. node.breaks ≡ left.now.breaks) }
+    ensures tree { IfOk result (λ node. IsTree node) }
+    ensures made { editor.new.maker.made
+        ≤ editor.old.maker.made + 16 * max left.now.height right.now.height + 11 }
+    ensures searched { HasSearched (2 * max left.now.height right.now.height) (10 * max
+        left.now.height right.now.height) editor.old editor.new }
+{
+    let first = front(editor, left, end - 1)?;
+    let second = back(editor, right, start + 1)?;
+    let pair = leaf_of(&mut editor.maker, left.line_breaks(), "\r\n")?;
+    let ended = join(&mut editor.maker, &first, &pair)?;
+    join(&mut editor.maker, &ended, &second)
+}
+
 /// Joins the first `end` characters of one tree and the characters of another from `start` on.
 fn join_parts(
     editor: &mut Editor,
@@ -65,11 +96,7 @@ fn join_parts(
     if !meets(editor, left, end, right, start) {
         return join_sides(editor, left, end, right, start);
     }
-    let first = front(editor, left, end - 1)?;
-    let second = back(editor, right, start + 1)?;
-    let pair = leaf_of(&mut editor.maker, left.line_breaks(), "\r\n")?;
-    let ended = join(&mut editor.maker, &first, &pair)?;
-    join(&mut editor.maker, &ended, &second)
+    join_at_crlf(editor, left, end, right, start)
 }
 
 /// Joins the texts of two trees.
@@ -173,16 +200,22 @@ fn removed_from(editor: &mut Editor, root: &Node, start: usize, end: usize) -> M
     ensures made { editor.new.maker.made ≤ editor.old.maker.made + 16 * root.now.height + 11 }
     ensures searched { HasSearched (6 * root.now.height
         + 4) (30 * root.now.height) editor.old editor.new }
+    ensures searched_high { 2 ≤ root.now.height → HasSearched (4 * root.now.height
+        + 4) (20 * root.now.height + 10) editor.old editor.new }
 {
-    if root.height() == 0 || meets(editor, root, start, root, end) {
+    if root.height() == 0 {
         return join_parts(editor, root, start, root, end);
+    }
+    if meets(editor, root, start, root, end) {
+        return join_at_crlf(editor, root, start, root, end);
     }
     without(editor, root, start, end)
 }
 
 /// Removes the characters from `start` up to `end`, at least one: in place, if they are in one leaf
-/// or in two adjacent ones that stay long enough; else by a tree without them, which replaces the
-/// old one as the last step. A removal of `2 * MAX_BYTES` characters or more isn't tried in place.
+/// or in two adjacent ones that stay long enough, or if they are more and no node on the path has
+/// another owner ([`Node::remove_in_lists`]); else by a tree without them, which replaces the old
+/// one as the last step.
 pub fn remove(editor: &mut Editor, root: &mut Node, start: usize, end: usize) -> Made<()>
     requires ordered { start < end }
     requires within { end ≤ length (text root.old) }
@@ -194,7 +227,12 @@ pub fn remove(editor: &mut Editor, root: &mut Node, start: usize, end: usize) ->
     ensures searched { HasSearched (7 * root.old.height
         + 4) (37 * root.old.height) editor.old editor.new }
 {
-    if end - start < 2 * MAX_BYTES && remove_at(editor, root, start, end)? {
+    let did = if end - start < 2 * MAX_BYTES {
+        remove_at(editor, root, start, end)?
+    } else {
+        root.remove_in_lists(editor, start, end)
+    };
+    if did {
         return Ok(());
     }
     *root = removed_from(editor, root, start, end)?;

@@ -540,6 +540,7 @@ pub fn try_place(
     ensures past { (d : TextInfo) → at < count_of Char (slice_index_or totals.now result.0 d) }
     ensures made { editor.new.maker.made ≡ editor.old.maker.made }
     ensures searched { HasSearched 1 7 editor.old editor.new }
+    ensures searched_anew { follows ≡ false → HasSearched 1 5 editor.old editor.new }
 {
     if follows {
         if totals.holds(likely, at) {

@@ -25,6 +25,8 @@ mod FrontSides
 mod BackSides
 pub mod MoveLaws
 pub mod PaddingLaws
+pub mod RemovedLaws
 pub mod UnevenLaws
 mod FirstLaws
 mod LeafMerges
+pub mod RemovedLists

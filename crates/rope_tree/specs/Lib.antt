@@ -11,3 +11,4 @@ pub mod Tries
 pub mod Pieces
 pub mod Split
 pub mod Cut
+pub mod Removed

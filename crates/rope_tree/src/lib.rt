@@ -24,7 +24,7 @@
 //! - `node`: nodes; `row` makes nodes over rows of others, `anew` inserts into a new tree,
 //!   `in_place` edits nodes in place, `across` two adjacent leaves, `pieces` splits longer texts,
 //!   `moves` moves children between lists, `padding` makes room for that before a split, and
-//!   `split` and `append` split and append trees by it
+//!   `split`, `append` and `removal` split trees, append them and remove leaves by it
 //! - `lookup`, `conversions`: the descent to a leaf, and conversions of indices by it
 //! - `short_edits`: edits of whole trees
 //! - `build`, `builder`: trees of whole texts, and of texts passed in one after another

@@ -23,6 +23,7 @@ mod in_place;
 mod moves;
 mod padding;
 mod pieces;
+mod removal;
 pub mod row;
 mod split;
 

@@ -4,7 +4,7 @@ ghost use Rattle.std.specs.Prelude.{◌≡◌, ◌+◌, ◌-◌, ◌<◌, ◌≤
 ghost use Rattle.rope_text.specs.declared.TheConstants.{MIN_TWO_LEAVES_BYTES};
 ghost use Rattle.rope_text.specs.Text.{byte_len};
 ghost use Rattle.rope_text.specs.Edit.{removed};
-ghost use Rattle.rope_leaf.specs.Tree.{Tree, text, joined, height_of, AreFamily};
+ghost use Rattle.rope_leaf.specs.Tree.{Tree, text, joined, leaf_tree, height_of, IsTree, AreFamily};
 ghost use Rattle.rope_leaf.specs.Change.{FallsBy, FallBy};
 ghost use Rattle.rope_leaf.specs.Removal.{Spares, AreShortened, AreRemoved};
 ghost use Rattle.rope_tree.specs.Tries.{IsTried};
@@ -54,6 +54,10 @@ fn shorten(left: &mut Leaf, right: &mut Leaf, kept: Kept, least: Least) -> Losse
         left.old left.new right.old right.new }
     ensures left { FallsBy result.left left.old left.new }
     ensures right { FallsBy result.right right.old right.new }
+    ensures left_leaf { left.new ≡ leaf_tree left.old.breaks
+        (removed (text left.old) kept.start (length (text left.old))) }
+    ensures right_leaf { right.new ≡ leaf_tree right.old.breaks
+        (removed (text right.old) 0 kept.end) }
 {
     let mut losses = Losses {
         left: TextInfo::new(),
@@ -187,6 +191,63 @@ fn shorten_nodes(
         return Ok(None);
     };
     Ok(Some(shorten_shared(maker, left, right, kept, least)?))
+}
+
+impl Node {
+    /// Removes the characters of a leaf from `at` on, and the first `end` ones of another, if
+    /// neither has another owner, and both stay long enough beside each other and beside leaves of
+    /// `before` and `after` bytes. Returns whether it did.
+    pub(super) fn shorten_both(
+        &mut self,
+        right: &mut Node,
+        at: usize,
+        end: usize,
+        before: usize,
+        after: usize,
+    ) -> bool
+        requires leaf { self.old.height ≡ 0 }
+        requires right { right.old.height ≡ 0 }
+        requires within { at < length (text self.old) }
+        requires some { 0 < end }
+        requires end { end ≤ length (text right.old) }
+        ensures left { result ≡ true → self.new ≡ leaf_tree self.old.breaks
+            (removed (text self.old) at (length (text self.old))) }
+        ensures right { result ≡ true → right.new ≡ leaf_tree right.old.breaks
+            (removed (text right.old) 0 end) }
+        ensures spares { result ≡ true → Spares (MIN_TWO_LEAVES_BYTES - before) at
+            (length (text self.old)) (text self.old) }
+        ensures spares_right { result ≡ true
+            → Spares (MIN_TWO_LEAVES_BYTES - after) 0 end (text right.old) }
+        ensures meet { result ≡ true → MIN_TWO_LEAVES_BYTES
+            ≤ byte_len (removed (text self.old) at (length (text self.old)))
+            + byte_len (removed (text right.old) 0 end) }
+        ensures tree { IsTree self.new }
+        ensures right_tree { IsTree right.new }
+        ensures kept { result ≡ false → self.new ≡ self.old }
+        ensures kept_right { result ≡ false → right.new ≡ right.old }
+    {
+        let Form::Leaf(left) = &mut self.form else {
+            return false;
+        };
+        let Form::Leaf(right) = &mut right.form else {
+            return false;
+        };
+        let Some(left) = Rc::get_mut(left) else {
+            return false;
+        };
+        let Some(right) = Rc::get_mut(right) else {
+            return false;
+        };
+        let least = Least {
+            first: MIN_TWO_LEAVES_BYTES.saturating_sub(before),
+            last: MIN_TWO_LEAVES_BYTES.saturating_sub(after),
+        };
+        let Some(kept) = kept_of(left, right, at, end, least) else {
+            return false;
+        };
+        shorten(left, right, kept, least);
+        true
+    }
 }
 
 impl Children {

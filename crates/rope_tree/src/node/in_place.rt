@@ -181,6 +181,7 @@ impl Children {
         requires right { to_right ≡ true → at < length (joined self.now) }
         ensures made { editor.new.maker.made ≡ editor.old.maker.made }
         ensures searched { HasSearched 1 7 editor.old editor.new }
+        ensures searched_anew { follows ≡ false → HasSearched 1 5 editor.old editor.new }
         ensures child { result.place < length self.now }
         ensures place { at ≡ length (joined (take result.place self.now)) + result.inside }
         ensures goes { (child : Tree)

@@ -10,3 +10,11 @@ join_parts-requires-clause-fits c =
       c.height.ensures.tree.fits,
       left_le (text c.args.root.now) c.args.start c.args.end (omega (arith, c.requires.ordered)),
     )
+
+pub join_at_crlf-requires-clause-fits : goal.join_at_crlf-requires-clause-fits
+join_at_crlf-requires-clause-fits c =
+    omega (
+      arith,
+      c.height.ensures.tree.fits,
+      left_le (text c.args.root.now) c.args.start c.args.end (omega (arith, c.requires.ordered)),
+    )
